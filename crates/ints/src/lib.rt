@@ -1,0 +1,1 @@
+// Mathematics of the integers: definitions in specs/, laws in proofs/. No code.

@@ -1,0 +1,41 @@
+// The data of a linear program in two variables. Code, definitions and theory share these types; in definitions their fields are
+// integers of any size.
+
+// A rule of document 01: a·x + b·y is at most c.
+pub struct Constraint {
+    pub a: i64,
+    pub b: i64,
+    pub c: i64,
+}
+
+// A linear function p·x + q·y: the objective, and each half of a tie.
+pub struct Functional {
+    pub p: i64,
+    pub q: i64,
+}
+
+// The floors of document 01: x is at least lx, y at least ly.
+pub struct Floors {
+    pub lx: i64,
+    pub ly: i64,
+}
+
+// A pair of document 01: x/d and y/d, with d at least 1.
+pub struct Point {
+    pub x: i64,
+    pub y: i64,
+    pub d: i64,
+}
+
+// A direction of document 01.
+pub struct Ray {
+    pub dx: i64,
+    pub dy: i64,
+}
+
+// The three outcomes of document 01: impossible; unlimited, with the start pair and a direction; best.
+pub enum Outcome {
+    Infeasible,
+    Unbounded(Point, Ray),
+    Optimal(Point),
+}
