@@ -1,1 +1,4 @@
 -- The laws of this crate.
+pub mod Laws
+pub mod Ring
+pub mod Order

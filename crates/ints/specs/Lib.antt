@@ -1,1 +1,2 @@
--- The definitions of this crate.
+-- The definitions of this crate: the order's notation, and the greatest common divisor.
+pub mod Order
