@@ -2,3 +2,5 @@
 pub mod Laws
 pub mod Ring
 pub mod Order
+pub mod Combine
+pub mod Examples
