@@ -39,3 +39,14 @@ pub enum Outcome {
     Unbounded(Point, Ray),
     Optimal(Point),
 }
+
+// A witness of document 01: up to three entries of a system, by index (0 and 1 are the floors), each with its weight. An entry whose weight
+// is 0 is left out.
+pub struct Certificate {
+    pub first: usize,
+    pub first_weight: i64,
+    pub second: usize,
+    pub second_weight: i64,
+    pub third: usize,
+    pub third_weight: i64,
+}

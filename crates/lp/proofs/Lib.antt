@@ -1,0 +1,2 @@
+-- What the checker computes of the definitions.
+pub mod Examples

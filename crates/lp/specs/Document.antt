@@ -1,0 +1,75 @@
+-- Document 01's own values: its tie, its floors, the range of its numbers, and its class examples marked *, with the test that one theorem runs over them.
+use mathlib.Core.List.{List, [], _∷_, _++_}
+use mathlib.Core.Bool.{Bool, true, false, _&&_}
+use Prim.Native.Nat.{ℕ, zero, suc, _+_}
+use lib.Dec.{eqb}
+use lib.ListN.{take}
+use lib.IntN.{ℤ, pos, negsuc, negℤ, natAbs}
+use lib.Signed.{leZ}
+use Prim.Native.Nat.{_≤_}
+use Rattle.lp.specs.declared.Constraint.{Constraint}
+use Rattle.lp.specs.declared.Functional.{Functional}
+use Rattle.lp.specs.declared.Floors.{Floors}
+use Rattle.lp.specs.declared.Point.{Point}
+use Rattle.lp.specs.declared.Ray.{Ray}
+use Rattle.lp.specs.declared.Outcome.{Outcome}
+use Rattle.lp.specs.declared.Outcome.the-variants.{Infeasible, Unbounded, Optimal}
+use Rattle.lp.specs.Program.{constraint, functional, point, ray, system, Tie}
+use Rattle.lp.specs.Outcome.{outcome}
+use Rattle.lp.specs.Prefixes.{place, moves, opens}
+use Rattle.lp.specs.Certificate.{Weighted, certifies, isZero}
+
+-- least x, then least y
+abbrev pub leastXThenY : Tie
+leastXThenY = record { first = functional (negsuc 0) (pos 0); second = functional (pos 0) (negsuc 0) }
+
+abbrev pub zeroFloors : Floors
+zeroFloors = record { lx = pos 0; ly = pos 0 }
+
+-- a, b, p, q: −32,767 to 32,767. c: −1,000,000,000 to 1,000,000,000
+pub record Lawful (r : Constraint) : Type 0 where
+  pub a-range : natAbs (r .a) ≤ 32767
+  pub b-range : natAbs (r .b) ≤ 32767
+  pub c-range : natAbs (r .c) ≤ 1000000000
+
+-- ---- class examples: the rules and the objective, the answer, moves and open, and for an impossible one its place and a witness by index
+
+pub record Example : Type 0 where
+  pub rules : List Constraint
+  pub objective : Functional
+  pub answer : Outcome
+  pub moved : ℕ
+  pub opened : ℕ
+  pub placed : ℕ
+  pub witness : List Weighted
+
+abbrev same : ℤ → ℤ → Bool
+same y z = leZ y z && leZ z y
+
+abbrev samePoint : Point → Point → Bool
+samePoint v w = same (v .x) (w .x) && same (v .y) (w .y) && same (v .d) (w .d)
+
+abbrev sameOutcome : Outcome → Outcome → Bool
+sameOutcome Infeasible Infeasible = true
+sameOutcome Infeasible (Unbounded v d) = false
+sameOutcome Infeasible (Optimal v) = false
+sameOutcome (Unbounded v d) Infeasible = false
+sameOutcome (Unbounded v d) (Unbounded w e) = samePoint v w && same (d .dx) (e .dx) && same (d .dy) (e .dy)
+sameOutcome (Unbounded v d) (Optimal w) = false
+sameOutcome (Optimal v) Infeasible = false
+sameOutcome (Optimal v) (Unbounded w e) = false
+sameOutcome (Optimal v) (Optimal w) = samePoint v w
+
+-- a witness is judged by its property, over the floors and the first `placed` rules
+abbrev witnessed : Example → Outcome → Bool
+witnessed e Infeasible = certifies (system zeroFloors (take (e .placed) (e .rules))) (e .witness)
+witnessed e (Unbounded v d) = true
+witnessed e (Optimal v) = true
+
+abbrev pub holds : Example → Bool
+holds e =
+    sameOutcome (outcome leastXThenY zeroFloors (e .objective) (e .rules)) (e .answer)
+    && eqb (moves leastXThenY zeroFloors (e .objective) (e .rules)) (e .moved)
+    && eqb (opens leastXThenY zeroFloors (e .objective) (e .rules)) (e .opened)
+    && eqb (place leastXThenY zeroFloors (e .objective) (e .rules)) (e .placed)
+    && witnessed e (e .answer)

@@ -1,0 +1,42 @@
+-- The ten class examples marked * in document 01. In a witness 0 is floor x, 1 floor y, and 2 the first rule.
+use mathlib.Core.List.{List, [], _∷_}
+use Prim.Native.Nat.{ℕ}
+use lib.IntN.{ℤ, pos, negsuc, negℤ}
+use Rattle.lp.specs.declared.Constraint.{Constraint}
+use Rattle.lp.specs.declared.Outcome.{Outcome}
+use Rattle.lp.specs.declared.Outcome.the-variants.{Infeasible, Unbounded, Optimal}
+use Rattle.lp.specs.Program.{constraint, functional, point, ray}
+use Rattle.lp.specs.Certificate.{Weighted}
+use Rattle.lp.specs.Document.{Example}
+
+-- at most, and at least, which is turned round
+abbrev atMost : ℤ → ℤ → ℤ → Constraint
+atMost a b c = constraint a b c
+
+abbrev atLeast : ℤ → ℤ → ℤ → Constraint
+atLeast a b c = constraint (negℤ a) (negℤ b) (negℤ c)
+
+abbrev example : List Constraint → ℤ → ℤ → Outcome → ℕ → ℕ → Example
+example rules p q answer moved opened =
+    record { rules = rules; objective = functional p q; answer = answer; moved = moved; opened = opened; placed = 0; witness = [] }
+
+abbrev impossible : List Constraint → ℤ → ℤ → ℕ → List Weighted → ℕ → ℕ → Example
+impossible rules p q placed witness moved opened =
+    record { rules = rules; objective = functional p q; answer = Infeasible; moved = moved; opened = opened; placed = placed; witness = witness }
+
+abbrev once : ℕ → Weighted
+once e = record { entry = e; weight = pos 1 }
+
+abbrev pub classExamples : List Example
+classExamples =
+    example [] (pos 0) (pos 0) (Optimal (point (pos 0) (pos 0) (pos 1))) 0 0
+    ∷ example [] (pos 1) (pos 1) (Unbounded (point (pos 0) (pos 0) (pos 1)) (ray (pos 1) (pos 0))) 0 1
+    ∷ example (atMost (pos 1) (pos 2) (pos 8) ∷ atMost (pos 3) (pos 1) (pos 9) ∷ []) (pos 1) (pos 1) (Optimal (point (pos 2) (pos 3) (pos 1))) 1 1
+    ∷ example (atMost (pos 2) (pos 3) (pos 7) ∷ atMost (pos 3) (pos 2) (pos 7) ∷ []) (pos 1) (pos 1) (Optimal (point (pos 7) (pos 7) (pos 5))) 1 1
+    ∷ example (atMost (pos 2) (pos 1) (pos 4) ∷ []) (pos 2) (pos 1) (Optimal (point (pos 0) (pos 4) (pos 1))) 0 1
+    ∷ example (atMost (pos 1) (negsuc 0) (pos 2) ∷ []) (pos 1) (pos 0) (Unbounded (point (pos 0) (pos 0) (pos 1)) (ray (pos 1) (pos 1))) 0 2
+    ∷ impossible (atMost (pos 1) (pos 1) (pos 3) ∷ atLeast (pos 1) (pos 1) (pos 4) ∷ []) (pos 1) (pos 0) 2 (once 2 ∷ once 3 ∷ []) 1 1
+    ∷ impossible (atMost (pos 1) (pos 0) (negsuc 0) ∷ []) (pos 0) (pos 0) 1 (once 0 ∷ once 2 ∷ []) 1 0
+    ∷ impossible (atMost (pos 0) (pos 0) (negsuc 0) ∷ []) (pos 0) (pos 0) 1 (once 2 ∷ []) 1 0
+    ∷ impossible (atLeast (pos 1) (pos 1) (pos 4) ∷ atMost (pos 1) (pos 0) (pos 1) ∷ atMost (pos 0) (pos 1) (pos 1) ∷ []) (negsuc 0) (negsuc 0) 3 (once 2 ∷ once 3 ∷ once 4 ∷ []) 2 0
+    ∷ []
