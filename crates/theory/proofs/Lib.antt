@@ -1,0 +1,6 @@
+-- The mathematics of two-variable linear programs, from the ring solver at the bottom to the theorems of docs/PROMISES.md.
+pub mod Solver
+pub mod Direction
+pub mod Crossing
+pub mod Line
+pub mod Step
