@@ -42,6 +42,7 @@ module _ (h : Constraint) (v w : Point) (broken : slack h v <ᶻ pos 0) (kept : 
       along-x : slack h w *ℤ (between w v) .dx ≡ (between w (crossing h v w)) .dx
       along-x =
           equal (C ∷ P ∷ P ∷ []) (λ h v w. slackᵖ h w ⊗ (betweenᵖ w v) .dx ≐ (betweenᵖ w (crossingᵖ h v w)) .dx) refl h v w
+
       along-y : slack h w *ℤ (between w v) .dy ≡ (between w (crossing h v w)) .dy
       along-y =
           equal (C ∷ P ∷ P ∷ []) (λ h v w. slackᵖ h w ⊗ (betweenᵖ w v) .dy ≐ (betweenᵖ w (crossingᵖ h v w)) .dy) refl h v w

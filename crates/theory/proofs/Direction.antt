@@ -56,6 +56,7 @@ module _ (Up : Ray → Type 0) (O : Upward Up) where
       through-x : z .d *ℤ (between v w) .dx +ℤ v .d *ℤ (between w z) .dx ≡ w .d *ℤ (between v z) .dx
       through-x =
           equal (P ∷ P ∷ P ∷ []) (λ v w z. z .d ⊗ (betweenᵖ v w) .dx ⊕ v .d ⊗ (betweenᵖ w z) .dx ≐ w .d ⊗ (betweenᵖ v z) .dx) refl v w z
+
       through-y : z .d *ℤ (between v w) .dy +ℤ v .d *ℤ (between w z) .dy ≡ w .d *ℤ (between v z) .dy
       through-y =
           equal (P ∷ P ∷ P ∷ []) (λ v w z. z .d ⊗ (betweenᵖ v w) .dy ⊕ v .d ⊗ (betweenᵖ w z) .dy ≐ w .d ⊗ (betweenᵖ v z) .dy) refl v w z
@@ -66,6 +67,7 @@ module _ (Up : Ray → Type 0) (O : Upward Up) where
     where
       swap-x : (between w v) .dx ≡ negℤ ((between v w) .dx)
       swap-x = equal (P ∷ P ∷ []) (λ v w. (betweenᵖ w v) .dx ≐ ⊝ (betweenᵖ v w) .dx) refl v w
+
       swap-y : (between w v) .dy ≡ negℤ ((between v w) .dy)
       swap-y = equal (P ∷ P ∷ []) (λ v w. (betweenᵖ w v) .dy ≐ ⊝ (betweenᵖ v w) .dy) refl v w
 

@@ -4,3 +4,6 @@ pub mod Direction
 pub mod Crossing
 pub mod Line
 pub mod Step
+pub mod Lexicographic
+pub mod Lists
+pub mod Farkas

@@ -2,6 +2,7 @@
 -- met going along u, at `meet k l`, whose denominator is the rise of k along u.
 use mathlib.Core.Path.{_≡_, refl, sym, _∙_, ap, ap₂, subst}
 use mathlib.Core.List.{List, [], _∷_}
+use mathlib.Core.Bool.{Bool, true, false}
 use lib.IntN.{ℤ, pos, negℤ, _+ℤ_, _-ℤ_, _*ℤ_, +ℤ-idr, zero-*ℤ}
 use Rattle.ints.specs.Order.{_≤ᶻ_, _<ᶻ_}
 use Rattle.ints.proofs.Ring.{_⊕_, _⊖_, _⊗_, ⊝_, _≐_, con}
@@ -18,12 +19,13 @@ use Rattle.theory.proofs.Direction.{Upward, AtMost, ray-path, times}
 abbrev pub turned : Constraint → Constraint
 turned h = constraint (negℤ (h .a)) (negℤ (h .b)) (negℤ (h .c))
 
-abbrev turnedᵖ : Constraintᵖ → Constraintᵖ
+abbrev pub turnedᵖ : Constraintᵖ → Constraintᵖ
 turnedᵖ h = record { a = ⊝ h .a; b = ⊝ h .b; c = ⊝ h .c }
 
-pub data Line (h : Constraint) : Constraint → Type 0 where
-  straight : Line h h
-  round : Line h (turned h)
+-- h as it stands, or turned round
+abbrev pub facing : Bool → Constraint → Constraint
+facing true h = h
+facing false h = turned h
 
 -- the direction in which the line of l is walked
 abbrev pub direction : Constraint → Ray
@@ -32,13 +34,13 @@ direction l = ray (l .b) (negℤ (l .a))
 turned-slack : (h : Constraint) (z : Point) → slack (turned h) z ≡ negℤ (slack h z)
 turned-slack = equal (C ∷ P ∷ []) (λ h z. slackᵖ (turnedᵖ h) z ≐ ⊝ slackᵖ h z) refl
 
-pub on-line : (h l : Constraint) (z : Point) → Line h l → slack h z ≡ pos 0 → slack l z ≡ pos 0
-on-line h l z straight e = e
-on-line h l z round e = turned-slack h z ∙ ap negℤ e
+pub on-line : (side : Bool) (h : Constraint) (z : Point) → slack h z ≡ pos 0 → slack (facing side h) z ≡ pos 0
+on-line true h z e = e
+on-line false h z e = turned-slack h z ∙ ap negℤ e
 
-pub off-line : (h l : Constraint) (z : Point) → Line h l → slack l z ≡ pos 0 → slack h z ≡ pos 0
-off-line h l z straight e = e
-off-line h l z round e = equal (C ∷ P ∷ []) (λ h z. slackᵖ h z ≐ ⊝ slackᵖ (turnedᵖ h) z) refl h z ∙ ap negℤ e
+pub off-line : (side : Bool) (h : Constraint) (z : Point) → slack (facing side h) z ≡ pos 0 → slack h z ≡ pos 0
+off-line true h z e = e
+off-line false h z e = equal (C ∷ P ∷ []) (λ h z. slackᵖ h z ≐ ⊝ slackᵖ (turnedᵖ h) z) refl h z ∙ ap negℤ e
 
 -- ---- the meeting point
 
@@ -61,9 +63,11 @@ before-meeting Up O k l z up on kept =
   where
     drop : (t s : ℤ) → t +ℤ slack l z *ℤ s ≡ t
     drop t s = ap (λ y. t +ℤ y *ℤ s) on ∙ ap (λ y. t +ℤ y) (zero-*ℤ s) ∙ +ℤ-idr t
+
     along-x : (between z (meet k l)) .dx ≡ slack k z *ℤ l .b
     along-x =
         equal (C ∷ C ∷ P ∷ []) (λ k l z. (betweenᵖ z (meetᵖ k l)) .dx ≐ slackᵖ k z ⊗ l .b ⊕ slackᵖ l z ⊗ ⊝ k .b) refl k l z ∙ drop (slack k z *ℤ l .b) (negℤ (k .b))
+
     along-y : (between z (meet k l)) .dy ≡ slack k z *ℤ negℤ (l .a)
     along-y =
         equal (C ∷ C ∷ P ∷ []) (λ k l z. (betweenᵖ z (meetᵖ k l)) .dy ≐ slackᵖ k z ⊗ ⊝ l .a ⊕ slackᵖ l z ⊗ k .a) refl k l z ∙ drop (slack k z *ℤ negℤ (l .a)) (k .a)

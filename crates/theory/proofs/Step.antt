@@ -3,6 +3,7 @@
 use mathlib.Core.Path.{_≡_, refl, sym, _∙_, ap, subst}
 use mathlib.Core.List.{List, [], _∷_, List·Memᴰ}
 use mathlib.Core.Logic.{_⊎_, inl, inr}
+use mathlib.Core.Bool.{Bool}
 use lib.IntN.{ℤ, pos, negℤ, _+ℤ_, _-ℤ_, _*ℤ_}
 use lib.Signed.{clashℤ}
 use Rattle.ints.specs.Order.{_≤ᶻ_, _<ᶻ_}
@@ -14,7 +15,7 @@ use Rattle.lp.specs.Program.{slack, Keeps, Feasible, between}
 use Rattle.lp.specs.Outcome.{det, meet}
 use Rattle.theory.proofs.Direction.{Upward, AtMost, Greatest, at-most-trans}
 use Rattle.theory.proofs.Crossing.{crossing, crossing-proper, crossing-keeps, crossing-on, crossing-above}
-use Rattle.theory.proofs.Line.{Line, direction, on-line, off-line, meet-on-second, before-meeting, kept-at-meeting}
+use Rattle.theory.proofs.Line.{facing, direction, on-line, off-line, meet-on-second, before-meeting, kept-at-meeting}
 
 -- k is met first along the line of l, among the constraints of S that are met at all
 pub record Tight (S : List Constraint) (l k : Constraint) : Type 0 where
@@ -22,7 +23,10 @@ pub record Tight (S : List Constraint) (l k : Constraint) : Type 0 where
   pub crosses : pos 0 <ᶻ det k l
   pub tightest : (m : Constraint) → List·Memᴰ m S → pos 0 <ᶻ det m l → Keeps m (meet k l)
 
-module _ (Up : Ray → Type 0) (O : Upward Up) (S : List Constraint) (h : Constraint) (v : Point) (v-proper : pos 0 ≤ᶻ v .d) (v-keeps : (r : Constraint) → List·Memᴰ r S → Keeps r v) (v-greatest : Greatest Up S v) (v-breaks : slack h v <ᶻ pos 0) (l k : Constraint) (line : Line h l) (up : Up (direction l)) (tight : Tight S l k) where
+module _ (Up : Ray → Type 0) (O : Upward Up) (S : List Constraint) (h : Constraint) (v : Point) (v-proper : pos 0 ≤ᶻ v .d) (v-keeps : (r : Constraint) → List·Memᴰ r S → Keeps r v) (v-greatest : Greatest Up S v) (v-breaks : slack h v <ᶻ pos 0) (side : Bool) (k : Constraint) (up : Up (direction (facing side h))) (tight : Tight S (facing side h) k) where
+  abbrev l : Constraint
+  l = facing side h
+
   module _ (w : Point) (w-feasible : Feasible S w) (w-keeps : Keeps h w) where
     abbrev z : Point
     z = crossing h v w
@@ -31,7 +35,7 @@ module _ (Up : Ray → Type 0) (O : Upward Up) (S : List Constraint) (h : Constr
     z-proper = crossing-proper h v w v-breaks w-keeps v-proper (w-feasible .proper)
 
     z-on : slack l z ≡ pos 0
-    z-on = on-line h l z line (crossing-on h v w v-breaks w-keeps)
+    z-on = on-line side h z (crossing-on h v w v-breaks w-keeps)
 
     z-keeps : (r : Constraint) → List·Memᴰ r S → Keeps r z
     z-keeps r i = crossing-keeps h v w v-breaks w-keeps r (v-keeps r i) (w-feasible .kept r i)
@@ -53,4 +57,4 @@ module _ (Up : Ray → Type 0) (O : Upward Up) (S : List Constraint) (h : Constr
 
   -- the tightest point is on the line of h, so it keeps h
   pub step-on : Keeps h (meet k l)
-  step-on = nn-zero (off-line h l (meet k l) line (meet-on-second k l))
+  step-on = nn-zero (off-line side h (meet k l) (meet-on-second k l))
