@@ -2,3 +2,6 @@
 pub mod Laws
 pub mod Ring
 pub mod Order
+pub mod Divides
+pub mod Gcd
+pub mod Reduced
