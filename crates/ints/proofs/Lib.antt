@@ -5,3 +5,4 @@ pub mod Order
 pub mod Divides
 pub mod Gcd
 pub mod Reduced
+pub mod Machine
