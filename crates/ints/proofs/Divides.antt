@@ -39,13 +39,15 @@ pos-of-lt {n} h = ltZ-yes (lt→ltb 0 n h)
 
 -- ---- exact quotients
 
--- whatever g is
-pub natAbs-quot : (z : ℤ) (g : ℕ) → natAbs (quotZ z (pos g)) ≡ natAbs z / g
-natAbs-quot (pos a) g = refl
-natAbs-quot (negsuc a) g = natAbs-neg (suc a / g)
+pub natAbs-quot : (z d : ℤ) → natAbs (quotZ z d) ≡ natAbs z / natAbs d
+natAbs-quot (pos a) (pos b) = refl
+natAbs-quot (pos a) (negsuc b) = natAbs-neg (a / suc b)
+natAbs-quot (negsuc a) (pos b) = natAbs-neg (suc a / b)
+natAbs-quot (negsuc a) (negsuc b) = refl
 
-pub quot-no-larger : (z : ℤ) (g : ℕ) → natAbs (quotZ z (pos g)) ≤ natAbs z
-quot-no-larger z g = rw natAbs-quot (div-le-self (natAbs z) g)
+-- whatever the divisor is
+pub quot-no-larger : (z d : ℤ) → natAbs (quotZ z d) ≤ natAbs z
+quot-no-larger z d = rw natAbs-quot (div-le-self (natAbs z) (natAbs d))
 
 pub quot-nn : {z : ℤ} → pos 0 ≤ᶻ z → (g : ℕ) → pos 0 ≤ᶻ quotZ z (pos g)
 quot-nn h g = nn-elim (λ z. pos 0 ≤ᶻ quotZ z (pos g)) (λ n. nn-nat (n / g)) h

@@ -1,20 +1,19 @@
 -- Sizes: `Within n z` says that z's magnitude is at most n. Bounds of sums and products are computed from those of their parts, and a bound below
 -- 2 ^ 63 gives what the machine's i64 asks of a result, `SFits w64 z`. An operand of an i64 operation is a number read back from its bits,
--- `toZ w64 (ofZ w64 z)`, which is z where z fits. `search (needs, sizes)` answers such a need from Within facts of the parameters.
-use mathlib.Core.Path.{_≡_, refl, sym, _∙_, ap, subst}
+-- `toZ w64 (ofZ w64 z)`, which is z where z fits (the library's `toZ-ofZ`). `sizes` answers such needs from Within facts in what a function requires.
 use mathlib.Core.Bool.{Bool, true, false, cond}
 use Prim.Native.Nat.{ℕ, zero, suc, _+_, _*_, _-_, _/_, _^_, _≤_, _<_}
 use native.Mathlib.Nat.{mul-le-mul, le-trans, mul-div-le, div-mul-le-self}
 use native.Mathlib.Omega.{arith}
 use lib.Dec.{T, leb, ltb, leb→le, ltb→lt}
 use lib.IntN.{ℤ, pos, negsuc, natAbs, negℤ, subℕ, _+ℤ_, _-ℤ_, _*ℤ_}
-use lib.Signed.{quotZ, mag}
+use lib.Signed.{quotZ, mag, natAbs-le}
 use mir.Syntax.{w64}
 use mir.Val.{SFits, toZ, ofZ}
 use mir.Facts.{toZ-ofZ}
 use Rattle.ints.specs.Order.{_≤ᶻ_, _<ᶻ_}
 use Rattle.ints.specs.Within.{Within}
-use Rattle.ints.proofs.Order.{nn-elim}
+use Rattle.ints.proofs.Order.{nn-elim, pos-elim}
 use Rattle.ints.proofs.Divides.{natAbs-mul, natAbs-neg, quot-no-larger}
 
 -- ---- bounds of parts give bounds of the whole
@@ -45,8 +44,8 @@ within-sub h k = within-add h (within-neg k)
 pub within-mul : {m n : ℕ} {a b : ℤ} → Within m a → Within n b → Within (m * n) (a *ℤ b)
 within-mul {m} {n} {a} {b} h k = record { small = rw natAbs-mul (mul-le-mul (h .small) (k .small)) }
 
-pub within-quot : {n : ℕ} {a : ℤ} (g : ℕ) → Within n a → Within n (quotZ a (pos g))
-within-quot {n} {a} g h = record { small = le-trans (quot-no-larger a g) (h .small) }
+pub within-quot : {n : ℕ} {a : ℤ} (b : ℤ) → Within n a → Within n (quotZ a b)
+within-quot {n} {a} b h = record { small = le-trans (quot-no-larger a b) (h .small) }
 
 -- a larger bound: `weaken tt h` for two numerals
 pub weaken : {m n : ℕ} {z : ℤ} → T (leb m n) → Within m z → Within n z
@@ -73,9 +72,17 @@ within-fits {n} {z} h t = record { sfits = go z (h .small) (ltb→lt n (2 ^ 63) 
     go (pos k) h t = omega arith
     go (negsuc k) h t = omega arith
 
+-- whatever an i64 holds
+pub fits-within : {z : ℤ} → SFits w64 z → Within (2 ^ 63) z
+fits-within {z} f = record { small = natAbs-le z (f .sfits) }
+
 -- an operand is read back from its bits
 pub within-read : {n : ℕ} {z : ℤ} → Within n z → T (ltb n (2 ^ 63)) → Within n (toZ w64 (ofZ w64 z))
 within-read {n} {z} h t = rw (toZ-ofZ {w = w64} (within-fits h t)) h
+
+-- a positive divisor is not 0, in its bits too
+pub divisor-bits : {z : ℤ} → pos 0 <ᶻ z → 0 < ofZ w64 z
+divisor-bits h = pos-elim (λ z. 0 < ofZ w64 z) (λ n. omega arith) h
 
 -- ---- the same downwards, for `search`: from the room N that a goal leaves to the room of its parts, so that a goal shows every bound. A sum gives
 -- each part half of its room, a product gives one factor what the bound of the other leaves; at the ends stand facts.
@@ -85,9 +92,6 @@ room-fits h = within-fits h tt
 
 pub room-fact : {m n : ℕ} {z : ℤ} → Within m z → T (leb m n) → Within n z
 room-fact h t = weaken t h
-
-pub room-read : {n : ℕ} {z : ℤ} → T (ltb n (2 ^ 63)) → Within n z → Within n (toZ w64 (ofZ w64 z))
-room-read t h = within-read h t
 
 pub room-add : {n : ℕ} {a b : ℤ} → Within (n / 2) a → Within (n / 2) b → Within n (a +ℤ b)
 room-add {n} {a} {b} h k = record { small = omega (arith, within-add h k .small) }
@@ -101,4 +105,7 @@ room-mul-left {m} {n} {a} {b} h k = record { small = le-trans (within-mul h k .s
 pub room-mul-right : {m n : ℕ} {a b : ℤ} → Within m b → Within (n / m) a → Within n (a *ℤ b)
 room-mul-right {m} {n} {a} {b} h k = record { small = le-trans (within-mul k h .small) (div-mul-le-self n m) }
 
-pub ruleset sizes = (room-fits, room-fact, room-read, room-add, room-sub, room-mul-left, room-mul-right)
+-- `search sizes depth 8` answers the needs of up to two products and their sum or difference, and that the result is what is ensured. What is larger
+-- is quicker by hand: a record of the facts `SFits w64 (..)`, each by `within-fits (within-add ..) tt`, as `facts` of what the function requires, and
+-- `search (toZ-ofZ, facts (c .pre))`.
+pub ruleset sizes = (tt, toZ-ofZ, room-fits, room-fact, room-add, room-sub, room-mul-left, room-mul-right, within-quot, within-numeral, divisor-bits)
