@@ -1,8 +1,9 @@
 -- The greatest common divisor that specs/Gcd.antt computes: Euclid's two equations without fuel, the induction that they give, that gcd m n divides
 -- both numbers and is divided by every common divisor, and what follows from that alone. At the end the same for three integers.
 -- It rests on the library's divisibility of natural numbers, above all `dvd-mod-iff`.
-use mathlib.Core.Path.{_≡_, refl, sym, _∙_, ap, ap₂, subst}
-use Prim.Native.Nat.{ℕ, zero, suc, _+_, _*_, _/_, _%_, _≤_, _<_, _∣_}
+use mathlib.Core.Path.{_≡_, refl, sym, _∙_, ap₂, subst}
+use mathlib.Core.Logic.{_↔_}
+use Prim.Native.Nat.{ℕ, zero, suc, _*_, _/_, _%_, _≤_, _<_, _∣_}
 use native.Mathlib.Nat.{mod-lt, dvd-mod-iff, dvd-refl, dvd-zero, dvd-trans, dvd-antisymm, dvd-mul-right, dvd-of-mul-dvd-mul-left, mul-dvd-mul-left, pos-of-dvd-of-pos, eq-zero-of-zero-dvd, le-of-dvd, zero-mul, mul-div-cancel'}
 use native.Mathlib.Omega.{arith}
 use lib.IntN.{ℤ, pos, natAbs, _*ℤ_}
@@ -46,9 +47,9 @@ euclid P base step m n = go (suc n) m n (omega arith)
 
 -- ---- it divides both, and every common divisor divides it
 
-pub record Common (d m n : ℕ) : Type 0 where
-  pub left : d ∣ m
-  pub right : d ∣ n
+record Common (d m n : ℕ) : Type 0 where
+  left : d ∣ m
+  right : d ∣ n
 
 gcd-common : (m n : ℕ) → Common (gcd m n) m n
 gcd-common = euclid (λ m n. Common (gcd m n) m n) base step
@@ -112,6 +113,9 @@ gcd-nought-left m n e = eq-zero-of-zero-dvd (rw e at (gcd-left m n))
 
 pub gcd-nought-right : (m n : ℕ) → gcd m n ≡ 0 → n ≡ 0
 gcd-nought-right m n e = eq-zero-of-zero-dvd (rw e at (gcd-right m n))
+
+pub gcd-nought : (m n : ℕ) → (gcd m n ≡ 0) ↔ ((m ≡ 0) × (n ≡ 0))
+gcd-nought m n = (λ e. (gcd-nought-left m n e, gcd-nought-right m n e), λ e. ap₂ gcd (e .0) (e .1) ∙ gcd-zero 0)
 
 pub gcd-pos-left : (m n : ℕ) → 0 < m → 0 < gcd m n
 gcd-pos-left m n h = pos-of-dvd-of-pos (gcd-left m n) h

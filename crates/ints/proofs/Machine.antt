@@ -2,7 +2,7 @@
 -- 2 ^ 63 gives what the machine's i64 asks of a result, `SFits w64 z`. An operand of an i64 operation is a number read back from its bits,
 -- `toZ w64 (ofZ w64 z)`, which is z where z fits (the library's `toZ-ofZ`). `sizes` answers such needs from Within facts in what a function requires.
 use mathlib.Core.Bool.{Bool, true, false, cond}
-use Prim.Native.Nat.{ℕ, zero, suc, _+_, _*_, _-_, _/_, _^_, _≤_, _<_}
+use Prim.Native.Nat.{ℕ, suc, _+_, _*_, _-_, _/_, _^_, _≤_, _<_}
 use native.Mathlib.Nat.{mul-le-mul, le-trans, mul-div-le, div-mul-le-self}
 use native.Mathlib.Omega.{arith}
 use lib.Dec.{T, leb, ltb, leb→le, ltb→lt}
