@@ -1,6 +1,10 @@
--- The laws of this crate.
+-- The laws of this crate, from the ring laws up.
 pub mod Laws
 pub mod Ring
 pub mod Order
 pub mod Combine
+pub mod Divides
+pub mod Gcd
+pub mod Reduced
+pub mod Machine
 pub mod Examples
