@@ -10,11 +10,12 @@ use Prim.Native.Nat.{_≤_}
 use Rattle.lp.specs.declared.Constraint.{Constraint}
 use Rattle.lp.specs.declared.Functional.{Functional}
 use Rattle.lp.specs.declared.Floors.{Floors}
+use Rattle.lp.specs.declared.Tie.{Tie}
 use Rattle.lp.specs.declared.Point.{Point}
 use Rattle.lp.specs.declared.Ray.{Ray}
 use Rattle.lp.specs.declared.Outcome.{Outcome}
 use Rattle.lp.specs.declared.Outcome.the-variants.{Infeasible, Unbounded, Optimal}
-use Rattle.lp.specs.Program.{constraint, functional, point, ray, system, Tie}
+use Rattle.lp.specs.Program.{constraint, functional, point, ray, system}
 use Rattle.lp.specs.Outcome.{outcome}
 use Rattle.lp.specs.Prefixes.{place, moves, opens}
 use Rattle.lp.specs.Certificate.{Weighted, certifies, isZero}

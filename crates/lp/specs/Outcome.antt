@@ -9,11 +9,12 @@ use lib.IntN.{natAbs}
 use Rattle.lp.specs.declared.Constraint.{Constraint}
 use Rattle.lp.specs.declared.Functional.{Functional}
 use Rattle.lp.specs.declared.Floors.{Floors}
+use Rattle.lp.specs.declared.Tie.{Tie}
 use Rattle.lp.specs.declared.Point.{Point}
 use Rattle.lp.specs.declared.Ray.{Ray}
 use Rattle.lp.specs.declared.Outcome.{Outcome}
 use Rattle.lp.specs.declared.Outcome.the-variants.{Infeasible, Unbounded, Optimal}
-use Rattle.lp.specs.Program.{constraint, point, ray, slack, along, rise, between, system, Tie}
+use Rattle.lp.specs.Program.{constraint, point, ray, slack, along, rise, between, system}
 
 -- ---- lists
 

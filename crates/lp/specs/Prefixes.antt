@@ -7,9 +7,9 @@ use lib.ListN.{length}
 use Rattle.lp.specs.declared.Constraint.{Constraint}
 use Rattle.lp.specs.declared.Functional.{Functional}
 use Rattle.lp.specs.declared.Floors.{Floors}
+use Rattle.lp.specs.declared.Tie.{Tie}
 use Rattle.lp.specs.declared.Outcome.{Outcome}
 use Rattle.lp.specs.declared.Outcome.the-variants.{Infeasible, Unbounded, Optimal}
-use Rattle.lp.specs.Program.{Tie}
 use Rattle.lp.specs.Outcome.{outcome, keeps}
 
 abbrev pub one-if : Bool → ℕ

@@ -59,8 +59,3 @@ rise r d = r .a *ℤ d .dx +ℤ r .b *ℤ d .dy
 -- the direction from v to w, times both denominators
 abbrev pub between : Point → Point → Ray
 between v w = ray (w .x *ℤ v .d -ℤ v .x *ℤ w .d) (w .y *ℤ v .d -ℤ v .y *ℤ w .d)
-
--- two functionals by which ties are broken, in turn; the greater value is preferred
-pub record Tie : Type 0 where
-  pub first : Functional
-  pub second : Functional

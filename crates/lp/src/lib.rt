@@ -14,6 +14,12 @@ pub struct Functional {
     pub q: i64,
 }
 
+// Two functionals by which ties are broken, in turn; the greater value is preferred.
+pub struct Tie {
+    pub first: Functional,
+    pub second: Functional,
+}
+
 // The floors of document 01: x is at least lx, y at least ly.
 pub struct Floors {
     pub lx: i64,

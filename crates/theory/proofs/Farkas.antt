@@ -17,9 +17,11 @@ use Rattle.lp.specs.Program.{constraint, slack, Keeps, Feasible}
 use Rattle.lp.specs.Textbook.{Infeasible}
 use Rattle.lp.specs.Outcome.{det, meet, every}
 use Rattle.lp.specs.Certificate.{Weighted, total, distinct, greatestWeight, isZero, certifies}
+use Rattle.model.specs.Scan.{turned, facing}
+use Rattle.model.specs.Step.{lineWeight}
 use Rattle.theory.proofs.Solver.{equal, nn-by, pos-by, clash-by, C, P, Z, slackᵖ, detᵖ, meetᵖ}
 use Rattle.theory.proofs.Lists.{and-left, and-right, every-at, for-members, getD-member}
-use Rattle.theory.proofs.Line.{facing, turned, turnedᵖ}
+use Rattle.theory.proofs.Line.{turnedᵖ}
 
 -- ---- a valid certificate excludes every point
 
@@ -74,11 +76,6 @@ is-zero : (z : ℤ) → T (isZero z) → z ≡ pos 0
 is-zero z t = antisymmetric (leZ-yes (and-left (leZ z (pos 0)) (leZ (pos 0) z) t)) (leZ-yes (and-right (leZ z (pos 0)) (leZ (pos 0) z) t))
 
 -- ---- three weights
-
--- of h, whose line is walked as it stands or turned round
-abbrev pub lineWeight : Bool → Constraint → Constraint → ℤ
-lineWeight true k m = det m k
-lineWeight false k m = det k m
 
 module _ (h k m : Constraint) (v : Point) (proper : pos 0 <ᶻ v .d) (breaks : slack h v <ᶻ pos 0) (keeps-k : Keeps k v) (keeps-m : Keeps m v) where
   -- what v says of the sum of slacks: all but h's part is positive

@@ -12,24 +12,12 @@ use Rattle.lp.specs.declared.Point.{Point}
 use Rattle.lp.specs.declared.Ray.{Ray}
 use Rattle.lp.specs.Program.{constraint, ray, slack, Keeps, between, rise}
 use Rattle.lp.specs.Outcome.{det, meet}
+use Rattle.model.specs.Scan.{turned, facing, direction}
 use Rattle.theory.proofs.Solver.{equal, nn-by, C, P, Constraintᵖ, Pointᵖ, slackᵖ, detᵖ, meetᵖ, betweenᵖ, riseᵖ}
 use Rattle.theory.proofs.Direction.{Upward, AtMost, ray-path, times}
 
--- the same line, with the other side allowed
-abbrev pub turned : Constraint → Constraint
-turned h = constraint (negℤ (h .a)) (negℤ (h .b)) (negℤ (h .c))
-
 abbrev pub turnedᵖ : Constraintᵖ → Constraintᵖ
 turnedᵖ h = record { a = ⊝ h .a; b = ⊝ h .b; c = ⊝ h .c }
-
--- h as it stands, or turned round
-abbrev pub facing : Bool → Constraint → Constraint
-facing true h = h
-facing false h = turned h
-
--- the direction in which the line of l is walked
-abbrev pub direction : Constraint → Ray
-direction l = ray (l .b) (negℤ (l .a))
 
 turned-slack : (h : Constraint) (z : Point) → slack (turned h) z ≡ negℤ (slack h z)
 turned-slack = equal (C ∷ P ∷ []) (λ h z. slackᵖ (turnedᵖ h) z ≐ ⊝ slackᵖ h z) refl

@@ -13,9 +13,10 @@ use Rattle.lp.specs.declared.Point.{Point}
 use Rattle.lp.specs.declared.Ray.{Ray}
 use Rattle.lp.specs.Program.{slack, Keeps, Feasible, between}
 use Rattle.lp.specs.Outcome.{det, meet}
+use Rattle.model.specs.Scan.{facing, direction}
 use Rattle.theory.proofs.Direction.{Upward, AtMost, Greatest, at-most-trans}
 use Rattle.theory.proofs.Crossing.{crossing, crossing-proper, crossing-keeps, crossing-on, crossing-above}
-use Rattle.theory.proofs.Line.{facing, direction, on-line, off-line, meet-on-second, before-meeting, kept-at-meeting}
+use Rattle.theory.proofs.Line.{on-line, off-line, meet-on-second, before-meeting, kept-at-meeting}
 
 -- k is met first along the line of l, among the constraints of S that are met at all
 pub record Tight (S : List Constraint) (l k : Constraint) : Type 0 where
