@@ -5,9 +5,10 @@ use mathlib.Core.Logic.{_⊎_, inl, inr}
 use Prim.Native.Nat.{ℕ, zero, suc, _+_, _*_, _-_, _≤_, _<_}
 use native.Mathlib.Nat.{mul-pos}
 use native.Mathlib.Omega.{arith}
-use lib.Dec.{leb→le, le→leb, ltb→lt, lt→ltb}
+use mathlib.Core.Bool.{not}
+use lib.Dec.{T, T-not, leb→le, le→leb, ltb→lt, lt→ltb}
 use lib.IntN.{ℤ, pos, negsuc, sucℤ, negℤ, _+ℤ_, _-ℤ_, _*ℤ_, +ℤ-idl, +ℤ-idr, +ℤ-comm, +ℤ-sucℤ, +ℤ-one, +ℤ-invr, *ℤ-zero}
-use lib.Signed.{leZ-yes, ltZ-yes, ≤ℤ-refl, <ℤ-≤ℤ-trans, clashℤ}
+use lib.Signed.{leZ, leZ-yes, ltZ-yes, ≤ℤ-refl, <ℤ-≤ℤ-trans, clashℤ}
 use Rattle.ints.specs.Order.{_≤ᶻ_, _<ᶻ_}
 use Rattle.ints.proofs.Laws.{mul-neg}
 use Rattle.ints.proofs.Ring.{ring, _⊕_, _⊖_, _⊗_, ⊝_, _≐_, con}
@@ -183,6 +184,14 @@ le-or-lt a b = go (sign (b -ℤ a))
     go (minus h) = inr (pos-sub (subst (λ z. pos 0 <ᶻ z) (ring 2 (λ x y. con (pos 0) ⊖ (y ⊖ x) ≐ x ⊖ y) refl a b) (sub-pos h)))
     go (nought e) = inl (nn-sub (nn-zero e))
     go (plus h) = inl (nn-sub (pos-nn h))
+
+-- what a failed test leaves
+pub leZ-no : {a b : ℤ} → T (not (leZ a b)) → b <ᶻ a
+leZ-no {a} {b} t = go (le-or-lt a b)
+  where
+    go : (a ≤ᶻ b) ⊎ (b <ᶻ a) → b <ᶻ a
+    go (inl h) = absurd (T-not (leZ a b) t (h .le))
+    go (inr h) = h
 
 -- ---- a factor of known sign
 

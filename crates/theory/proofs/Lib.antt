@@ -1,9 +1,11 @@
 -- The mathematics of two-variable linear programs, from the ring solver at the bottom to the theorems of docs/PROMISES.md.
 pub mod Solver
+pub mod Lists
+pub mod Extension
 pub mod Direction
+pub mod Lexicographic
 pub mod Crossing
 pub mod Line
 pub mod Step
-pub mod Lexicographic
-pub mod Lists
 pub mod Farkas
+pub mod Cone
