@@ -9,3 +9,4 @@ pub mod Line
 pub mod Step
 pub mod Farkas
 pub mod Cone
+pub mod Tightest
