@@ -25,8 +25,7 @@ weighted e (negsuc n) = record { entry = e; weight = negsuc n } ∷ []
 abbrev pub named : Certificate → List Weighted
 named k =
     weighted (k .first) (k .«first_weight»)
-    ++ weighted (k .second) (k .«second_weight»)
-    ++ weighted (k .third) (k .«third_weight»)
+    ++ (weighted (k .second) (k .«second_weight») ++ weighted (k .third) (k .«third_weight»))
 
 -- the sum over the entries of weight times a, b or c
 abbrev pub total : (Constraint → ℤ) → List Constraint → List Weighted → ℤ

@@ -10,3 +10,5 @@ pub mod Step
 pub mod Farkas
 pub mod Cone
 pub mod Tightest
+pub mod Reduction
+pub mod Vertex
