@@ -12,3 +12,4 @@ pub mod Cone
 pub mod Tightest
 pub mod Reduction
 pub mod Vertex
+pub mod Ties
