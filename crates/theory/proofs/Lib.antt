@@ -13,3 +13,4 @@ pub mod Tightest
 pub mod Reduction
 pub mod Vertex
 pub mod Ties
+pub mod Peak
