@@ -5,9 +5,9 @@ use mathlib.Core.Bool.{Bool, true, false, cond}
 use Prim.Native.Nat.{ℕ, suc, _+_, _*_, _-_, _/_, _^_, _≤_, _<_}
 use native.Mathlib.Nat.{mul-le-mul, le-trans, mul-div-le, div-mul-le-self}
 use native.Mathlib.Omega.{arith}
-use lib.Dec.{T, leb, ltb, leb→le, ltb→lt}
+use lib.Dec.{T, leb, ltb, leb→le, le→leb, ltb→lt}
 use lib.IntN.{ℤ, pos, negsuc, natAbs, negℤ, subℕ, _+ℤ_, _-ℤ_, _*ℤ_}
-use lib.Signed.{quotZ, mag, natAbs-le}
+use lib.Signed.{quotZ, mag, natAbs-le, leZ-yes}
 use mir.Syntax.{w64}
 use mir.Val.{SFits, toZ, ofZ}
 use mir.Facts.{toZ-ofZ}
@@ -109,3 +109,12 @@ room-mul-right {m} {n} {a} {b} h k = record { small = le-trans (within-mul k h .
 -- is quicker by hand: a record of the facts `SFits w64 (..)`, each by `within-fits (within-add ..) tt`, as `facts` of what the function requires, and
 -- `search (toZ-ofZ, facts (c .pre))`.
 pub ruleset sizes = (tt, toZ-ofZ, room-fits, room-fact, room-add, room-sub, room-mul-left, room-mul-right, within-quot, within-numeral, divisor-bits)
+
+-- ---- a bound on a magnitude is one on the number
+
+pub within-le : {n : ℕ} {z : ℤ} → Within n z → z ≤ᶻ pos n
+within-le {n} {z = pos k} h = leZ-yes (le→leb k n (h .small))
+within-le {n} {z = negsuc k} h = leZ-yes tt
+
+pub one-le : (n : ℕ) → pos 1 ≤ᶻ pos (suc n)
+one-le n = leZ-yes (le→leb 1 (suc n) (omega arith))

@@ -14,3 +14,4 @@ pub mod Reduction
 pub mod Vertex
 pub mod Ties
 pub mod Peak
+pub mod Conflict

@@ -154,3 +154,18 @@ module _ {A : Type 0} where
   getD-member [] i z h = absurd (not-suc-le-zero h)
   getD-member (y ∷ l) zero z h = List·Memᴰ·head refl
   getD-member (y ∷ l) (suc i) z h = List·Memᴰ·tail (getD-member l i z (le-of-suc-le-suc h))
+
+  pub at-append : (l r : List A) (i : ℕ) (x : A) → At l i x → At (l ++ r) i x
+  at-append [] r i x h = absurd h
+  at-append (y ∷ l) r zero x h = h
+  at-append (y ∷ l) r (suc i) x h = at-append l r i x h
+
+  pub at-new : (l : List A) (x : A) → At (l ++ (x ∷ [])) (length l) x
+  at-new [] x = refl
+  at-new (y ∷ l) x = at-new l x
+
+  -- an index has one entry
+  pub at-unique : (l : List A) (i : ℕ) (x y : A) → At l i x → At l i y → x ≡ y
+  at-unique [] i x y h k = absurd h
+  at-unique (z ∷ l) zero x y h k = h ∙ sym k
+  at-unique (z ∷ l) (suc i) x y h k = at-unique l i x y h k
