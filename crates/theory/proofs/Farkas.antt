@@ -72,7 +72,7 @@ refutation-excludes S l r v h =
     (nn-zero (ap (λ z. z *ℤ v .y) (r .cancels-b) ∙ lib.IntN.zero-*ℤ (v .y))))
     (pos-mul (neg-pos (r .falls)) (h .proper)))
 
-is-zero : (z : ℤ) → T (isZero z) → z ≡ pos 0
+pub is-zero : (z : ℤ) → T (isZero z) → z ≡ pos 0
 is-zero z t = antisymmetric (leZ-yes (and-left (leZ z (pos 0)) (leZ (pos 0) z) t)) (leZ-yes (and-right (leZ z (pos 0)) (leZ (pos 0) z) t))
 
 -- ---- three weights

@@ -15,3 +15,4 @@ pub mod Vertex
 pub mod Ties
 pub mod Peak
 pub mod Conflict
+pub mod Restart

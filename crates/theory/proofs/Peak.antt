@@ -50,7 +50,7 @@ module _ (S S′ : List Constraint) (h : Constraint) (ext : Extends S h S′) wh
       }
 
   -- a point of the old system on the line of h that is above all, in lowest terms
-  lowest-peak : (Upwards : Ray → Type 0) → Upward Upwards → (side : Bool) (k : Constraint) → List·Memᴰ k S → pos 0 <ᶻ det k (facing side h) → ((m : Constraint) → List·Memᴰ m S → Keeps m (meet k (facing side h))) → Keeps h (meet k (facing side h)) → Greatest Upwards S′ (meet k (facing side h)) → Peak Upwards S′ (reduce (meet k (facing side h)))
+  pub lowest-peak : (Upwards : Ray → Type 0) → Upward Upwards → (side : Bool) (k : Constraint) → List·Memᴰ k S → pos 0 <ᶻ det k (facing side h) → ((m : Constraint) → List·Memᴰ m S → Keeps m (meet k (facing side h))) → Keeps h (meet k (facing side h)) → Greatest Upwards S′ (meet k (facing side h)) → Peak Upwards S′ (reduce (meet k (facing side h)))
   lowest-peak Upwards O side k i c kept on g =
       record {
         feasible = record { proper = reduced-proper p c; kept = for-extended S S′ h ext (λ r. Keeps r (reduce p)) (λ r j. lower r (kept r j)) (lower h on) };
