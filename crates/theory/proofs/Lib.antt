@@ -16,3 +16,4 @@ pub mod Ties
 pub mod Peak
 pub mod Conflict
 pub mod Restart
+pub mod Enumeration
