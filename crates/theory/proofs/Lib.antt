@@ -17,3 +17,4 @@ pub mod Peak
 pub mod Conflict
 pub mod Restart
 pub mod Enumeration
+pub mod Standing
