@@ -205,7 +205,7 @@ module _ (S : List Constraint) (h : Constraint) where
           sound = entries-sound S′ (length S) j i weight (det (facing side h) m) (det k (facing side h)) weight-positive away crosses (at-below S′ (length S) h new-entry) (at-below S′ j k (at-append S (h ∷ []) j k at-k)) (at-below S′ i m (at-append S (h ∷ []) i m at-m));
           cancels-a = sum-of (λ r. r .a) ∙ weights-cancel-a side h k m;
           cancels-b = sum-of (λ r. r .b) ∙ weights-cancel-b side h k m;
-          falls = subst (λ z. z <ᶻ pos 0) (sym (sum-of (λ r. r .c) ∙ weights-sum-c side h k m)) broken
+          falls = subst (λ z. z <ᶻ pos 0) (sym (sum-of (λ r. r .c) ∙ weights-sum-c side h k m)) broken;
         }
 
     pub conflict-certified : Certified S′ (conflict side (length S) h j k i m)
@@ -221,12 +221,16 @@ module _ (S : List Constraint) (h : Constraint) where
           where
             l : Constraint
             l = facing side h
+
             normal-at : (e : ℕ) (r : Constraint) → At S′ e r → SmallNormal r
             normal-at e r a = lawful-normal r (lawful r (at-member S′ e r a))
+
             nk : SmallNormal k
             nk = normal-at j k (at-append S (h ∷ []) j k at-k)
+
             nm : SmallNormal m
             nm = normal-at i m (at-append S (h ∷ []) i m at-m)
+
             nl : SmallNormal l
             nl = facing-normal side h (normal-at (length S) h new-entry)
 
@@ -242,12 +246,12 @@ module _ (S : List Constraint) (h : Constraint) where
           sound = weighted-sound S′ (length S) (at-below S′ (length S) h new-entry) (nn-nat 1);
           cancels-a = alone-sum (λ r. r .a) ∙ no-a;
           cancels-b = alone-sum (λ r. r .b) ∙ no-b;
-          falls = subst (λ z. z <ᶻ pos 0) (sym (alone-sum (λ r. r .c))) negative
+          falls = subst (λ z. z <ᶻ pos 0) (sym (alone-sum (λ r. r .c))) negative;
         }
 
     pub alone-certified : Certified S′ (alone (length S))
     alone-certified =
         record {
           refutes = alone-refuted;
-          valid = λ lawful. certifies-of S′ (named (alone (length S))) alone-refuted tt tt tt (for-members (λ w. T (leZ (pos 1) (w .weight) && leZ (w .weight) greatestWeight)) (record { entry = length S; weight = pos 1 }) [] tt (λ w i. absurd (List·Memᴰ·not-nil i)))
+          valid = λ lawful. certifies-of S′ (named (alone (length S))) alone-refuted tt tt tt (for-members (λ w. T (leZ (pos 1) (w .weight) && leZ (w .weight) greatestWeight)) (record { entry = length S; weight = pos 1 }) [] tt (λ w i. absurd (List·Memᴰ·not-nil i)));
         }

@@ -62,7 +62,7 @@ module _ (S : List Constraint) where
         up-null fs (between v v)
         (record {
           no-dx = equal (P ∷ []) (λ v. (betweenᵖ v v) .dx ≐ con (pos 0)) refl v;
-          no-dy = equal (P ∷ []) (λ v. (betweenᵖ v v) .dy ≐ con (pos 0)) refl v
+          no-dy = equal (P ∷ []) (λ v. (betweenᵖ v v) .dy ≐ con (pos 0)) refl v;
         })
 
     not-better-at-most : (v w : Point) → T (not (better fs w v)) → AtMost (Up fs) w v
@@ -76,14 +76,18 @@ module _ (S : List Constraint) where
       where
         q : Point
         q = pick (better fs) v vs
+
         choice : Picked (better fs) (λ x. pos 0 <ᶻ x .d) (AtMost (Up fs)) (λ x h. at-most-self x) (λ x y z hx hy hz. at-most-trans (Up fs) O x y z (pos-nn hx) hy (pos-nn hz)) (λ x y hx hy t. above-up fs (between x y) t) (λ x y hx hy t. not-better-at-most x y t) v vs q
         choice =
             picked (better fs) (λ x. pos 0 <ᶻ x .d) (AtMost (Up fs)) (λ x h. at-most-self x) (λ x y z hx hy hz. at-most-trans (Up fs) O x y z (pos-nn hx) hy (pos-nn hz)) (λ x y hx hy t. above-up fs (between x y) t) (λ x y hx hy t. not-better-at-most x y t) v vs
             (λ x i. vertex-proper S x (vertex-of x (subst (λ l. List·Memᴰ x l) (sym e) i)))
+
         q-listed : List·Memᴰ q allowedVertices
         q-listed = subst (λ l. List·Memᴰ q l) (sym e) (choice .member)
+
         q-vertex : Vertex S q
         q-vertex = vertex-of q q-listed
+
         p-listed : List·Memᴰ p (v ∷ vs)
         p-listed = subst (λ l. List·Memᴰ p l) e (feasible-listed p (peak .vertex) (peak .feasible))
 
@@ -164,22 +168,28 @@ module _ (S : List Constraint) (f : Functional) where
       where
         q : Ray
         q = pick flatter e es
+
         forward : (y : Ray) → List·Memᴰ y lawfulRays → Forward y
         forward y i =
             forward-of y (lawful-recedes y (keep-test (lawful S f) (candidates S) y i)) (lawful-gains y (keep-test (lawful S f) (candidates S) y i))
+
         choice : Picked flatter Forward Steeper steeper-self steeper-trans (λ x y hx hy t. pos-nn (ltZ-yes t)) (λ x y hx hy t. not-flatter x y t) e es q
         choice =
             picked flatter Forward Steeper steeper-self steeper-trans (λ x y hx hy t. pos-nn (ltZ-yes t)) (λ x y hx hy t. not-flatter x y t) e es
             (λ y i. forward y (subst (λ l. List·Memᴰ y l) (sym eq) i))
+
         q-listed : List·Memᴰ q lawfulRays
         q-listed = subst (λ l. List·Memᴰ q l) (sym eq) (choice .member)
+
         level : cross d q ≡ pos 0
         level =
             antisymmetric
             (nn-neg (nn-by (R ∷ R ∷ []) (λ d q. ⊝ crossᵖ d q ≐ crossᵖ q d) refl d q (choice .first d (subst (λ l. List·Memᴰ d l) eq (flattest-listed d x)))))
             (x .flattest q (lawful-recedes q (keep-test (lawful S f) (candidates S) q q-listed)) (listed-candidate S q (keep-member (lawful S f) (candidates S) q q-listed)) (lawful-gains q (keep-test (lawful S f) (candidates S) q q-listed)))
+
         not-null : (y : Ray) → Forward y → y .dx ≡ pos 0 → y .dy ≡ pos 0 → ⊥
         not-null y h a b = clashℤ (h .size) (le-of-eq (ap₂ (λ s t. s +ℤ t) a b))
+
         same : SamePair (quotZ (q .dx) (pos (gcd2 (q .dx) (q .dy)))) (quotZ (q .dy) (pos (gcd2 (q .dx) (q .dy)))) (quotZ (d .dx) (pos (gcd2 (d .dx) (d .dy)))) (quotZ (d .dy) (pos (gcd2 (d .dx) (d .dy))))
         same =
             reduce2-same (q .dx) (q .dy) (d .dx) (d .dy) (forward q q-listed .nn-dx) (forward q q-listed .nn-dy) (x .forward .nn-dx) (x .forward .nn-dy)

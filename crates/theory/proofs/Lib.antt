@@ -18,3 +18,5 @@ pub mod Conflict
 pub mod Restart
 pub mod Enumeration
 pub mod Standing
+pub mod Begin
+pub mod Walk

@@ -46,7 +46,7 @@ module _ (S S′ : List Constraint) (h : Constraint) (ext : Extends S h S′) wh
       record {
         feasible = feasible-grows S S′ h ext v (p .feasible) k;
         greatest = λ w f. p .greatest w (feasible-shrinks S S′ h ext w f);
-        vertex = vertex-grows S S′ (ext .old) v (p .vertex)
+        vertex = vertex-grows S S′ (ext .old) v (p .vertex);
       }
 
   -- a point of the old system on the line of h that is above all, in lowest terms
@@ -55,11 +55,12 @@ module _ (S S′ : List Constraint) (h : Constraint) (ext : Extends S h S′) wh
       record {
         feasible = record { proper = reduced-proper p c; kept = for-extended S S′ h ext (λ r. Keeps r (reduce p)) (λ r j. lower r (kept r j)) (lower h on) };
         greatest = λ w f. at-most-lowest _ (reduce p) p (reduced-multiple p c) Upwards O w (g w f);
-        vertex = meeting-vertex S′ side h k (ext .new) (ext .old k i) c
+        vertex = meeting-vertex S′ side h k (ext .new) (ext .old k i) c;
       }
     where
       p : Point
       p = meet k (facing side h)
+
       lower : (r : Constraint) → Keeps r p → Keeps r (reduce p)
       lower r q = keeps-lowest _ (reduce p) p (reduced-multiple p c) r q
 
@@ -84,9 +85,11 @@ module _ (S S′ : List Constraint) (h : Constraint) (ext : Extends S h S′) wh
       where
         along-l : (m : Constraint) → det m l ≤ᶻ pos 0 → rise m (direction l) ≤ᶻ pos 0
         along-l m z = subst (λ y. y ≤ᶻ pos 0) (equal (C ∷ C ∷ []) (λ m l. detᵖ m l ≐ m .a ⊗ l .b ⊕ m .b ⊗ ⊝ l .a) refl m l) z
+
         level : (b : Bool) → rise h (direction (facing b h)) ≤ᶻ pos 0
         level true = le-of-eq (equal (C ∷ []) (λ h. h .a ⊗ h .b ⊕ h .b ⊗ ⊝ h .a ≐ con (pos 0)) refl h)
         level false = le-of-eq (equal (C ∷ []) (λ h. h .a ⊗ ⊝ h .b ⊕ h .b ⊗ ⊝ (⊝ h .a) ≐ con (pos 0)) refl h)
+
         back : (b : Bool) → Null (direction (facing b h)) → Null (direction h)
         back true n = n
         back false n =

@@ -48,6 +48,7 @@ module _ (k : ℤ) (w v : Point) (m : Multiple k w v) where
       on-dx : k *ℤ (between z w) .dx ≡ (between z v) .dx
       on-dx =
           equal (Z ∷ P ∷ P ∷ []) (λ k z w. k ⊗ (betweenᵖ z w) .dx ≐ k ⊗ w .x ⊗ z .d ⊖ z .x ⊗ (k ⊗ w .d)) refl k z w ∙ ap (λ u. (between z u) .dx) whole
+
       on-dy : k *ℤ (between z w) .dy ≡ (between z v) .dy
       on-dy =
           equal (Z ∷ P ∷ P ∷ []) (λ k z w. k ⊗ (betweenᵖ z w) .dy ≐ k ⊗ w .y ⊗ z .d ⊖ z .y ⊗ (k ⊗ w .d)) refl k z w ∙ ap (λ u. (between z u) .dy) whole
@@ -59,7 +60,7 @@ module _ (v : Point) (h : pos 0 <ᶻ v .d) where
         positive = pos-of-lt (gcd3-pos (v .x) (v .y) (v .d) h);
         on-x = reduce-first (v .x) (v .y) (v .d);
         on-y = reduce-second (v .x) (v .y) (v .d);
-        on-d = reduce-third (v .x) (v .y) (v .d)
+        on-d = reduce-third (v .x) (v .y) (v .d);
       }
 
   pub reduced-proper : pos 0 <ᶻ (reduce v) .d
@@ -78,6 +79,7 @@ lowest-unique v w hv hw lv lw n = point-path (same .first) (same .second) (same 
     cross-equal : (s t : ℤ) → t -ℤ s ≡ pos 0 → s ≡ t
     cross-equal s t e =
         equal (Z ∷ Z ∷ []) (λ s t. s ≐ t ⊖ (t ⊖ s)) refl s t ∙ ap (λ z. t -ℤ z) e ∙ +ℤ-idr t
+
     same : SameTriple (v .x) (v .y) (v .d) (w .x) (w .y) (w .d)
     same =
         reduced-unique (v .x) (v .y) (v .d) hv (w .x) (w .y) (w .d) hw

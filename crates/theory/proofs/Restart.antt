@@ -99,12 +99,15 @@ module _ (t : Tie) (good : GoodTie t) (S : List Constraint) (h : Constraint) (s 
         where
           null : Null (direction h)
           null = no-line S S′ h ext (tieOrder t) O falls away
+
           a-zero : h .a ≡ pos 0
           a-zero = sym (negℤ-negℤ (h .a)) ∙ ap negℤ (null .no-dy)
+
           zero-test : {z : ℤ} → z ≡ pos 0 → T (isZero z)
           zero-test e = subst (λ z. T (isZero z)) (sym e) tt
       resettle n (found.At j k q) (tight, e, a) =
           subst (λ z. Restarted t S′ (checked side (length S) h j k z (firstBroken z 0 S))) (sym e) (checked-sound j k tight a (firstBroken (meet k (facing side h)) 0 S) (check-finds S (meet k (facing side h))))
+
       go : (b : Bool) → (T b → T (isZero (h .a) && isZero (h .b))) → (T (not b) → T (not (isZero (h .a) && isZero (h .b)))) → Restarted t S′ (elim b [ true ↦ Failed (alone (length S)) | false ↦ resettled S side (length S) h (tightest (facing side h) 0 S found.Nothing) ])
       go true y n =
           alone-certified S h (is-zero (h .a) (and-left (isZero (h .a)) (isZero (h .b)) (y tt))) (is-zero (h .b) (and-right (isZero (h .a)) (isZero (h .b)) (y tt)))

@@ -119,6 +119,7 @@ module _ (t : Tie) (good : GoodTie t) (f : Functional) (S : List Constraint) (h 
       where
         flat : Flattest S f d
         flat = gains-along S f cone (standing .quadrant) (standing .spans) d e
+
         cut : pos 0 <ᶻ rise h d
         cut = go (le-or-lt (rise h d) (pos 0))
           where
@@ -145,11 +146,13 @@ module _ (t : Tie) (good : GoodTie t) (f : Functional) (S : List Constraint) (h 
       where
         nowhere : gaining f cone′ ≡ gain.Nowhere
         nowhere = still-nowhere e (gaining f cone′) refl
+
         go : (k : Bool) → (T k → Keeps h v) → (T (not k) → slack h v <ᶻ pos 0) → BestStands t f S′ cone′ (elim k [ true ↦ best.At v | false ↦ best.At (tightestPoint (gainOrder f t) S h) ])
         go true y n = (peak-stays S S′ h ext (Up (gainOrder f t)) v peak (y tt), nowhere)
-        go false y n =
-            ( peak-moves S S′ h ext (gainOrder f t) (gain-upward t good f) v (pos-nn (peak .feasible .proper)) (peak .feasible .kept) (peak .greatest) (n tt) (gain-falls′ nowhere) s′ (start′ .feasible)
-            , nowhere )
+        go false y n = (
+          peak-moves S S′ h ext (gainOrder f t) (gain-upward t good f) v (pos-nn (peak .feasible .proper)) (peak .feasible .kept) (peak .greatest) (n tt) (gain-falls′ nowhere) s′ (start′ .feasible),
+          nowhere,
+        )
 
     best-step : (b : Best) → BestStands t f S cone b → BestStands t f S′ cone′ (improved (gainOrder f t) f S h cone′ b)
     best-step best.Open (d, e) = open-step d e (gaining f cone′) refl

@@ -37,11 +37,12 @@ module _ (t : Tie) (good : GoodTie t) where
   tie-level d p q =
       record {
         no-dx = no-factor determinant (d .dx) (good .independent) (equal (F ∷ F ∷ R ∷ []) (λ f g d. (f .p ⊗ g .q ⊖ g .p ⊗ f .q) ⊗ d .dx ≐ alongᵖ f d ⊗ g .q ⊖ alongᵖ g d ⊗ f .q) refl (t .first) (t .second) d ∙ both (t .second .q) (t .first .q));
-        no-dy = no-factor determinant (d .dy) (good .independent) (equal (F ∷ F ∷ R ∷ []) (λ f g d. (f .p ⊗ g .q ⊖ g .p ⊗ f .q) ⊗ d .dy ≐ alongᵖ f d ⊗ ⊝ g .p ⊖ alongᵖ g d ⊗ ⊝ f .p) refl (t .first) (t .second) d ∙ both (negℤ (t .second .p)) (negℤ (t .first .p)))
+        no-dy = no-factor determinant (d .dy) (good .independent) (equal (F ∷ F ∷ R ∷ []) (λ f g d. (f .p ⊗ g .q ⊖ g .p ⊗ f .q) ⊗ d .dy ≐ alongᵖ f d ⊗ ⊝ g .p ⊖ alongᵖ g d ⊗ ⊝ f .p) refl (t .first) (t .second) d ∙ both (negℤ (t .second .p)) (negℤ (t .first .p)));
       }
     where
       determinant : ℤ
       determinant = t .first .p *ℤ t .second .q -ℤ t .second .p *ℤ t .first .q
+
       both : (y z : ℤ) → along (t .first) d *ℤ y -ℤ along (t .second) d *ℤ z ≡ pos 0
       both y z = ap₂ (λ a b. a *ℤ y -ℤ b *ℤ z) p q ∙ ap₂ (λ a b. a -ℤ b) (zero-*ℤ y) (zero-*ℤ z)
 
@@ -62,15 +63,18 @@ module _ (t : Tie) (good : GoodTie t) where
     where
       null-level : Null d → (f : Functional) → along f d ≡ pos 0
       null-level n f = ap₂ (λ x y. f .p *ℤ x +ℤ f .q *ℤ y) (n .no-dx) (n .no-dy) ∙ equal (F ∷ []) (λ f. f .p ⊗ con (pos 0) ⊕ f .q ⊗ con (pos 0) ≐ con (pos 0)) refl f
+
       down : (along (t .first) d <ᶻ pos 0) ⊎ ((along (t .first) d ≡ pos 0) × (along (t .second) d <ᶻ pos 0)) → Up (tieOrder t) (opposite d)
       down (inl h) = inl (negative-up (t .first) d h)
       down (inr h) = inr (level-up (t .first) d (h .0), inl (negative-up (t .second) d (h .1)))
+
       null : d .dx +ℤ d .dy ≤ᶻ pos 0 → Null d
       null z =
           record {
             no-dx = antisymmetric (nn-neg (nn-by (R ∷ []) (λ d. ⊝ d .dx ≐ ⊝ (d .dx ⊕ d .dy) ⊕ d .dy) refl d (nn-add (neg-nn z) hy))) hx;
-            no-dy = antisymmetric (nn-neg (nn-by (R ∷ []) (λ d. ⊝ d .dy ≐ ⊝ (d .dx ⊕ d .dy) ⊕ d .dx) refl d (nn-add (neg-nn z) hx))) hy
+            no-dy = antisymmetric (nn-neg (nn-by (R ∷ []) (λ d. ⊝ d .dy ≐ ⊝ (d .dx ⊕ d .dy) ⊕ d .dx) refl d (nn-add (neg-nn z) hx))) hy;
           }
+
       go : (d .dx +ℤ d .dy ≤ᶻ pos 0) ⊎ (pos 0 <ᶻ d .dx +ℤ d .dy) → Up (tieOrder t) (opposite d)
       go (inl z) =
           inr (level-up (t .first) d (null-level (null z) (t .first)), inr (level-up (t .second) d (null-level (null z) (t .second)), tt))
@@ -109,11 +113,12 @@ pub least-x-then-y-good : GoodTie leastXThenY
 least-x-then-y-good =
     record {
       independent = λ e. clashℤ (pos-nat 0) (le-of-eq e);
-      falls = λ d hx hy other. go d (not-null d hx hy other)
+      falls = λ d hx hy other. go d (not-null d hx hy other);
     }
   where
     least-y : (d : Ray) → along (leastXThenY .second) d ≡ negℤ (d .dy)
     least-y = equal (R ∷ []) (λ d. con (pos 0) ⊗ d .dx ⊕ con (negsuc 0) ⊗ d .dy ≐ ⊝ d .dy) refl
+
     go : (d : Ray) → (pos 0 <ᶻ d .dx) ⊎ ((d .dx ≡ pos 0) × (pos 0 <ᶻ d .dy)) → (along (leastXThenY .first) d <ᶻ pos 0) ⊎ ((along (leastXThenY .first) d ≡ pos 0) × (along (leastXThenY .second) d <ᶻ pos 0))
     go d (inl p) = inl (below (leastXThenY .first) d (d .dx) (least-x d) p)
     go d (inr (e, p)) = inr (least-x d ∙ ap negℤ e, below (leastXThenY .second) d (d .dy) (least-y d) p)
@@ -126,11 +131,12 @@ pub least-total-then-x-good : GoodTie leastTotalThenX
 least-total-then-x-good =
     record {
       independent = λ e. clashℤ {a = negsuc 0} {b = pos 0} (ltZ-yes tt) (le-of-eq (sym e));
-      falls = λ d hx hy other. go d hy (not-null d hx hy other)
+      falls = λ d hx hy other. go d hy (not-null d hx hy other);
     }
   where
     least-total : (d : Ray) → along (leastTotalThenX .first) d ≡ negℤ (d .dx +ℤ d .dy)
     least-total = equal (R ∷ []) (λ d. con (negsuc 0) ⊗ d .dx ⊕ con (negsuc 0) ⊗ d .dy ≐ ⊝ (d .dx ⊕ d .dy)) refl
+
     go : (d : Ray) → pos 0 ≤ᶻ d .dy → (pos 0 <ᶻ d .dx) ⊎ ((d .dx ≡ pos 0) × (pos 0 <ᶻ d .dy)) → (along (leastTotalThenX .first) d <ᶻ pos 0) ⊎ ((along (leastTotalThenX .first) d ≡ pos 0) × (along (leastTotalThenX .second) d <ᶻ pos 0))
     go d hy (inl p) = inl (below (leastTotalThenX .first) d (d .dx +ℤ d .dy) (least-total d) (pos-add-nn p hy))
     go d hy (inr (e, p)) = inl (below (leastTotalThenX .first) d (d .dx +ℤ d .dy) (least-total d) (nn-add-pos (nn-zero e) p))

@@ -54,7 +54,7 @@ module _ (l : Constraint) (Seen : Constraint → Type 0) (i : ℕ) (x : Constrai
           seen = inl (near .seen);
           point = near .point;
           crosses = near .crosses;
-          nearest = λ m. ⊎-elim (near .nearest m) (λ e c. subst (λ z. Keeps m z) (near .point) (subst (λ z. Keeps z p) (sym e) (kept (subst (λ z. pos 0 <ᶻ det z l) e c))))
+          nearest = λ m. ⊎-elim (near .nearest m) (λ e c. subst (λ z. Keeps m z) (near .point) (subst (λ z. Keeps z p) (sym e) (kept (subst (λ z. pos 0 <ᶻ det z l) e c))));
         }
 
     now-nearest : pos 0 <ᶻ det x l → slack x p <ᶻ pos 0 → Nearest l Seen′ x (meet x l)
@@ -63,7 +63,7 @@ module _ (l : Constraint) (Seen : Constraint → Type 0) (i : ℕ) (x : Constrai
           seen = inr refl;
           point = refl;
           crosses = c;
-          nearest = λ m. ⊎-elim (λ s d. nearer-keeps m k x l (near .crosses) c d (near .nearest m s d) (subst (λ z. slack x z <ᶻ pos 0) (near .point) b)) (λ e d. on-own-line m e)
+          nearest = λ m. ⊎-elim (λ s d. nearer-keeps m k x l (near .crosses) c d (near .nearest m s d) (subst (λ z. slack x z <ᶻ pos 0) (near .point) b)) (λ e d. on-own-line m e);
         }
 
     next-found : (b c : Bool) → (T b → pos 0 <ᶻ det x l) → (T (not b) → det x l ≤ᶻ pos 0) → (T c → Keeps x p) → (T (not c) → slack x p <ᶻ pos 0) → Scanned l Seen′ (elim b [ true ↦ elim c [ true ↦ found.At j k p | false ↦ found.At i x (meet x l) ] | false ↦ found.At j k p ])
@@ -149,10 +149,11 @@ scan-finds S l =
   where
     go : (f : Found) → Scanned l (λ m. ⊥ ⊎ List·Memᴰ m S) f → Indexed S f → Outcome-of-scan S l f
     go found.Nothing s a = λ m i. s m (inr i)
-    go (found.At j k p) s a =
-        ( record { member = at-member S j k a; crosses = s .crosses; tightest = λ m i. s .nearest m (inr i) }
-        , s .point
-        , a )
+    go (found.At j k p) s a = (
+      record { member = at-member S j k a; crosses = s .crosses; tightest = λ m i. s .nearest m (inr i) },
+      s .point,
+      a,
+    )
 
 -- ---- the first entry that is broken
 
@@ -168,6 +169,7 @@ check-from S v i (x ∷ rest) suffix =
     passed : Keeps x v → (b : Broken) → Outcome-of-check S v rest b → Outcome-of-check S v (x ∷ rest) b
     passed k broken.Nowhere f = for-members (λ m. Keeps m v) x rest k f
     passed k (broken.At n m) f = f
+
     go : (c : Bool) → (T c → Keeps x v) → (T (not c) → slack x v <ᶻ pos 0) → (b : Broken) → Outcome-of-check S v rest b → Outcome-of-check S v (x ∷ rest) (elim c [ true ↦ b | false ↦ broken.At i x ])
     go true y n b f = passed (y tt) b f
     go false y n b f = (suffix-head S i x rest suffix, n tt)

@@ -39,7 +39,7 @@ vertex-grows S S′ old v x =
       one-member = old (x .one) (x .one-member);
       other-member = old (x .other) (x .other-member);
       crosses = x .crosses;
-      lowest = x .lowest
+      lowest = x .lowest;
     }
 
 -- the meeting of k with the line of h, walked either way, is a vertex
@@ -52,13 +52,15 @@ meeting-vertex S false h k i j c =
       one-member = i;
       other-member = j;
       crosses = subst (λ z. pos 0 <ᶻ z) turn-d c;
-      lowest = ap reduce (point-path turn-x turn-y turn-d)
+      lowest = ap reduce (point-path turn-x turn-y turn-d);
     }
   where
     turn-d : det k (turned h) ≡ det h k
     turn-d = equal (C ∷ C ∷ []) (λ k h. detᵖ k (turnedᵖ h) ≐ detᵖ h k) refl k h
+
     turn-x : (meet k (turned h)) .x ≡ (meet h k) .x
     turn-x = equal (C ∷ C ∷ []) (λ k h. (meetᵖ k (turnedᵖ h)) .x ≐ (meetᵖ h k) .x) refl k h
+
     turn-y : (meet k (turned h)) .y ≡ (meet h k) .y
     turn-y = equal (C ∷ C ∷ []) (λ k h. (meetᵖ k (turnedᵖ h)) .y ≐ (meetᵖ h k) .y) refl k h
 
@@ -71,8 +73,10 @@ listed-meeting r (s ∷ l) v i = go (ltZ (pos 0) (det r s)) (λ t. ltZ-yes t) i 
   where
     Listed : List Constraint → Type 0
     Listed m = (s : Constraint) × List·Memᴰ s m × (pos 0 <ᶻ det r s) × (v ≡ reduce (meet r s))
+
     later : Listed l → Listed (s ∷ l)
     later (t, j, c, e) = (t, List·Memᴰ·tail j, c, e)
+
     go : (b : Bool) → (T b → pos 0 <ᶻ det r s) → List·Memᴰ v (elim b [ true ↦ reduce (meet r s) ∷ meetings r l | false ↦ meetings r l ]) → (List·Memᴰ v (meetings r l) → Listed l) → Listed (s ∷ l)
     go true y j f = ⊎-elim (λ e. (s, List·Memᴰ·head refl, y tt, e)) (λ k. later (f k)) (List·Memᴰ·cases-cons j)
     go false y j f = later (f j)
@@ -94,6 +98,7 @@ listed-from S (r ∷ l) v old i =
   where
     make : (s : Constraint) × List·Memᴰ s S × (pos 0 <ᶻ det r s) × (v ≡ reduce (meet r s)) → Vertex S v
     make (s, j, c, e) = record { one = r; other = s; one-member = old r (List·Memᴰ·head refl); other-member = j; crosses = c; lowest = e }
+
     found : List·Memᴰ v (meetings r S) → Vertex S v
     found j = make (listed-meeting r S v j)
 
