@@ -20,3 +20,4 @@ pub mod Enumeration
 pub mod Standing
 pub mod Begin
 pub mod Walk
+pub mod Place

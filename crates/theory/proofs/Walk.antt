@@ -156,7 +156,7 @@ module _ (t : Tie) (good : GoodTie t) (floors : Floors) (f : Functional) where
   open-by-state S s cone best.Open (d, e) = ap (λ g. isUnbounded (saidRay s g)) e
   open-by-state S s cone (best.At v) o = refl
 
-  feasible-by-state : (S : List Constraint) (s : Point) (cone : Cone) (b : Best) → BestStands t f S cone b → isInfeasible (said f (Going s cone b)) ≡ false
+  pub feasible-by-state : (S : List Constraint) (s : Point) (cone : Cone) (b : Best) → BestStands t f S cone b → isInfeasible (said f (Going s cone b)) ≡ false
   feasible-by-state S s cone best.Open (d, e) = ap (λ g. isInfeasible (saidRay s g)) e
   feasible-by-state S s cone (best.At v) o = refl
 
