@@ -1,4 +1,5 @@
 -- Document 01's own values: its tie, its floors, the range of its numbers, and its class examples marked *, with the test that one theorem runs over them.
+use mathlib.Core.Path.{_≡_}
 use mathlib.Core.List.{List, [], _∷_, _++_}
 use mathlib.Core.Bool.{Bool, true, false, _&&_}
 use Prim.Native.Nat.{ℕ, zero, suc, _+_}
@@ -17,7 +18,7 @@ use Rattle.lp.specs.declared.Outcome.{Outcome}
 use Rattle.lp.specs.declared.Outcome.the-variants.{Infeasible, Unbounded, Optimal}
 use Rattle.lp.specs.Program.{constraint, functional, point, ray, system}
 use Rattle.lp.specs.Outcome.{outcome}
-use Rattle.lp.specs.Prefixes.{place, moves, opens}
+use Rattle.lp.specs.Prefixes.{one-if, place, moves, opens}
 use Rattle.lp.specs.Certificate.{Weighted, certifies, isZero}
 
 -- least x, then least y
@@ -33,6 +34,18 @@ pub record Lawful (r : Constraint) : Type 0 where
   pub b-range : natAbs (r .b) ≤ 32767
   pub c-range : natAbs (r .c) ≤ 1000000000
 
+-- ---- alike in rules: each (a, b, c) stands as often in one chain as in the other
+
+abbrev pub same : ℤ → ℤ → Bool
+same y z = leZ y z && leZ z y
+
+abbrev pub count : Constraint → List Constraint → ℕ
+count r [] = 0
+count r (s ∷ l) = one-if (same (r .a) (s .a) && same (r .b) (s .b) && same (r .c) (s .c)) + count r l
+
+abbrev pub AlikeInRules : List Constraint → List Constraint → Type 0
+AlikeInRules l m = (r : Constraint) → count r l ≡ count r m
+
 -- ---- class examples: the rules and the objective, the answer, moves and open, and for an impossible one its place and a witness by index
 
 pub record Example : Type 0 where
@@ -43,9 +56,6 @@ pub record Example : Type 0 where
   pub opened : ℕ
   pub placed : ℕ
   pub witness : List Weighted
-
-abbrev same : ℤ → ℤ → Bool
-same y z = leZ y z && leZ z y
 
 abbrev samePoint : Point → Point → Bool
 samePoint v w = same (v .x) (w .x) && same (v .y) (w .y) && same (v .d) (w .d)

@@ -21,3 +21,4 @@ pub mod Standing
 pub mod Begin
 pub mod Walk
 pub mod Place
+pub mod Meaning
