@@ -22,3 +22,4 @@ pub mod Begin
 pub mod Walk
 pub mod Place
 pub mod Meaning
+pub mod Tops
