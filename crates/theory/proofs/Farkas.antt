@@ -7,7 +7,7 @@ use Prim.Native.Nat.{ℕ, _<_}
 use lib.Dec.{T, ltb, leb, ltb→lt}
 use lib.ListN.{length, getD}
 use lib.IntN.{ℤ, pos, negsuc, negℤ, _+ℤ_, _-ℤ_, _*ℤ_}
-use lib.Signed.{leZ, ltZ, leZ-yes, ltZ-yes}
+use lib.Signed.{leZ, ltZ, leZ-yes, ltZ-yes, <ℤ-≤ℤ-trans}
 use Rattle.ints.specs.Order.{_≤ᶻ_, _<ᶻ_}
 use Rattle.ints.proofs.Ring.{_⊕_, _⊖_, _⊗_, ⊝_, _≐_, con}
 use Rattle.ints.proofs.Order.{nn-nat, nn-add, nn-mul, nn-zero, pos-nn, pos-mul, pos-add-nn, nn-add-pos, neg-pos, neg-nn, pos-cancel, antisymmetric, lt-le, sub-pos, nn-sub, le-trans}
@@ -112,3 +112,43 @@ weights-sum-c true =
     equal (C ∷ C ∷ C ∷ []) (λ h k m. detᵖ m k ⊗ h .c ⊕ (detᵖ h m ⊗ k .c ⊕ (detᵖ k h ⊗ m .c ⊕ con (pos 0))) ≐ slackᵖ m (meetᵖ k h)) refl
 weights-sum-c false =
     equal (C ∷ C ∷ C ∷ []) (λ h k m. detᵖ k m ⊗ h .c ⊕ (detᵖ (turnedᵖ h) m ⊗ k .c ⊕ (detᵖ k (turnedᵖ h) ⊗ m .c ⊕ con (pos 0))) ≐ slackᵖ m (meetᵖ k (turnedᵖ h))) refl
+
+-- ---- the test of `lp` says so
+
+module _ (S : List Constraint) (l : List Weighted) where
+  abbrev entered : Bool
+  entered = every (λ w. ltb (w .entry) (length S)) l
+
+  abbrev sized : Bool
+  sized = every (λ w. leZ (pos 1) (w .weight) && leZ (w .weight) greatestWeight) l
+
+  abbrev shaped : Bool
+  shaped = ltb 0 (length l) && leb (length l) 3 && distinct l
+
+  pub certificate-refutes : T (certifies S l) → Refutes S l
+  certificate-refutes t =
+      record {
+        sound = λ w i. record { positive = <ℤ-≤ℤ-trans {b = pos 1} (ltZ-yes tt) (leZ-yes (and-left (leZ (pos 1) (w .weight)) (leZ (w .weight) greatestWeight) (every-at (λ w. leZ (pos 1) (w .weight) && leZ (w .weight) greatestWeight) l weights w i))); entered = ltb→lt (w .entry) (length S) (every-at (λ w. ltb (w .entry) (length S)) l entries w i) };
+        cancels-a = is-zero (total partA S l) (and-right (shaped && entered && sized) (isZero (total partA S l)) to-a);
+        cancels-b = is-zero (total partB S l) (and-right (shaped && entered && sized && isZero (total partA S l)) (isZero (total partB S l)) to-b);
+        falls = ltZ-yes (and-right (shaped && entered && sized && isZero (total partA S l) && isZero (total partB S l)) (ltZ (total partC S l) (pos 0)) t);
+      }
+    where
+      to-b : T (shaped && entered && sized && isZero (total partA S l) && isZero (total partB S l))
+      to-b = and-left (shaped && entered && sized && isZero (total partA S l) && isZero (total partB S l)) (ltZ (total partC S l) (pos 0)) t
+
+      to-a : T (shaped && entered && sized && isZero (total partA S l))
+      to-a = and-left (shaped && entered && sized && isZero (total partA S l)) (isZero (total partB S l)) to-b
+
+      to-weights : T (shaped && entered && sized)
+      to-weights = and-left (shaped && entered && sized) (isZero (total partA S l)) to-a
+
+      weights : T sized
+      weights = and-right (shaped && entered) sized to-weights
+
+      entries : T entered
+      entries = and-right shaped entered (and-left (shaped && entered) sized to-weights)
+
+  -- a valid certificate excludes every point, whatever its size
+  pub certificate-excludes : T (certifies S l) → Infeasible S
+  certificate-excludes t = refutation-excludes S l (certificate-refutes t)

@@ -23,3 +23,4 @@ pub mod Walk
 pub mod Place
 pub mod Meaning
 pub mod Tops
+pub mod Theorems

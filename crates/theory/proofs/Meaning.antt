@@ -179,7 +179,7 @@ module _ (t : Tie) (good : GoodTie t) (floors : Floors) (f : Functional) where
 
   -- ---- so order and repetition do not matter
 
-  system-members : (l m : List Constraint) → ((r : Constraint) → List·Memᴰ r l → List·Memᴰ r m) → (r : Constraint) → List·Memᴰ r (system floors l) → List·Memᴰ r (system floors m)
+  pub system-members : (l m : List Constraint) → ((r : Constraint) → List·Memᴰ r l → List·Memᴰ r m) → (r : Constraint) → List·Memᴰ r (system floors l) → List·Memᴰ r (system floors m)
   system-members l m to =
       for-members (λ r. List·Memᴰ r (system floors m)) (floorX floors) (floorY floors ∷ l) (List·Memᴰ·head refl)
       (for-members (λ r. List·Memᴰ r (system floors m)) (floorY floors) l (List·Memᴰ·tail (List·Memᴰ·head refl)) (λ r i. List·Memᴰ·tail (List·Memᴰ·tail (to r i))))

@@ -45,19 +45,24 @@ ray-no-top S f s d h r g m = (beyond s d k, feasible, more)
   where
     short : ℤ
     short = m *ℤ s .d -ℤ gain f s
+
     k : ℤ
     k = pos (suc (natAbs short))
+
     k-positive : pos 0 <ᶻ k
     k-positive = pos-nat (natAbs short)
+
     feasible : Feasible S (beyond s d k)
     feasible =
         record {
           proper = h .proper;
-          kept = λ c i. nn-by (C ∷ P ∷ R ∷ Z ∷ []) (λ c s d k. c .c ⊗ s .d ⊖ (c .a ⊗ (s .x ⊕ k ⊗ d .dx) ⊕ c .b ⊗ (s .y ⊕ k ⊗ d .dy)) ≐ slackᵖ c s ⊕ k ⊗ ⊝ riseᵖ c d) refl c s d k (nn-add (h .kept c i) (nn-mul (pos-nn k-positive) (neg-nn (r c i))))
+          kept = λ c i. nn-by (C ∷ P ∷ R ∷ Z ∷ []) (λ c s d k. c .c ⊗ s .d ⊖ (c .a ⊗ (s .x ⊕ k ⊗ d .dx) ⊕ c .b ⊗ (s .y ⊕ k ⊗ d .dy)) ≐ slackᵖ c s ⊕ k ⊗ ⊝ riseᵖ c d) refl c s d k (nn-add (h .kept c i) (nn-mul (pos-nn k-positive) (neg-nn (r c i))));
         }
+
     -- each step gains at least 1
     at-least-one : pos 0 ≤ᶻ along f d -ℤ pos 1
     at-least-one = pos-elim (λ z. pos 0 ≤ᶻ z -ℤ pos 1) (λ n. sub-nn {a = pos 1} {b = pos (suc n)} (leZ-yes (le→leb 1 (suc n) (omega arith)))) g
+
     more : m *ℤ s .d <ᶻ gain f (beyond s d k)
     more =
         pos-sub
@@ -77,11 +82,13 @@ peak-top S f v h best = (m, bound)
   where
     m : ℤ
     m = pos (suc (natAbs (gain f v)))
+
     -- m is at least the gain, and so is m·d
     enough : pos 0 ≤ᶻ m *ℤ v .d -ℤ gain f v
     enough =
         nn-by (Z ∷ Z ∷ Z ∷ []) (λ m d g. m ⊗ d ⊖ g ≐ m ⊖ g ⊕ m ⊗ (d ⊖ con (pos 1))) refl m (v .d) (gain f v)
         (nn-add (pos-nn (sub-pos (below-magnitude (gain f v)))) (nn-mul (pos-nn (pos-nat (natAbs (gain f v)))) (pos-elim (λ z. pos 0 ≤ᶻ z -ℤ pos 1) (λ n. sub-nn {a = pos 1} {b = pos (suc n)} (leZ-yes (le→leb 1 (suc n) (omega arith)))) (h .proper))))
+
     bound : (w : Point) → Feasible S w → gain f w ≤ᶻ m *ℤ w .d
     bound w k =
         nn-sub

@@ -152,7 +152,7 @@ module _ (t : Tie) (good : GoodTie t) (floors : Floors) (f : Functional) where
       flip true = refl
       flip false = refl
 
-  open-by-state : (S : List Constraint) (s : Point) (cone : Cone) (b : Best) → BestStands t f S cone b → isUnbounded (said f (Going s cone b)) ≡ isOpen b
+  pub open-by-state : (S : List Constraint) (s : Point) (cone : Cone) (b : Best) → BestStands t f S cone b → isUnbounded (said f (Going s cone b)) ≡ isOpen b
   open-by-state S s cone best.Open (d, e) = ap (λ g. isUnbounded (saidRay s g)) e
   open-by-state S s cone (best.At v) o = refl
 
