@@ -1,13 +1,31 @@
--- The class examples marked * in document 01 hold of the definitions: one computation over the table, and each row follows.
+-- The class examples marked * in document 01 hold of the definitions, and so do its slips: one computation over each table, and every row follows.
 use mathlib.Core.Path.{_≡_, refl}
-use mathlib.Core.List.{List, [], _∷_, List·Memᴰ}
+use mathlib.Core.List.{List, [], _∷_, List·Memᴰ, List·Memᴰ·cases-cons, List·Memᴰ·not-nil}
 use mathlib.Core.Bool.{Bool, true, false}
+use mathlib.Core.Logic.{_⊎_, ⊎-elim}
+use mathlib.Core.Path.{sym, subst}
 use lib.Dec.{T}
 use Rattle.ints.specs.Gcd.{gcd}
 use Rattle.lp.specs.Outcome.{every}
 use Rattle.lp.specs.Document.{Example, holds}
-use Rattle.lp.specs.Examples.{classExamples}
+use Rattle.lp.specs.Examples.{classExamples, slips}
 
 pub class-examples-hold : T (every holds classExamples)
 unfolding gcd
 class-examples-hold = tt
+
+pub slips-hold : T (every holds slips)
+unfolding gcd
+slips-hold = tt
+
+-- what holds of a table holds of its rows
+at-row : (test : Example → Bool) (table : List Example) → T (every test table) → (e : Example) → List·Memᴰ e table → T (test e)
+at-row test [] t = λ e i. absurd (List·Memᴰ·not-nil i)
+at-row test (x ∷ table) t = go (test x) refl t (at-row test table)
+  where
+    go : (b : Bool) → test x ≡ b → T (elim b [ true ↦ every test table | false ↦ false ]) → (T (every test table) → (e : Example) → List·Memᴰ e table → T (test e)) → (e : Example) → List·Memᴰ e (x ∷ table) → T (test e)
+    go true q u f e i = ⊎-elim (λ p. subst (λ z. T (test z)) (sym p) (subst T (sym q) tt)) (f u e) (List·Memᴰ·cases-cons i)
+    go false q u f e i = absurd u
+
+pub class-example : (e : Example) → List·Memᴰ e classExamples → T (holds e)
+class-example = at-row holds classExamples class-examples-hold

@@ -57,10 +57,10 @@ pub record Example : Type 0 where
   pub placed : ℕ
   pub witness : List Weighted
 
-abbrev samePoint : Point → Point → Bool
+abbrev pub samePoint : Point → Point → Bool
 samePoint v w = same (v .x) (w .x) && same (v .y) (w .y) && same (v .d) (w .d)
 
-abbrev sameOutcome : Outcome → Outcome → Bool
+abbrev pub sameOutcome : Outcome → Outcome → Bool
 sameOutcome Infeasible Infeasible = true
 sameOutcome Infeasible (Unbounded v d) = false
 sameOutcome Infeasible (Optimal v) = false

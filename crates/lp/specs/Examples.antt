@@ -1,4 +1,4 @@
--- The ten class examples marked * in document 01. In a witness 0 is floor x, 1 floor y, and 2 the first rule.
+-- The ten class examples marked * in document 01, and what its list of slips warns of. In a witness 0 is floor x, 1 floor y, and 2 the first rule.
 use mathlib.Core.List.{List, [], _∷_}
 use Prim.Native.Nat.{ℕ}
 use lib.IntN.{ℤ, pos, negsuc, negℤ}
@@ -39,4 +39,14 @@ classExamples =
     ∷ impossible (atMost (pos 1) (pos 0) (negsuc 0) ∷ []) (pos 0) (pos 0) 1 (once 0 ∷ once 2 ∷ []) 1 0
     ∷ impossible (atMost (pos 0) (pos 0) (negsuc 0) ∷ []) (pos 0) (pos 0) 1 (once 2 ∷ []) 1 0
     ∷ impossible (atLeast (pos 1) (pos 1) (pos 4) ∷ atMost (pos 1) (pos 0) (pos 1) ∷ atMost (pos 0) (pos 1) (pos 1) ∷ []) (negsuc 0) (negsuc 0) 3 (once 2 ∷ once 3 ∷ once 4 ∷ []) 2 0
+    ∷ []
+
+-- a gaining direction where no pair is allowed; a parallel rule that is met after a move; a tie that the rule's own direction would break the other way; a
+-- broken start pair of an unlimited prefix, which is no move
+abbrev pub slips : List Example
+slips =
+    impossible (atMost (pos 1) (pos 0) (negsuc 0) ∷ []) (pos 0) (pos 1) 1 (once 0 ∷ once 2 ∷ []) 0 1
+    ∷ example (atMost (pos 1) (pos 0) (pos 5) ∷ atMost (pos 1) (pos 0) (pos 3) ∷ []) (pos 1) (pos 0) (Optimal (point (pos 3) (pos 0) (pos 1))) 1 1
+    ∷ example (atLeast (pos 2) (pos 1) (pos 4) ∷ []) (negsuc 1) (negsuc 0) (Optimal (point (pos 0) (pos 4) (pos 1))) 1 0
+    ∷ example (atLeast (pos 1) (pos 1) (pos 4) ∷ atMost (pos 1) (pos 1) (pos 6) ∷ []) (pos 1) (pos 1) (Optimal (point (pos 0) (pos 6) (pos 1))) 0 2
     ∷ []

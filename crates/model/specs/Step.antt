@@ -166,3 +166,8 @@ abbrev pub said : Functional → State → Outcome
 said f (Ended p c) = Infeasible
 said f (Going s cone best.Open) = saidRay s (gaining f cone)
 said f (Going s cone (best.At v)) = Optimal v
+
+-- where the walk ended, or 0
+abbrev pub placeOf : State → ℕ
+placeOf (Ended p c) = p
+placeOf (Going s cone b) = 0

@@ -21,15 +21,10 @@ use Rattle.model.specs.declared.Best.{Best}
 use Rattle.model.specs.declared.State.{State}
 use Rattle.model.specs.declared.State.the-variants.{Ended, Going}
 use Rattle.model.specs.declared.Walk.{Walk}
-use Rattle.model.specs.Step.{restart, narrow, improved, settled, stepped, step, walkFrom, said}
+use Rattle.model.specs.Step.{restart, narrow, improved, settled, stepped, step, walkFrom, said, placeOf}
 use Rattle.theory.proofs.Ties.{GoodTie}
 use Rattle.theory.proofs.Standing.{Standing}
 use Rattle.theory.proofs.Walk.{Stands, state-says, stands-step, feasible-by-state}
-
--- where the walk ended, or 0
-abbrev pub placeOf : State → ℕ
-placeOf (Ended p c) = p
-placeOf (Going s cone b) = 0
 
 ended-stays : (t : Tie) (f : Functional) (S : List Constraint) (n : ℕ) (rest : List Constraint) (w : Walk) (p : ℕ) (c : Certificate) → w .state ≡ Ended p c → walkFrom t f S n rest w .state ≡ Ended p c
 ended-stays t f S n [] w p c e = e

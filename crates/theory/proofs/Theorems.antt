@@ -38,7 +38,7 @@ use Rattle.model.specs.declared.State.the-variants.{Ended, Going}
 use Rattle.model.specs.declared.Cone.{Cone}
 use Rattle.model.specs.declared.Cone.the-variants.{Wedge}
 use Rattle.model.specs.declared.Best.{Best}
-use Rattle.model.specs.Step.{begin, walk, said, gaining, isOpen, opening as first-best}
+use Rattle.model.specs.Step.{begin, walk, said, placeOf, gaining, isOpen, opening as first-best}
 use Rattle.theory.proofs.Solver.{equal, nn-by, pos-by, C, F, R, P, Z, riseᵖ, alongᵖ, crossᵖ, gainᵖ, betweenᵖ}
 use Rattle.theory.proofs.Direction.{AtMost, ray-path, times}
 use Rattle.theory.proofs.Lexicographic.{Up}
@@ -50,7 +50,7 @@ use Rattle.theory.proofs.Enumeration.{lawful-of, lawful-recedes, lawful
 use Rattle.theory.proofs.Conflict.{Certified}
 use Rattle.theory.proofs.Farkas.{refutation-excludes}
 use Rattle.theory.proofs.Walk.{Stands, state-says, open-by-state}
-use Rattle.theory.proofs.Place.{placeOf, walk-place}
+use Rattle.theory.proofs.Place.{walk-place}
 use Rattle.theory.proofs.Begin.{standing-at-first}
 use Rattle.theory.proofs.Meaning.{Means, MeansUnbounded, MeansOptimal, outcome-means, walk-stands, system-members}
 use Rattle.theory.proofs.Tops.{ray-no-top, gains-at-most, peak-top, top-or-not}

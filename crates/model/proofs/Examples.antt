@@ -1,0 +1,39 @@
+-- The model walks the class examples and the slips of document 01 to their answers, places and counts, with valid certificates. That it does so for every
+-- system is proved in `theory`; these rows are what a wrong model trips over.
+use mathlib.Core.List.{List, [], _∷_}
+use mathlib.Core.Bool.{Bool, true, false, _&&_}
+use lib.Dec.{T, eqb}
+use lib.ListN.{take}
+use Rattle.ints.specs.Gcd.{gcd}
+use Rattle.lp.specs.Program.{system}
+use Rattle.lp.specs.Outcome.{every}
+use Rattle.lp.specs.Certificate.{named, certifies}
+use Rattle.lp.specs.Document.{Example, leastXThenY, zeroFloors, sameOutcome}
+use Rattle.lp.specs.Examples.{classExamples, slips}
+use Rattle.model.specs.declared.State.{State}
+use Rattle.model.specs.declared.State.the-variants.{Ended, Going}
+use Rattle.model.specs.declared.Walk.{Walk}
+use Rattle.model.specs.Step.{walk, said, placeOf}
+
+abbrev witnessed : Example → State → Bool
+witnessed e (Ended p c) = certifies (system zeroFloors (take p (e .rules))) (named c)
+witnessed e (Going s cone b) = true
+
+abbrev walked : Example → Walk → Bool
+walked e w =
+    sameOutcome (said (e .objective) (w .state)) (e .answer)
+    && eqb (w .moves) (e .moved)
+    && eqb (w .opened) (e .opened)
+    && eqb (placeOf (w .state)) (e .placed)
+    && witnessed e (w .state)
+
+abbrev pub walks : Example → Bool
+walks e = walked e (walk leastXThenY zeroFloors (e .objective) (e .rules))
+
+pub class-examples-walk : T (every walks classExamples)
+unfolding gcd
+class-examples-walk = tt
+
+pub slips-walk : T (every walks slips)
+unfolding gcd
+slips-walk = tt

@@ -1,0 +1,2 @@
+-- What the checker computes of the model.
+pub mod Examples
