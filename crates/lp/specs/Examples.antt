@@ -42,11 +42,12 @@ classExamples =
     ∷ []
 
 -- a gaining direction where no pair is allowed; a parallel rule that is met after a move; a tie that the rule's own direction would break the other way; a
--- broken start pair of an unlimited prefix, which is no move
+-- broken start pair of an unlimited prefix, which is no move; a rule after the place
 abbrev pub slips : List Example
 slips =
     impossible (atMost (pos 1) (pos 0) (negsuc 0) ∷ []) (pos 0) (pos 1) 1 (once 0 ∷ once 2 ∷ []) 0 1
     ∷ example (atMost (pos 1) (pos 0) (pos 5) ∷ atMost (pos 1) (pos 0) (pos 3) ∷ []) (pos 1) (pos 0) (Optimal (point (pos 3) (pos 0) (pos 1))) 1 1
     ∷ example (atLeast (pos 2) (pos 1) (pos 4) ∷ []) (negsuc 1) (negsuc 0) (Optimal (point (pos 0) (pos 4) (pos 1))) 1 0
     ∷ example (atLeast (pos 1) (pos 1) (pos 4) ∷ atMost (pos 1) (pos 1) (pos 6) ∷ []) (pos 1) (pos 1) (Optimal (point (pos 0) (pos 6) (pos 1))) 0 2
+    ∷ impossible (atMost (pos 1) (pos 0) (negsuc 0) ∷ atMost (pos 0) (pos 1) (pos 5) ∷ []) (pos 0) (pos 0) 1 (once 0 ∷ once 2 ∷ []) 1 0
     ∷ []
