@@ -1,11 +1,11 @@
 -- Inequalities that are sums of products of known signs. `by-le n f refl x₁ .. xₙ h` proves left ≤ right where f writes right − left as a
 -- polynomial s and h says that s is not negative; h is often `search signs`. `by-lt` is the strict form, `clash` shows that a sum which
 -- is identically 0 is not positive, and the forms with a factor prove k·(right − left) and cancel k > 0.
-use mathlib.Core.Path.{_≡_, refl, sym, _∙_, ap, subst}
-use mathlib.Core.List.{List, []}
+use mathlib.Core.Path.{_≡_, sym, _∙_, ap, subst}
+use mathlib.Core.List.{[]}
 use Prim.Native.Nat.{ℕ}
-use lib.IntN.{ℤ, pos, _+ℤ_, _-ℤ_, _*ℤ_, +ℤ-invr, zero-*ℤ, *ℤ-zero}
-use lib.Signed.{≤ℤ-refl, clashℤ}
+use lib.IntN.{ℤ, pos, _-ℤ_, _*ℤ_, +ℤ-invr, *ℤ-zero}
+use lib.Signed.{clashℤ}
 use Rattle.ints.specs.Order.{_≤ᶻ_, _<ᶻ_}
 use Rattle.ints.proofs.Ring.{Poly, eval, normal, Fun, body, ForAll, for-all, ring-sound, _⊖_, _⊗_, con}
 use Rattle.ints.proofs.Order.{nn-add, nn-mul, nn-zero, pos-nn, pos-add-nn, nn-add-pos, pos-mul, nn-sub, pos-sub, sub-nn, sub-pos, nn-cancel, pos-cancel, le-of-eq}

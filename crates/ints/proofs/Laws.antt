@@ -1,8 +1,8 @@
 -- The ring laws of ℤ that the library lacks: the product distributes over the sum and is associative, negation moves out of a product.
 -- Each is by recursion on the first factor, through the library's successor and predecessor laws.
-use mathlib.Core.Path.{_≡_, refl, sym, _∙_, ap, ap₂}
-use Prim.Native.Nat.{ℕ, zero, suc}
-use lib.IntN.{ℤ, pos, negsuc, sucℤ, predℤ, negℤ, _+ℤ_, _-ℤ_, _*ℤ_, +ℤ-assoc, +ℤ-comm, +ℤ-idl, +ℤ-idr, +ℤ-invr, +ℤ-invl, +ℤ-one, sucℤ-+ℤ, predℤ-+ℤ, zero-*ℤ, *ℤ-zero, sucℤ-*ℤ, predℤ-*ℤ, *ℤ-comm, negℤ-+ℤ, negℤ-negℤ}
+use mathlib.Core.Path.{_≡_, sym, _∙_, ap, ap₂}
+use Prim.Native.Nat.{zero, suc}
+use lib.IntN.{ℤ, pos, negsuc, predℤ, negℤ, _+ℤ_, _-ℤ_, _*ℤ_, +ℤ-assoc, +ℤ-comm, +ℤ-idl, +ℤ-idr, +ℤ-invr, +ℤ-invl, sucℤ-+ℤ, predℤ-+ℤ, zero-*ℤ, sucℤ-*ℤ, predℤ-*ℤ, *ℤ-comm}
 
 pub add-swap-last : (x y z : ℤ) → x +ℤ y +ℤ z ≡ x +ℤ z +ℤ y
 add-swap-last x y z = +ℤ-assoc x y z ∙ ap (λ t. x +ℤ t) (+ℤ-comm y z) ∙ sym (+ℤ-assoc x z y)

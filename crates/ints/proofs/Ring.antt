@@ -1,14 +1,13 @@
 -- A ring solver by reflection. An identity between polynomials over ℤ is proved by its two normal forms being the same: `ring n f refl x₁ .. xₙ`,
 -- where f takes n polynomial variables to the two sides. A normal form is a list of terms, each a coefficient other than 0 and a sorted
 -- list of variables, in the order of those lists. `ring-sound` is the one theorem behind it.
-use mathlib.Core.Path.{_≡_, refl, sym, _∙_, ap, ap₂, subst}
+use mathlib.Core.Path.{_≡_, refl, sym, _∙_, ap, ap₂}
 use mathlib.Core.List.{List, [], _∷_}
 use mathlib.Core.Bool.{Bool, true, false}
 use Prim.Native.Nat.{ℕ, zero, suc}
-use Prim.Native.Nat as Nat
 use lib.Dec.{T, eqb, ltb, eqb→eq}
-use lib.IntN.{ℤ, pos, negsuc, negℤ, _+ℤ_, _-ℤ_, _*ℤ_, +ℤ-assoc, +ℤ-comm, +ℤ-idl, +ℤ-idr, +ℤ-invr, zero-*ℤ, *ℤ-zero, *ℤ-comm, negℤ-+ℤ}
-use Rattle.ints.proofs.Laws.{add-swap-last, mul-distrib-right, mul-distrib-left, neg-mul, mul-assoc, one-mul}
+use lib.IntN.{ℤ, pos, negsuc, negℤ, _+ℤ_, _-ℤ_, _*ℤ_, +ℤ-assoc, +ℤ-comm, +ℤ-idl, +ℤ-idr, zero-*ℤ, *ℤ-zero, *ℤ-comm, negℤ-+ℤ}
+use Rattle.ints.proofs.Laws.{mul-distrib-right, mul-distrib-left, neg-mul, mul-assoc, one-mul}
 
 infixl 6 _⊕_ _⊖_
 infixl 7 _⊗_

@@ -1,11 +1,11 @@
 -- Document 01's own values: its tie, its floors, the range of its numbers, and its class examples marked *, with the test that one theorem runs over them.
 use mathlib.Core.Path.{_≡_}
-use mathlib.Core.List.{List, [], _∷_, _++_}
+use mathlib.Core.List.{List, [], _∷_}
 use mathlib.Core.Bool.{Bool, true, false, _&&_}
-use Prim.Native.Nat.{ℕ, zero, suc, _+_}
+use Prim.Native.Nat.{ℕ, _+_}
 use lib.Dec.{eqb}
 use lib.ListN.{take}
-use lib.IntN.{ℤ, pos, negsuc, negℤ, natAbs}
+use lib.IntN.{ℤ, pos, negsuc, natAbs}
 use lib.Signed.{leZ}
 use Prim.Native.Nat.{_≤_}
 use Rattle.lp.specs.declared.Constraint.{Constraint}
@@ -13,13 +13,12 @@ use Rattle.lp.specs.declared.Functional.{Functional}
 use Rattle.lp.specs.declared.Floors.{Floors}
 use Rattle.lp.specs.declared.Tie.{Tie}
 use Rattle.lp.specs.declared.Point.{Point}
-use Rattle.lp.specs.declared.Ray.{Ray}
 use Rattle.lp.specs.declared.Outcome.{Outcome}
 use Rattle.lp.specs.declared.Outcome.the-variants.{Infeasible, Unbounded, Optimal}
-use Rattle.lp.specs.Program.{constraint, functional, point, ray, system}
+use Rattle.lp.specs.Program.{functional, system}
 use Rattle.lp.specs.Outcome.{outcome}
 use Rattle.lp.specs.Prefixes.{one-if, place, moves, opens}
-use Rattle.lp.specs.Certificate.{Weighted, certifies, isZero}
+use Rattle.lp.specs.Certificate.{Weighted, certifies}
 
 -- least x, then least y
 abbrev pub leastXThenY : Tie

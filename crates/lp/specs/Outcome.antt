@@ -1,8 +1,8 @@
 -- The outcome of a system, by enumeration and nothing else: every vertex, every candidate for a ray, and the first of those that qualify.
 -- It is slow; it is there to be read, and for every promise to be equal to.
-use mathlib.Core.List.{List, [], _∷_, _++_, map}
+use mathlib.Core.List.{List, [], _∷_, _++_}
 use mathlib.Core.Bool.{Bool, true, false, _&&_}
-use lib.IntN.{ℤ, pos, negsuc, negℤ, _+ℤ_, _-ℤ_, _*ℤ_}
+use lib.IntN.{ℤ, pos, negℤ, _-ℤ_, _*ℤ_}
 use lib.Signed.{leZ, ltZ, quotZ}
 use Rattle.ints.specs.Gcd.{gcd, gcd3}
 use lib.IntN.{natAbs}
@@ -14,7 +14,7 @@ use Rattle.lp.specs.declared.Point.{Point}
 use Rattle.lp.specs.declared.Ray.{Ray}
 use Rattle.lp.specs.declared.Outcome.{Outcome}
 use Rattle.lp.specs.declared.Outcome.the-variants.{Infeasible, Unbounded, Optimal}
-use Rattle.lp.specs.Program.{constraint, point, ray, slack, along, rise, between, system}
+use Rattle.lp.specs.Program.{point, ray, slack, along, rise, between, system}
 
 -- ---- lists
 

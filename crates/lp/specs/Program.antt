@@ -1,6 +1,5 @@
 -- The words of a linear program in two variables, over integers of any size. Points are homogeneous: (x, y, d) is the pair x/d, y/d.
-use mathlib.Core.Path.{_≡_}
-use mathlib.Core.List.{List, [], _∷_, List·Memᴰ}
+use mathlib.Core.List.{List, _∷_, List·Memᴰ}
 use lib.IntN.{ℤ, pos, negsuc, negℤ, _+ℤ_, _-ℤ_, _*ℤ_}
 use Rattle.ints.specs.Order.{_≤ᶻ_, _<ᶻ_}
 use Rattle.lp.specs.declared.Constraint.{Constraint}

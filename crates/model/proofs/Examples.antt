@@ -1,7 +1,6 @@
 -- The model walks the class examples and the slips of document 01 to their answers, places and counts, with valid certificates. That it does so for every
 -- system is proved in `theory`; these rows are what a wrong model trips over.
-use mathlib.Core.List.{List, [], _∷_}
-use mathlib.Core.Bool.{Bool, true, false, _&&_}
+use mathlib.Core.Bool.{Bool, true, _&&_}
 use lib.Dec.{T, eqb}
 use lib.ListN.{take}
 use Rattle.ints.specs.Gcd.{gcd}

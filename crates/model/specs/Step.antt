@@ -2,8 +2,7 @@
 -- and none where nothing is broken.
 use mathlib.Core.List.{List, [], _∷_, _++_}
 use mathlib.Core.Bool.{Bool, true, false, _&&_}
-use Prim.Native.Nat.{ℕ, zero, suc, _+_, _-_}
-use lib.ListN.{length}
+use Prim.Native.Nat.{ℕ, suc, _+_, _-_}
 use lib.IntN.{ℤ, pos, negℤ}
 use lib.Signed.{leZ, ltZ}
 use Rattle.lp.specs.declared.Constraint.{Constraint}

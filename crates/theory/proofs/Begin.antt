@@ -1,12 +1,12 @@
 -- Before the first rule: the floors' corner is the start point, the axes span the rays, and the corner is the optimum unless an axis gains.
 use mathlib.Core.Path.{_≡_, refl, sym, _∙_, ap, subst}
 use mathlib.Core.List.{List, [], _∷_, List·Memᴰ, List·Memᴰ·head, List·Memᴰ·tail, List·Memᴰ·not-nil}
-use mathlib.Core.Logic.{_⊎_, inl, inr}
+use mathlib.Core.Logic.{inl, inr}
 use Prim.Native.Nat.{ℕ, _≤_, _<_}
 use native.Mathlib.Omega.{arith}
-use lib.IntN.{ℤ, pos, negsuc, negℤ, _+ℤ_, _-ℤ_, _*ℤ_}
+use lib.IntN.{ℤ, pos, negsuc, _-ℤ_, _*ℤ_}
 use lib.Signed.{leZ-yes}
-use Rattle.ints.specs.Order.{_≤ᶻ_, _<ᶻ_}
+use Rattle.ints.specs.Order.{_≤ᶻ_}
 use Rattle.ints.specs.Gcd.{gcd3}
 use Rattle.ints.proofs.Ring.{_⊕_, _⊖_, _⊗_, ⊝_, _≐_, con}
 use Rattle.ints.proofs.Order.{nn-zero, neg-nn, nn-neg, pos-nat}
@@ -18,24 +18,21 @@ use Rattle.lp.specs.declared.Floors.{Floors}
 use Rattle.lp.specs.declared.Point.{Point}
 use Rattle.lp.specs.declared.Ray.{Ray}
 use Rattle.lp.specs.declared.Tie.{Tie}
-use Rattle.lp.specs.Program.{point, ray, slack, rise, along, between, Keeps, Feasible, floorX, floorY, system}
-use Rattle.lp.specs.Outcome.{det, meet, reduce, tieOrder, gainOrder}
+use Rattle.lp.specs.Program.{point, ray, rise, between, Keeps, Feasible, floorX, floorY, system}
+use Rattle.lp.specs.Outcome.{meet, reduce, tieOrder, gainOrder}
 use Rattle.model.specs.declared.Cone.{Cone}
-use Rattle.model.specs.declared.Cone.the-variants.{Empty, Wedge}
+use Rattle.model.specs.declared.Cone.the-variants.{Wedge}
 use Rattle.model.specs.declared.Gain.{Gain}
 use Rattle.model.specs.declared.Gain.the-variants as gain
-use Rattle.model.specs.declared.Best.{Best}
-use Rattle.model.specs.declared.Best.the-variants as best
 use Rattle.model.specs.Step.{gaining, opening}
 use Rattle.theory.proofs.Solver.{equal, nn-by, P, R, Z}
 use Rattle.theory.proofs.Lists.{for-members}
-use Rattle.theory.proofs.Direction.{Upward, Greatest, opposite, ray-path}
+use Rattle.theory.proofs.Direction.{opposite, ray-path}
 use Rattle.theory.proofs.Lexicographic.{Up}
 use Rattle.theory.proofs.Cone.{Recedes, Quadrant, Wedged}
 use Rattle.theory.proofs.Reduction.{point-path}
 use Rattle.theory.proofs.Vertex.{Vertex}
 use Rattle.theory.proofs.Ties.{GoodTie, tie-falls, gain-falls}
-use Rattle.theory.proofs.Peak.{Peak}
 use Rattle.theory.proofs.Standing.{Standing, BestStands, gains-nowhere}
 
 -- any system with the floors in it has its rays in the quadrant

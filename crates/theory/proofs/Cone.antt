@@ -5,11 +5,11 @@ use mathlib.Core.List.{List, [], _∷_, List·Memᴰ}
 use mathlib.Core.Bool.{Bool, true, false, not}
 use mathlib.Core.Logic.{_⊎_, inl, inr}
 use lib.Dec.{T}
-use lib.IntN.{ℤ, pos, negℤ, _+ℤ_, _-ℤ_, _*ℤ_, zero-*ℤ}
+use lib.IntN.{pos, negℤ, _+ℤ_, _-ℤ_, _*ℤ_, zero-*ℤ}
 use lib.Signed.{leZ, ltZ, leZ-yes, ltZ-yes, ltZ-no, clashℤ}
 use Rattle.ints.specs.Order.{_≤ᶻ_, _<ᶻ_}
 use Rattle.ints.proofs.Ring.{Poly, _⊕_, _⊖_, _⊗_, ⊝_, _≐_, con}
-use Rattle.ints.proofs.Order.{Sign, minus, nought, plus, sign, nn-add, nn-mul, nn-zero, nn-cancel, nn-neg, sub-nn, pos-nn, pos-mul, pos-add-nn, nn-add-pos, pos-cancel, neg-pos, neg-nn, leZ-no, le-or-lt, le-of-eq, antisymmetric, lt-le}
+use Rattle.ints.proofs.Order.{Sign, minus, nought, plus, sign, nn-add, nn-mul, nn-zero, nn-cancel, nn-neg, sub-nn, pos-nn, pos-mul, pos-add-nn, nn-add-pos, pos-cancel, neg-nn, leZ-no, le-or-lt, le-of-eq, antisymmetric, lt-le}
 use Rattle.lp.specs.declared.Constraint.{Constraint}
 use Rattle.lp.specs.declared.Functional.{Functional}
 use Rattle.lp.specs.declared.Ray.{Ray}
@@ -21,8 +21,8 @@ use Rattle.model.specs.declared.Gain.{Gain}
 use Rattle.model.specs.declared.Gain.the-variants as gain
 use Rattle.model.specs.Scan.{direction}
 use Rattle.model.specs.Step.{narrow, narrowed, gaining}
-use Rattle.theory.proofs.Solver.{equal, nn-by, pos-by, clash-by, C, F, R, riseᵖ, crossᵖ, Constraintᵖ, Rayᵖ}
-use Rattle.theory.proofs.Direction.{Null, opposite}
+use Rattle.theory.proofs.Solver.{equal, nn-by, pos-by, clash-by, C, F, R, riseᵖ, crossᵖ, Rayᵖ}
+use Rattle.theory.proofs.Direction.{Null}
 use Rattle.theory.proofs.Extension.{Extends, for-extended}
 
 -- a direction that leaves no constraint of the system

@@ -1,20 +1,19 @@
 -- The certificates that the model makes are valid: their weights cancel, name distinct entries, and are within document 01's bound for lawful
 -- coefficients.
-use mathlib.Core.Path.{_≡_, refl, sym, _∙_, ap, ap₂, subst}
-use mathlib.Core.List.{List, [], _∷_, _++_, List·Memᴰ, List·Memᴰ·head, List·Memᴰ·cases-cons, List·Memᴰ·not-nil, List·Memᴰ·eq-of-singleton, List·Memᴰ·append-cases, append-nil}
+use mathlib.Core.Path.{_≡_, refl, sym, _∙_, ap, subst}
+use mathlib.Core.List.{List, [], _∷_, _++_, List·Memᴰ, List·Memᴰ·not-nil, List·Memᴰ·eq-of-singleton, List·Memᴰ·append-cases, append-nil}
 use mathlib.Core.Bool.{Bool, true, false, not, _&&_}
-use mathlib.Core.Logic.{_⊎_, inl, inr, ⊎-elim}
-use Prim.Native.Nat.{ℕ, zero, suc, _≤_, _<_}
+use mathlib.Core.Logic.{⊎-elim}
+use Prim.Native.Nat.{ℕ, zero, suc, _<_}
 use native.Mathlib.Omega.{arith}
 use lib.Dec.{T, eqb, leb, ltb, eqb→eq, lt→ltb, not-T}
 use lib.ListN.{length, getD}
-use lib.IntN.{ℤ, pos, negsuc, negℤ, natAbs, _+ℤ_, _-ℤ_, _*ℤ_, +ℤ-idl, +ℤ-idr, zero-*ℤ}
-use lib.Signed.{leZ, ltZ, leZ-yes, ltZ-yes, _≤ℤ_, clashℤ}
+use lib.IntN.{ℤ, pos, negsuc, _+ℤ_, _*ℤ_, +ℤ-idl, +ℤ-idr, zero-*ℤ}
+use lib.Signed.{leZ, ltZ, clashℤ}
 use Rattle.ints.specs.Order.{_≤ᶻ_, _<ᶻ_}
 use Rattle.ints.specs.Within.{Within}
 use Rattle.ints.proofs.Laws.{one-mul}
-use Rattle.ints.proofs.Ring.{_⊕_, _⊖_, _⊗_, ⊝_, _≐_, con}
-use Rattle.ints.proofs.Order.{nn-elim, pos-elim, nn-zero, pos-nn, pos-nat, nn-nat, pos-cancel, neg-pos, pos-neg}
+use Rattle.ints.proofs.Order.{nn-elim, pos-elim, nn-zero, pos-nn, pos-nat, nn-nat}
 use Rattle.ints.proofs.Machine.{within-mul, within-sub, within-neg, within-le, one-le}
 use Rattle.lp.specs.declared.Constraint.{Constraint}
 use Rattle.lp.specs.declared.Certificate.{Certificate}
@@ -23,9 +22,8 @@ use Rattle.lp.specs.Program.{constraint, slack, Keeps}
 use Rattle.lp.specs.Outcome.{det, meet, every}
 use Rattle.lp.specs.Certificate.{Weighted, weighted, named, total, distinct, greatestWeight, isZero, certifies}
 use Rattle.lp.specs.Document.{Lawful}
-use Rattle.model.specs.Scan.{turned, facing}
-use Rattle.model.specs.Step.{certificate, alone, lineWeight, conflict}
-use Rattle.theory.proofs.Solver.{equal, pos-by, C, P, slackᵖ}
+use Rattle.model.specs.Scan.{facing}
+use Rattle.model.specs.Step.{alone, lineWeight, conflict}
 use Rattle.theory.proofs.Lists.{and-both, every-of, for-members, At, at-member, at-getD, at-below, at-append, at-new, at-unique}
 use Rattle.theory.proofs.Line.{meet-on-first}
 use Rattle.theory.proofs.Farkas.{Sound, Refutes, line-weight-positive, weights-cancel-a, weights-cancel-b, weights-sum-c}

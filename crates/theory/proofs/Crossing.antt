@@ -1,17 +1,17 @@
 -- Convexity and the crossing point: v breaks h and w keeps it, so the segment between them crosses the line of h. The crossing point keeps whatever
 -- both keep, and is not below w if w is not above v. v may be a ray (denominator 0).
-use mathlib.Core.Path.{_≡_, refl, sym, subst}
-use mathlib.Core.List.{List, [], _∷_}
-use lib.IntN.{ℤ, pos, negℤ, _+ℤ_, _-ℤ_, _*ℤ_}
+use mathlib.Core.Path.{_≡_, refl, subst}
+use mathlib.Core.List.{[], _∷_}
+use lib.IntN.{pos, negℤ, _+ℤ_, _*ℤ_}
 use Rattle.ints.specs.Order.{_≤ᶻ_, _<ᶻ_}
-use Rattle.ints.proofs.Ring.{_⊕_, _⊖_, _⊗_, ⊝_, _≐_, con}
+use Rattle.ints.proofs.Ring.{_⊕_, _⊗_, ⊝_, _≐_, con}
 use Rattle.ints.proofs.Order.{nn-add, nn-mul, pos-nn, pos-mul, nn-add-pos, neg-pos}
 use Rattle.lp.specs.declared.Constraint.{Constraint}
 use Rattle.lp.specs.declared.Point.{Point}
 use Rattle.lp.specs.declared.Ray.{Ray}
 use Rattle.lp.specs.Program.{point, slack, Keeps, between}
 use Rattle.theory.proofs.Solver.{equal, nn-by, C, P, Constraintᵖ, Pointᵖ, slackᵖ, betweenᵖ}
-use Rattle.theory.proofs.Direction.{Upward, AtMost, ray-path, times}
+use Rattle.theory.proofs.Direction.{Upward, AtMost, ray-path}
 
 -- where the segment from v to w meets the line of h
 abbrev pub crossing : Constraint → Point → Point → Point

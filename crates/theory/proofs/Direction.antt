@@ -1,16 +1,16 @@
 -- An order of points as a set of upward directions. `Up d` says that going along d is no loss; a point is at most another if the direction between
 -- them is up. What follows needs only that `Up` is closed under sums and factors and that nothing but 0 is up both ways: the lexicographic
 -- orders of functionals (Lexicographic.antt) are one instance.
-use mathlib.Core.Path.{_≡_, refl, sym, _∙_, ap, subst}
+use mathlib.Core.Path.{_≡_, refl, subst}
 use mathlib.Core.List.{List, [], _∷_}
-use lib.IntN.{ℤ, pos, negℤ, _+ℤ_, _-ℤ_, _*ℤ_}
+use lib.IntN.{ℤ, pos, negℤ, _+ℤ_, _*ℤ_}
 use Rattle.ints.specs.Order.{_≤ᶻ_, _<ᶻ_}
-use Rattle.ints.proofs.Ring.{_⊕_, _⊖_, _⊗_, ⊝_, _≐_, con}
+use Rattle.ints.proofs.Ring.{_⊕_, _⊗_, ⊝_, _≐_}
 use Rattle.lp.specs.declared.Constraint.{Constraint}
 use Rattle.lp.specs.declared.Point.{Point}
 use Rattle.lp.specs.declared.Ray.{Ray}
 use Rattle.lp.specs.Program.{ray, between, Feasible}
-use Rattle.theory.proofs.Solver.{equal, P, Z, R, Pointᵖ, betweenᵖ}
+use Rattle.theory.proofs.Solver.{equal, P, betweenᵖ}
 
 -- ---- rays as vectors
 

@@ -1,11 +1,10 @@
 -- The enumeration of `lp` finds what is characterised: the peak of a system among its allowed vertices, and the flattest ray among its lawful candidates.
 use mathlib.Core.Path.{_≡_, refl, sym, _∙_, ap, ap₂, subst}
-use mathlib.Core.List.{List, [], _∷_, _++_, List·Memᴰ, List·Memᴰ·head, List·Memᴰ·tail, List·Memᴰ·cases-cons, List·Memᴰ·not-nil}
-use mathlib.Core.Bool.{Bool, true, false, not, _&&_}
+use mathlib.Core.List.{List, [], _∷_, List·Memᴰ, List·Memᴰ·head, List·Memᴰ·tail, List·Memᴰ·cases-cons, List·Memᴰ·not-nil}
+use mathlib.Core.Bool.{not}
 use mathlib.Core.Logic.{_⊎_, inl, inr, ⊎-elim}
-use Prim.Native.Nat.{ℕ, _<_}
 use lib.Dec.{T}
-use lib.IntN.{ℤ, pos, negℤ, natAbs, _+ℤ_, _-ℤ_, _*ℤ_, +ℤ-idr, *ℤ-zero}
+use lib.IntN.{pos, negℤ, _+ℤ_, _-ℤ_, _*ℤ_, +ℤ-idr, *ℤ-zero}
 use lib.Signed.{leZ, ltZ, quotZ, leZ-yes, ltZ-yes, ltZ-no, clashℤ}
 use Rattle.ints.specs.Order.{_≤ᶻ_, _<ᶻ_}
 use Rattle.ints.specs.Gcd.{gcd2}
@@ -17,16 +16,16 @@ use Rattle.lp.specs.declared.Constraint.{Constraint}
 use Rattle.lp.specs.declared.Functional.{Functional}
 use Rattle.lp.specs.declared.Point.{Point}
 use Rattle.lp.specs.declared.Ray.{Ray}
-use Rattle.lp.specs.Program.{ray, slack, Keeps, Feasible, along, rise, between}
+use Rattle.lp.specs.Program.{ray, Feasible, along, rise, between}
 use Rattle.lp.specs.Textbook.{Infeasible}
-use Rattle.lp.specs.Outcome.{keep, every, pick, vertices, keeps, allowed, above, better, candidates, lawful, cross, flatter, reduceRay}
+use Rattle.lp.specs.Outcome.{keep, every, pick, vertices, keeps, allowed, better, candidates, lawful, cross, flatter, reduceRay}
 use Rattle.model.specs.Scan.{direction}
-use Rattle.theory.proofs.Solver.{equal, nn-by, C, P, R, crossᵖ, betweenᵖ}
-use Rattle.theory.proofs.Lists.{and-left, and-right, and-both, every-at, every-of, for-members, keep-member, keep-test, member-keep, Picked, picked}
-use Rattle.theory.proofs.Direction.{Upward, AtMost, Null, opposite, ray-path, at-most-trans, at-most-both}
+use Rattle.theory.proofs.Solver.{equal, nn-by, P, R, crossᵖ, betweenᵖ}
+use Rattle.theory.proofs.Lists.{and-left, and-right, and-both, every-at, every-of, keep-member, keep-test, member-keep, Picked, picked}
+use Rattle.theory.proofs.Direction.{Upward, AtMost, ray-path, at-most-trans, at-most-both}
 use Rattle.theory.proofs.Lexicographic.{Up, above-up, not-above-up, up-null}
 use Rattle.theory.proofs.Cone.{Recedes, Quadrant, Forward, Candidate, Flattest}
-use Rattle.theory.proofs.Reduction.{LowestTerms, lowest-unique}
+use Rattle.theory.proofs.Reduction.{lowest-unique}
 use Rattle.theory.proofs.Vertex.{Vertex, vertex-proper, vertex-lowest, listed-vertex, vertex-listed}
 use Rattle.theory.proofs.Peak.{Peak}
 

@@ -1,16 +1,16 @@
 -- Certificates. A weighted sum of constraints in which a and b cancel and c falls below 0 excludes every point, whatever its size; and where the
 -- tightest point P on the line of h, the meeting with k, breaks m, three determinants are the weights of such a sum.
-use mathlib.Core.Path.{_≡_, refl, sym, _∙_, ap, subst}
+use mathlib.Core.Path.{_≡_, refl, _∙_, ap}
 use mathlib.Core.List.{List, [], _∷_, List·Memᴰ, List·Memᴰ·head, List·Memᴰ·tail}
-use mathlib.Core.Bool.{Bool, true, false, not, _&&_}
-use Prim.Native.Nat.{ℕ, _<_}
+use mathlib.Core.Bool.{Bool, true, false, _&&_}
+use Prim.Native.Nat.{_<_}
 use lib.Dec.{T, ltb, leb, ltb→lt}
 use lib.ListN.{length, getD}
-use lib.IntN.{ℤ, pos, negsuc, negℤ, _+ℤ_, _-ℤ_, _*ℤ_}
+use lib.IntN.{ℤ, pos, negℤ, _+ℤ_, _-ℤ_, _*ℤ_}
 use lib.Signed.{leZ, ltZ, leZ-yes, ltZ-yes, <ℤ-≤ℤ-trans}
 use Rattle.ints.specs.Order.{_≤ᶻ_, _<ᶻ_}
 use Rattle.ints.proofs.Ring.{_⊕_, _⊖_, _⊗_, ⊝_, _≐_, con}
-use Rattle.ints.proofs.Order.{nn-nat, nn-add, nn-mul, nn-zero, pos-nn, pos-mul, pos-add-nn, nn-add-pos, neg-pos, neg-nn, pos-cancel, antisymmetric, lt-le, sub-pos, nn-sub, le-trans}
+use Rattle.ints.proofs.Order.{nn-nat, nn-add, nn-mul, nn-zero, pos-nn, pos-mul, nn-add-pos, neg-pos, pos-cancel, antisymmetric}
 use Rattle.lp.specs.declared.Constraint.{Constraint}
 use Rattle.lp.specs.declared.Point.{Point}
 use Rattle.lp.specs.Program.{constraint, slack, Keeps, Feasible}
@@ -20,7 +20,7 @@ use Rattle.lp.specs.Certificate.{Weighted, total, distinct, greatestWeight, isZ
 use Rattle.model.specs.Scan.{turned, facing}
 use Rattle.model.specs.Step.{lineWeight}
 use Rattle.theory.proofs.Solver.{equal, nn-by, pos-by, clash-by, C, P, Z, slackᵖ, detᵖ, meetᵖ}
-use Rattle.theory.proofs.Lists.{and-left, and-right, every-at, for-members, getD-member}
+use Rattle.theory.proofs.Lists.{and-left, and-right, every-at, getD-member}
 use Rattle.theory.proofs.Line.{turnedᵖ}
 
 -- ---- a valid certificate excludes every point

@@ -4,16 +4,16 @@ use mathlib.Core.List.{List, [], _∷_}
 use mathlib.Core.Bool.{Bool, true, false, not}
 use mathlib.Core.Logic.{_⊎_, inl, inr}
 use lib.Dec.{T}
-use lib.IntN.{ℤ, pos, negℤ, _+ℤ_, _-ℤ_, _*ℤ_, +ℤ-idl, *ℤ-zero, zero-*ℤ, negℤ-negℤ}
+use lib.IntN.{ℤ, pos, negℤ, _+ℤ_, _*ℤ_, +ℤ-idl, *ℤ-zero, zero-*ℤ, negℤ-negℤ}
 use lib.Signed.{ltZ, ltZ-yes, ltZ-no, clashℤ}
 use Rattle.ints.specs.Order.{_≤ᶻ_, _<ᶻ_}
-use Rattle.ints.proofs.Ring.{_⊕_, _⊖_, _⊗_, ⊝_, _≐_, con}
-use Rattle.ints.proofs.Order.{Sign, minus, nought, plus, sign, nn-add, pos-nn, pos-mul, pos-add-nn, nn-add-pos, pos-cancel, zero-cancel, antisymmetric, neg-pos, pos-neg, nn-zero, lt-le, le-of-eq}
+use Rattle.ints.proofs.Ring.{_⊕_, _⊗_, ⊝_, _≐_, con}
+use Rattle.ints.proofs.Order.{Sign, minus, nought, plus, sign, pos-nn, pos-mul, pos-add-nn, nn-add-pos, pos-cancel, zero-cancel, antisymmetric, neg-pos, pos-neg, nn-zero, lt-le, le-of-eq}
 use Rattle.lp.specs.declared.Functional.{Functional}
 use Rattle.lp.specs.declared.Ray.{Ray}
-use Rattle.lp.specs.Program.{along, between}
+use Rattle.lp.specs.Program.{along}
 use Rattle.lp.specs.Outcome.{above}
-use Rattle.theory.proofs.Solver.{equal, pos-by, F, R, Z, alongᵖ}
+use Rattle.theory.proofs.Solver.{equal, F, R, Z, alongᵖ}
 use Rattle.theory.proofs.Direction as Direction
 use Rattle.theory.proofs.Direction.{Upward, Null, times, opposite}
 

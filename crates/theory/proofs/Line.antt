@@ -1,20 +1,20 @@
 -- The line of a constraint h, walked in a direction u: l is h or h turned round, and u is (b, −a) of l. On it a constraint k with det k l above 0 is
 -- met going along u, at `meet k l`, whose denominator is the rise of k along u.
-use mathlib.Core.Path.{_≡_, refl, sym, _∙_, ap, ap₂, subst}
-use mathlib.Core.List.{List, [], _∷_}
+use mathlib.Core.Path.{_≡_, refl, sym, _∙_, ap, subst}
+use mathlib.Core.List.{[], _∷_}
 use mathlib.Core.Bool.{Bool, true, false}
-use lib.IntN.{ℤ, pos, negℤ, _+ℤ_, _-ℤ_, _*ℤ_, +ℤ-idr, zero-*ℤ}
+use lib.IntN.{ℤ, pos, negℤ, _+ℤ_, _*ℤ_, +ℤ-idr, zero-*ℤ}
 use Rattle.ints.specs.Order.{_≤ᶻ_, _<ᶻ_}
-use Rattle.ints.proofs.Ring.{_⊕_, _⊖_, _⊗_, ⊝_, _≐_, con}
+use Rattle.ints.proofs.Ring.{_⊕_, _⊗_, ⊝_, _≐_, con}
 use Rattle.ints.proofs.Order.{nn-add, nn-mul, nn-zero, nn-cancel, pos-nn, neg-nn, neg-pos}
 use Rattle.lp.specs.declared.Constraint.{Constraint}
 use Rattle.lp.specs.declared.Point.{Point}
 use Rattle.lp.specs.declared.Ray.{Ray}
-use Rattle.lp.specs.Program.{constraint, ray, slack, Keeps, between, rise}
+use Rattle.lp.specs.Program.{slack, Keeps, between}
 use Rattle.lp.specs.Outcome.{det, meet}
 use Rattle.model.specs.Scan.{turned, facing, direction}
-use Rattle.theory.proofs.Solver.{equal, nn-by, C, P, Constraintᵖ, Pointᵖ, slackᵖ, detᵖ, meetᵖ, betweenᵖ, riseᵖ}
-use Rattle.theory.proofs.Direction.{Upward, AtMost, ray-path, times}
+use Rattle.theory.proofs.Solver.{equal, nn-by, C, P, Constraintᵖ, slackᵖ, detᵖ, meetᵖ, betweenᵖ}
+use Rattle.theory.proofs.Direction.{Upward, AtMost, ray-path}
 
 abbrev pub turnedᵖ : Constraintᵖ → Constraintᵖ
 turnedᵖ h = record { a = ⊝ h .a; b = ⊝ h .b; c = ⊝ h .c }

@@ -2,16 +2,16 @@
 -- constraints are in the system, and the defined outcome has it.
 use mathlib.Core.Path.{_≡_, refl, sym, _∙_, ap, ap₂, subst}
 use mathlib.Core.List.{List, [], _∷_, List·Memᴰ, List·Memᴰ·head, List·Memᴰ·tail, List·Memᴰ·cases-cons, List·Memᴰ·not-nil}
-use mathlib.Core.Bool.{Bool, true, false, not, _&&_}
-use mathlib.Core.Logic.{_⊎_, inl, inr, ⊎-elim}
-use Prim.Native.Nat.{ℕ, zero, suc, _+_, _<_}
+use mathlib.Core.Bool.{Bool, true, false, _&&_}
+use mathlib.Core.Logic.{⊎-elim}
+use Prim.Native.Nat.{ℕ, _+_, _<_}
 use native.Mathlib.Omega.{arith}
 use lib.Dec.{T}
-use lib.IntN.{ℤ, pos, negℤ, _+ℤ_, _-ℤ_, _*ℤ_, +ℤ-idr}
+use lib.IntN.{ℤ, pos, _+ℤ_, _*ℤ_, +ℤ-idr}
 use lib.Signed.{leZ, quotZ, leZ-yes, ≤ℤ-refl, clashℤ}
-use Rattle.ints.specs.Order.{_≤ᶻ_, _<ᶻ_}
+use Rattle.ints.specs.Order.{_≤ᶻ_}
 use Rattle.ints.specs.Gcd.{gcd2}
-use Rattle.ints.proofs.Ring.{_⊕_, _⊖_, _⊗_, ⊝_, _≐_}
+use Rattle.ints.proofs.Ring.{_⊕_, _⊗_, ⊝_, _≐_}
 use Rattle.ints.proofs.Order.{antisymmetric, nn-neg, le-of-eq}
 use Rattle.ints.proofs.Gcd.{gcd2-pos}
 use Rattle.ints.proofs.Reduced.{SamePair, reduce2-same}
@@ -23,26 +23,25 @@ use Rattle.lp.specs.declared.Ray.{Ray}
 use Rattle.lp.specs.declared.Tie.{Tie}
 use Rattle.lp.specs.declared.Outcome.{Outcome}
 use Rattle.lp.specs.declared.Outcome.the-variants as outcome
-use Rattle.lp.specs.Program.{Feasible, along, rise, floorX, floorY, system}
+use Rattle.lp.specs.Program.{Feasible, along, floorX, floorY, system}
 use Rattle.lp.specs.Textbook.{Infeasible}
 use Rattle.lp.specs.Outcome.{cross, reduceRay, tieOrder, gainOrder}
 use Rattle.lp.specs.Outcome as defined
 use Rattle.lp.specs.Prefixes.{one-if}
 use Rattle.lp.specs.Document.{same, count, AlikeInRules}
 use Rattle.model.specs.declared.Cone.{Cone}
-use Rattle.model.specs.declared.Gain.the-variants as gain
 use Rattle.model.specs.declared.Best.{Best}
 use Rattle.model.specs.declared.Best.the-variants as best
 use Rattle.model.specs.declared.State.{State}
 use Rattle.model.specs.declared.State.the-variants.{Ended, Going}
 use Rattle.model.specs.Step.{begin, walk, said, saidRay}
 use Rattle.theory.proofs.Solver.{equal, nn-by, R, crossᵖ}
-use Rattle.theory.proofs.Lists.{and-left, and-right, and-both, is-true, for-members}
+use Rattle.theory.proofs.Lists.{and-left, and-right, and-both, for-members}
 use Rattle.theory.proofs.Direction.{Upward, ray-path, at-most-both}
 use Rattle.theory.proofs.Lexicographic.{Up}
 use Rattle.theory.proofs.Cone.{Recedes, Forward, Candidate, Flattest}
 use Rattle.theory.proofs.Reduction.{lowest-unique}
-use Rattle.theory.proofs.Vertex.{Vertex, vertex-grows, vertex-proper, vertex-lowest}
+use Rattle.theory.proofs.Vertex.{vertex-grows, vertex-lowest}
 use Rattle.theory.proofs.Ties.{GoodTie, tie-upward, gain-upward}
 use Rattle.theory.proofs.Peak.{Peak}
 use Rattle.theory.proofs.Standing.{Standing, BestStands, gains-along, gains-nowhere}

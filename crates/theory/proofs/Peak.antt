@@ -1,15 +1,14 @@
 -- The peak of a system in an order: the feasible point that no feasible point is above, a vertex in lowest terms. It stays where the next constraint is
 -- kept; otherwise the tightest point on that constraint's line is the next peak, if there is a feasible point at all.
 use mathlib.Core.Path.{_≡_, refl, sym, _∙_, ap, subst}
-use mathlib.Core.List.{List, [], _∷_, _++_, List·Memᴰ}
+use mathlib.Core.List.{List, [], _∷_, List·Memᴰ}
 use mathlib.Core.Bool.{Bool, true, false, not}
-use mathlib.Core.Logic.{_⊎_, inl, inr}
 use lib.Dec.{T}
-use lib.IntN.{ℤ, pos, negℤ, _+ℤ_, _-ℤ_, _*ℤ_, zero-*ℤ, negℤ-negℤ}
+use lib.IntN.{ℤ, pos, negℤ, _-ℤ_, _*ℤ_, zero-*ℤ, negℤ-negℤ}
 use lib.Signed.{clashℤ}
 use Rattle.ints.specs.Order.{_≤ᶻ_, _<ᶻ_}
 use Rattle.ints.proofs.Ring.{_⊕_, _⊖_, _⊗_, ⊝_, _≐_, con}
-use Rattle.ints.proofs.Order.{nn-add, nn-zero, nn-mul, nn-cancel, pos-nn, le-of-eq}
+use Rattle.ints.proofs.Order.{nn-add, nn-zero, nn-mul, nn-cancel, le-of-eq}
 use Rattle.lp.specs.declared.Constraint.{Constraint}
 use Rattle.lp.specs.declared.Functional.{Functional}
 use Rattle.lp.specs.declared.Point.{Point}
@@ -18,16 +17,15 @@ use Rattle.lp.specs.Program.{slack, rise, Keeps, Feasible}
 use Rattle.lp.specs.Outcome.{above, det, meet, reduce}
 use Rattle.model.specs.declared.Found.{Found}
 use Rattle.model.specs.declared.Found.the-variants as found
-use Rattle.model.specs.Scan.{turned, facing, direction, tightest}
+use Rattle.model.specs.Scan.{facing, direction, tightest}
 use Rattle.model.specs.Step.{foundPoint, tightestPoint}
-use Rattle.theory.proofs.Solver.{equal, nn-by, C, P, slackᵖ, detᵖ, riseᵖ}
+use Rattle.theory.proofs.Solver.{equal, nn-by, C, P, slackᵖ, detᵖ}
 use Rattle.theory.proofs.Extension.{Extends, for-extended, feasible-shrinks, feasible-keeps-new, feasible-grows}
-use Rattle.theory.proofs.Direction.{Upward, AtMost, Greatest, Null, opposite}
+use Rattle.theory.proofs.Direction.{Upward, Greatest, Null, opposite}
 use Rattle.theory.proofs.Lexicographic.{Up, above-up, not-above-up}
-use Rattle.theory.proofs.Line.{turnedᵖ}
-use Rattle.theory.proofs.Step.{Tight, step-below, step-keeps, step-on}
+use Rattle.theory.proofs.Step.{step-below, step-keeps, step-on}
 use Rattle.theory.proofs.Cone.{Recedes}
-use Rattle.theory.proofs.Reduction.{Multiple, keeps-lowest, at-most-lowest, reduced-multiple, reduced-proper}
+use Rattle.theory.proofs.Reduction.{keeps-lowest, at-most-lowest, reduced-multiple, reduced-proper}
 use Rattle.theory.proofs.Vertex.{Vertex, vertex-grows, meeting-vertex}
 use Rattle.theory.proofs.Tightest.{Outcome-of-scan, scan-finds}
 

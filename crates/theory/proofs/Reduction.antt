@@ -1,12 +1,11 @@
 -- A point in lowest terms is the same point: every sign and every comparison is as it was.
 use mathlib.Core.Path.{_≡_, refl, sym, _∙_, ap, subst}
-use mathlib.Core.List.{List, [], _∷_}
-use lib.IntN.{ℤ, pos, negℤ, _+ℤ_, _-ℤ_, _*ℤ_, +ℤ-idr}
-use lib.Signed.{quotZ}
+use mathlib.Core.List.{[], _∷_}
+use lib.IntN.{ℤ, pos, _-ℤ_, _*ℤ_, +ℤ-idr}
 use Rattle.ints.specs.Order.{_≤ᶻ_, _<ᶻ_}
 use Rattle.ints.specs.Gcd.{gcd3, Reduced}
-use Rattle.ints.proofs.Ring.{_⊕_, _⊖_, _⊗_, ⊝_, _≐_}
-use Rattle.ints.proofs.Order.{nn-mul, nn-cancel, pos-nn}
+use Rattle.ints.proofs.Ring.{_⊕_, _⊖_, _⊗_, _≐_}
+use Rattle.ints.proofs.Order.{nn-cancel}
 use Rattle.ints.proofs.Divides.{pos-of-lt}
 use Rattle.ints.proofs.Gcd.{gcd3-pos}
 use Rattle.ints.proofs.Reduced.{reduce-first, reduce-second, reduce-third, reduce-pos, reduce-reduced, reduced-unique, SameTriple}
@@ -16,7 +15,7 @@ use Rattle.lp.specs.declared.Ray.{Ray}
 use Rattle.lp.specs.Program.{point, slack, Keeps, between}
 use Rattle.lp.specs.Outcome.{reduce}
 use Rattle.theory.proofs.Solver.{equal, C, P, Z, slackᵖ, betweenᵖ}
-use Rattle.theory.proofs.Direction.{Upward, AtMost, Null, ray-path, times}
+use Rattle.theory.proofs.Direction.{Upward, AtMost, Null, ray-path}
 
 pub point-path : {v w : Point} → v .x ≡ w .x → v .y ≡ w .y → v .d ≡ w .d → v ≡ w
 point-path p q r = λ i. record { x = p i; y = q i; d = r i }

@@ -6,15 +6,15 @@ use mathlib.Core.Logic.{_⊎_, inl, inr}
 use Prim.Native.Nat.{ℕ}
 use lib.Dec.{T, T-not}
 use lib.ListN.{length}
-use lib.IntN.{ℤ, pos, negℤ, _+ℤ_, _-ℤ_, _*ℤ_, zero-*ℤ, negℤ-negℤ}
+use lib.IntN.{ℤ, pos, negℤ, _*ℤ_, zero-*ℤ, negℤ-negℤ}
 use lib.Signed.{clashℤ}
 use Rattle.ints.specs.Order.{_≤ᶻ_, _<ᶻ_}
-use Rattle.ints.proofs.Ring.{_⊕_, _⊖_, _⊗_, ⊝_, _≐_}
+use Rattle.ints.proofs.Ring.{_⊕_, _⊗_, ⊝_, _≐_}
 use Rattle.ints.proofs.Order.{nn-zero, neg-pos, pos-neg, neg-nn, pos-nn, pos-cancel, pos-add-nn, le-or-lt}
 use Rattle.lp.specs.declared.Constraint.{Constraint}
 use Rattle.lp.specs.declared.Point.{Point}
 use Rattle.lp.specs.declared.Tie.{Tie}
-use Rattle.lp.specs.Program.{slack, Keeps, Feasible}
+use Rattle.lp.specs.Program.{slack, Keeps}
 use Rattle.lp.specs.Outcome.{above, det, meet, reduce, tieOrder}
 use Rattle.lp.specs.Certificate.{isZero}
 use Rattle.model.specs.declared.Found.{Found}
@@ -25,7 +25,7 @@ use Rattle.model.specs.declared.Restart.{Restart}
 use Rattle.model.specs.declared.Restart.the-variants.{Moved, Failed}
 use Rattle.model.specs.Scan.{facing, direction, tightest, firstBroken}
 use Rattle.model.specs.Step.{alone, checked, resettled, restart}
-use Rattle.theory.proofs.Solver.{equal, nn-by, pos-by, C, P, slackᵖ, detᵖ}
+use Rattle.theory.proofs.Solver.{nn-by, pos-by, C, P, slackᵖ, detᵖ}
 use Rattle.theory.proofs.Lists.{At, at-member, and-left, and-right, and-both}
 use Rattle.theory.proofs.Extension.{Extends, extended, feasible-shrinks, feasible-keeps-new}
 use Rattle.theory.proofs.Direction.{Upward, Null}

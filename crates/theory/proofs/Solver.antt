@@ -1,12 +1,12 @@
 -- The ring solver of `ints` over the data of a linear program: identities are written with constraints, points, rays and functionals for variables,
 -- `equal (C ∷ C ∷ P ∷ []) (λ r s v. left ≐ right) refl r s v`, and `nn-by`, `pos-by`, `clash-by` carry signs along them.
-use mathlib.Core.Path.{_≡_, refl, sym, subst}
+use mathlib.Core.Path.{_≡_, sym, subst}
 use mathlib.Core.List.{List, [], _∷_}
 use Prim.Native.Nat.{ℕ, zero, suc}
-use lib.IntN.{ℤ, pos, negsuc}
+use lib.IntN.{ℤ, pos}
 use lib.Signed.{clashℤ}
 use Rattle.ints.specs.Order.{_≤ᶻ_, _<ᶻ_}
-use Rattle.ints.proofs.Ring.{Poly, var, con, _⊕_, _⊖_, _⊗_, ⊝_, Sides, eval, normal, ring-sound}
+use Rattle.ints.proofs.Ring.{Poly, var, con, _⊕_, _⊖_, _⊗_, Sides, eval, normal, ring-sound}
 use Rattle.ints.proofs.Order.{le-of-eq}
 use Rattle.lp.specs.declared.Constraint.{Constraint}
 use Rattle.lp.specs.declared.Functional.{Functional}

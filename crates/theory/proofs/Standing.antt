@@ -1,41 +1,38 @@
 -- What the walk holds after each prefix, while feasible points are left: the start point is the peak of the tie's order, the cone spans the rays, and the
 -- optimum is the peak of the gains' order, or some ray gains. One more constraint keeps that so, or yields a certificate.
-use mathlib.Core.Path.{_≡_, refl, sym, _∙_, ap, subst}
-use mathlib.Core.List.{List, [], _∷_, _++_, List·Memᴰ}
+use mathlib.Core.Path.{_≡_, refl, subst}
+use mathlib.Core.List.{List, [], _∷_, _++_}
 use mathlib.Core.Bool.{Bool, true, false, not}
 use mathlib.Core.Logic.{_⊎_, inl, inr}
-use Prim.Native.Nat.{ℕ}
 use lib.Dec.{T}
 use lib.ListN.{length}
-use lib.IntN.{ℤ, pos, negℤ, _+ℤ_, _-ℤ_, _*ℤ_}
+use lib.IntN.{pos}
 use lib.Signed.{leZ-yes, clashℤ}
 use Rattle.ints.specs.Order.{_≤ᶻ_, _<ᶻ_}
 use Rattle.ints.proofs.Ring.{_⊕_, _⊖_, _⊗_, ⊝_, _≐_, con}
-use Rattle.ints.proofs.Order.{nn-nat, pos-nn, neg-nn, neg-pos, pos-neg, pos-mul, le-or-lt, leZ-no}
+use Rattle.ints.proofs.Order.{nn-nat, pos-nn, neg-nn, pos-neg, pos-mul, le-or-lt, leZ-no}
 use Rattle.lp.specs.declared.Constraint.{Constraint}
 use Rattle.lp.specs.declared.Functional.{Functional}
 use Rattle.lp.specs.declared.Point.{Point}
 use Rattle.lp.specs.declared.Ray.{Ray}
 use Rattle.lp.specs.declared.Tie.{Tie}
-use Rattle.lp.specs.Program.{point, slack, Keeps, Feasible, along, rise, between}
+use Rattle.lp.specs.Program.{point, slack, Keeps, along, rise}
 use Rattle.lp.specs.Outcome.{keeps, tieOrder, gainOrder}
-use Rattle.model.specs.declared.Restart.{Restart}
-use Rattle.model.specs.declared.Restart.the-variants.{Moved, Failed}
+use Rattle.model.specs.declared.Restart.the-variants.{Moved}
 use Rattle.model.specs.declared.Cone.{Cone}
 use Rattle.model.specs.declared.Gain.{Gain}
 use Rattle.model.specs.declared.Gain.the-variants as gain
 use Rattle.model.specs.declared.Best.{Best}
 use Rattle.model.specs.declared.Best.the-variants as best
 use Rattle.model.specs.Step.{restart, narrow, gaining, tightestPoint, reopened, improved}
-use Rattle.theory.proofs.Solver.{equal, nn-by, pos-by, C, P, R, F, slackᵖ, riseᵖ, alongᵖ}
-use Rattle.theory.proofs.Extension.{Extends, extended, for-extended, feasible-keeps-new}
-use Rattle.theory.proofs.Direction.{Upward, Greatest, opposite}
+use Rattle.theory.proofs.Solver.{nn-by, pos-by, C, P, R, F, riseᵖ, alongᵖ}
+use Rattle.theory.proofs.Extension.{Extends, extended, for-extended}
+use Rattle.theory.proofs.Direction.{Greatest}
 use Rattle.theory.proofs.Lexicographic.{Up}
 use Rattle.theory.proofs.Cone.{Recedes, Quadrant, Spans, narrow-spans, Flattest, Gains, gaining-gains}
-use Rattle.theory.proofs.Ties.{GoodTie, tie-upward, gain-upward, tie-falls, gain-falls}
+use Rattle.theory.proofs.Ties.{GoodTie, gain-upward, tie-falls, gain-falls}
 use Rattle.theory.proofs.Peak.{Peak, Falls, peak-stays, peak-moves}
 use Rattle.theory.proofs.Restart.{Restarted, restart-sound}
-use Rattle.theory.proofs.Conflict.{Certified}
 
 abbrev pub BestStands : Tie → Functional → List Constraint → Cone → Best → Type 0
 BestStands t f S cone best.Open = (d : Ray) × (gaining f cone ≡ gain.Along d)

@@ -1,17 +1,16 @@
 -- The step of the incremental method (the lemma on the optimal vertex of source documents 001 and 002): v is the greatest point of S and breaks h,
 -- so the greatest point of S and h is the tightest point on the line of h. v may be a ray, which is how an unbounded system becomes bounded.
-use mathlib.Core.Path.{_≡_, refl, sym, _∙_, ap, subst}
-use mathlib.Core.List.{List, [], _∷_, List·Memᴰ}
+use mathlib.Core.Path.{_≡_}
+use mathlib.Core.List.{List, List·Memᴰ}
 use mathlib.Core.Logic.{_⊎_, inl, inr}
 use mathlib.Core.Bool.{Bool}
-use lib.IntN.{ℤ, pos, negℤ, _+ℤ_, _-ℤ_, _*ℤ_}
-use lib.Signed.{clashℤ}
+use lib.IntN.{pos}
 use Rattle.ints.specs.Order.{_≤ᶻ_, _<ᶻ_}
 use Rattle.ints.proofs.Order.{nn-zero, pos-nn, le-or-lt}
 use Rattle.lp.specs.declared.Constraint.{Constraint}
 use Rattle.lp.specs.declared.Point.{Point}
 use Rattle.lp.specs.declared.Ray.{Ray}
-use Rattle.lp.specs.Program.{slack, Keeps, Feasible, between}
+use Rattle.lp.specs.Program.{slack, Keeps, Feasible}
 use Rattle.lp.specs.Outcome.{det, meet}
 use Rattle.model.specs.Scan.{facing, direction}
 use Rattle.theory.proofs.Direction.{Upward, AtMost, Greatest, at-most-trans}

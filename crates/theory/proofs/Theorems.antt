@@ -1,19 +1,18 @@
 -- The theorems that docs/PROMISES.md cites, for every tie that serves, every floors, objective and list of constraints, over integers of any size.
 use mathlib.Core.Path.{_≡_, refl, sym, _∙_, ap, ap₂, subst}
-use mathlib.Core.List.{List, [], _∷_, _++_, append-nil, append-assoc, List·Memᴰ, Memᴰ·append-left}
-use mathlib.Core.Bool.{Bool, true, false, not, true≢false}
-use mathlib.Core.Logic.{_⊎_, inl, inr, _↔_}
+use mathlib.Core.List.{List, [], _∷_, _++_, append-nil, append-assoc, Memᴰ·append-left}
+use mathlib.Core.Bool.{Bool, true, false, true≢false}
+use mathlib.Core.Logic.{inl, inr, _↔_}
 use Prim.Native.Nat.{ℕ, suc, min, _+_, _≤_, _<_}
 use native.Mathlib.Omega.{arith}
 use lib.Dec.{T}
 use lib.ListN.{length, take, drop, length-append, length-take, take-append-drop}
-use lib.Seq.{take-all, take-append-le}
-use lib.IntN.{ℤ, pos, negℤ, _+ℤ_, _-ℤ_, _*ℤ_, +ℤ-invr}
-use lib.Signed.{quotZ, clashℤ}
+use lib.IntN.{ℤ, pos, _+ℤ_, _-ℤ_, _*ℤ_, +ℤ-invr}
+use lib.Signed.{clashℤ}
 use Rattle.ints.specs.Order.{_≤ᶻ_, _<ᶻ_}
 use Rattle.ints.specs.Gcd.{gcd2, Reduced2}
 use Rattle.ints.proofs.Ring.{_⊕_, _⊖_, _⊗_, ⊝_, _≐_}
-use Rattle.ints.proofs.Order.{nn-neg, neg-nn, nn-cancel, pos-cancel, nn-zero, antisymmetric, le-of-eq, nn-sub, sub-nn}
+use Rattle.ints.proofs.Order.{nn-neg, neg-nn, nn-cancel, pos-cancel, le-of-eq}
 use Rattle.ints.proofs.Divides.{pos-of-lt}
 use Rattle.ints.proofs.Gcd.{gcd2-pos}
 use Rattle.ints.proofs.Reduced.{reduce2-first, reduce2-second, reduce2-reduced}
@@ -31,8 +30,7 @@ use Rattle.lp.specs.Textbook.{Infeasible, Possible, NoTop, Top, Unbounded, Boun
 use Rattle.lp.specs.Outcome.{lawful, cross, reduceRay, tieOrder, gainOrder}
 use Rattle.lp.specs.Outcome as defined
 use Rattle.lp.specs.Prefixes.{one-if, isInfeasible, isUnbounded, isBroken, movesFrom, openFrom, placeFrom, moves, opens, place}
-use Rattle.lp.specs.Certificate.{named, certifies}
-use Rattle.lp.specs.Document.{Lawful}
+use Rattle.lp.specs.Certificate.{named}
 use Rattle.model.specs.declared.State.{State}
 use Rattle.model.specs.declared.State.the-variants.{Ended, Going}
 use Rattle.model.specs.declared.Cone.{Cone}
@@ -42,7 +40,7 @@ use Rattle.model.specs.Step.{begin, walk, said, placeOf, gaining, isOpen, openi
 use Rattle.theory.proofs.Solver.{equal, nn-by, pos-by, C, F, R, P, Z, riseᵖ, alongᵖ, crossᵖ, gainᵖ, betweenᵖ}
 use Rattle.theory.proofs.Direction.{AtMost, ray-path, times}
 use Rattle.theory.proofs.Lexicographic.{Up}
-use Rattle.theory.proofs.Cone.{Recedes, Forward, Candidate, Flattest}
+use Rattle.theory.proofs.Cone.{Candidate, Flattest}
 use Rattle.theory.proofs.Reduction.{LowestTerms}
 use Rattle.theory.proofs.Vertex.{vertex-lowest}
 use Rattle.theory.proofs.Ties.{GoodTie}

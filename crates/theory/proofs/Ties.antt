@@ -1,23 +1,23 @@
 -- Ties that serve: the two functionals are independent, and the tie falls along every direction of the quadrant. Document 01's tie is such, and so is the
 -- smaller total of request 107, whose determinant has the other sign.
 use mathlib.Core.Path.{_≡_, refl, sym, _∙_, ap, ap₂, subst}
-use mathlib.Core.List.{List, [], _∷_}
+use mathlib.Core.List.{[], _∷_}
 use mathlib.Core.Logic.{_⊎_, inl, inr}
 use lib.IntN.{ℤ, pos, negsuc, negℤ, _+ℤ_, _-ℤ_, _*ℤ_, zero-*ℤ, negℤ-negℤ}
 use lib.Signed.{clashℤ, ltZ-yes}
 use Rattle.ints.specs.Order.{_≤ᶻ_, _<ᶻ_}
 use Rattle.ints.proofs.Laws.{neg-mul}
 use Rattle.ints.proofs.Ring.{_⊕_, _⊖_, _⊗_, ⊝_, _≐_, con}
-use Rattle.ints.proofs.Order.{Sign, minus, nought, plus, sign, pos-nat, pos-add-nn, nn-add-pos, nn-add, nn-zero, nn-neg, neg-nn, neg-pos, pos-neg, pos-nn, le-or-lt, le-of-eq, antisymmetric, zero-cancel, nn-sub, lt-le}
+use Rattle.ints.proofs.Order.{Sign, minus, nought, plus, sign, pos-nat, pos-add-nn, nn-add-pos, nn-add, nn-zero, nn-neg, neg-nn, neg-pos, pos-neg, le-or-lt, le-of-eq, antisymmetric, zero-cancel}
 use Rattle.lp.specs.declared.Functional.{Functional}
 use Rattle.lp.specs.declared.Ray.{Ray}
 use Rattle.lp.specs.declared.Tie.{Tie}
-use Rattle.lp.specs.Program.{functional, ray, along}
+use Rattle.lp.specs.Program.{functional, along}
 use Rattle.lp.specs.Outcome.{tieOrder, gainOrder}
 use Rattle.lp.specs.Document.{leastXThenY}
-use Rattle.theory.proofs.Solver.{equal, nn-by, pos-by, F, R, alongᵖ}
+use Rattle.theory.proofs.Solver.{equal, nn-by, F, R, alongᵖ}
 use Rattle.theory.proofs.Direction.{Upward, Null, opposite}
-use Rattle.theory.proofs.Lexicographic.{Up, Level, lexicographic, along-opposite}
+use Rattle.theory.proofs.Lexicographic.{Up, lexicographic, along-opposite}
 
 pub record GoodTie (t : Tie) : Type 0 where
   pub independent : t .first .p *ℤ t .second .q -ℤ t .second .p *ℤ t .first .q ≡ pos 0 → ⊥

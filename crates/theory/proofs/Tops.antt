@@ -1,24 +1,23 @@
 -- Gains with and without a top: a feasible point and a ray that gains make gains without top, a peak in the gains' order is a top, and no system has both.
-use mathlib.Core.Path.{_≡_, refl, sym, _∙_, ap, subst}
-use mathlib.Core.List.{List, [], _∷_, List·Memᴰ}
-use mathlib.Core.Logic.{_⊎_, inl, inr}
+use mathlib.Core.Path.{_≡_, refl, _∙_, ap, subst}
+use mathlib.Core.List.{List, [], _∷_}
+use mathlib.Core.Logic.{inl, inr}
 use Prim.Native.Nat.{ℕ, suc, _+_}
 use native.Mathlib.Nat.{le-refl}
 use native.Mathlib.Omega.{arith}
 use lib.Dec.{le→leb}
-use lib.IntN.{ℤ, pos, negsuc, negℤ, natAbs, _+ℤ_, _-ℤ_, _*ℤ_}
-use lib.Signed.{leZ-yes, clashℤ, ≤ℤ-refl}
+use lib.IntN.{ℤ, pos, natAbs, _+ℤ_, _-ℤ_, _*ℤ_}
+use lib.Signed.{leZ-yes, clashℤ}
 use Rattle.ints.specs.Order.{_≤ᶻ_, _<ᶻ_}
 use Rattle.ints.proofs.Ring.{_⊕_, _⊖_, _⊗_, ⊝_, _≐_, con}
-use Rattle.ints.proofs.Order.{nn-add, nn-mul, nn-sub, nn-cancel, nn-nat, nn-zero, sub-nn, sub-pos, pos-sub, pos-nn, pos-nat, pos-elim, pos-mul, pos-add-nn, nn-add-pos, neg-nn, neg-pos, lt-le, le-lt-trans, pos-cancel}
+use Rattle.ints.proofs.Order.{nn-add, nn-mul, nn-sub, nn-cancel, nn-zero, sub-nn, sub-pos, pos-sub, pos-nn, pos-nat, pos-elim, pos-add-nn, neg-nn}
 use Rattle.ints.proofs.Machine.{within-le}
-use Rattle.ints.specs.Within.{Within}
 use Rattle.lp.specs.declared.Constraint.{Constraint}
 use Rattle.lp.specs.declared.Functional.{Functional}
 use Rattle.lp.specs.declared.Point.{Point}
 use Rattle.lp.specs.declared.Ray.{Ray}
 use Rattle.lp.specs.declared.Tie.{Tie}
-use Rattle.lp.specs.Program.{point, slack, Keeps, Feasible, gain, along, rise, between}
+use Rattle.lp.specs.Program.{point, Feasible, gain, along, between}
 use Rattle.lp.specs.Outcome.{gainOrder}
 use Rattle.lp.specs.Textbook.{NoTop, Top}
 use Rattle.theory.proofs.Solver.{equal, nn-by, pos-by, C, F, P, R, Z, slackᵖ, gainᵖ, alongᵖ, riseᵖ, betweenᵖ}

@@ -1,16 +1,15 @@
 -- Vertices: meeting points of two entries in lowest terms, and that the enumeration of `lp` lists exactly these.
-use mathlib.Core.Path.{_≡_, refl, sym, _∙_, ap, subst}
+use mathlib.Core.Path.{_≡_, refl, sym, ap, subst}
 use mathlib.Core.List.{List, [], _∷_, _++_, List·Memᴰ, List·Memᴰ·head, List·Memᴰ·tail, List·Memᴰ·cases-cons, List·Memᴰ·not-nil, List·Memᴰ·append-cases, Memᴰ·append-left, Memᴰ·append-right}
 use mathlib.Core.Bool.{Bool, true, false, not}
 use mathlib.Core.Logic.{_⊎_, inl, inr, ⊎-elim}
 use lib.Dec.{T}
-use lib.IntN.{ℤ, pos, negℤ, _+ℤ_, _-ℤ_, _*ℤ_}
+use lib.IntN.{pos}
 use lib.Signed.{ltZ, ltZ-yes, ltZ-no, clashℤ}
 use Rattle.ints.specs.Order.{_≤ᶻ_, _<ᶻ_}
-use Rattle.ints.proofs.Ring.{_⊕_, _⊖_, _⊗_, ⊝_, _≐_}
+use Rattle.ints.proofs.Ring.{_≐_}
 use Rattle.lp.specs.declared.Constraint.{Constraint}
 use Rattle.lp.specs.declared.Point.{Point}
-use Rattle.lp.specs.Program.{slack}
 use Rattle.lp.specs.Outcome.{det, meet, reduce, meetings, verticesOf, vertices}
 use Rattle.model.specs.Scan.{turned, facing}
 use Rattle.theory.proofs.Solver.{equal, C, detᵖ, meetᵖ}

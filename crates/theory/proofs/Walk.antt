@@ -1,16 +1,11 @@
 -- The walk is the definition: after every prefix its state says the defined outcome, and its place and counts are the defined ones.
 use mathlib.Core.Path.{_≡_, refl, sym, _∙_, ap, ap₂, subst}
-use mathlib.Core.List.{List, [], _∷_, _++_, append-nil, append-assoc, List·Memᴰ, List·Memᴰ·head, List·Memᴰ·tail, List·Memᴰ·not-nil, Memᴰ·append-left}
+use mathlib.Core.List.{List, [], _∷_, _++_, append-nil, append-assoc, List·Memᴰ, List·Memᴰ·head, List·Memᴰ·tail, List·Memᴰ·not-nil}
 use mathlib.Core.Bool.{Bool, true, false, not}
-use mathlib.Core.Logic.{_⊎_, inl, inr, ⊎-elim}
-use Prim.Native.Nat.{ℕ, zero, suc, _+_, _-_, _≤_, _<_}
+use Prim.Native.Nat.{ℕ, zero, suc, _+_, _-_, _≤_}
 use native.Mathlib.Omega.{arith}
-use native.Mathlib.Numerals.{add-one}
-use lib.Dec.{T}
 use lib.ListN.{length, take, length-append}
 use lib.Seq.{take-append-le, take-all}
-use lib.IntN.{ℤ, pos}
-use Rattle.ints.specs.Order.{_≤ᶻ_, _<ᶻ_}
 use Rattle.lp.specs.declared.Constraint.{Constraint}
 use Rattle.lp.specs.declared.Functional.{Functional}
 use Rattle.lp.specs.declared.Floors.{Floors}
@@ -18,36 +13,30 @@ use Rattle.lp.specs.declared.Point.{Point}
 use Rattle.lp.specs.declared.Ray.{Ray}
 use Rattle.lp.specs.declared.Tie.{Tie}
 use Rattle.lp.specs.declared.Certificate.{Certificate}
-use Rattle.lp.specs.declared.Outcome.{Outcome}
 use Rattle.lp.specs.declared.Outcome.the-variants as outcome
 use Rattle.lp.specs.Program.{Feasible, system}
 use Rattle.lp.specs.Textbook.{Infeasible}
-use Rattle.lp.specs.Outcome.{keeps, pick, better, flatter, reduceRay, tieOrder, gainOrder, decide, outcomeOf}
+use Rattle.lp.specs.Outcome.{keeps, reduceRay, tieOrder, gainOrder, decide, outcomeOf}
 use Rattle.lp.specs.Outcome as defined
-use Rattle.lp.specs.Prefixes.{one-if, isInfeasible, isUnbounded, isBroken, movesFrom, openFrom, placeFrom}
+use Rattle.lp.specs.Prefixes.{one-if, isInfeasible, isUnbounded, isBroken, movesFrom, openFrom}
 use Rattle.lp.specs.Certificate.{named}
 use Rattle.model.specs.declared.Restart.{Restart}
 use Rattle.model.specs.declared.Restart.the-variants.{Moved, Failed}
 use Rattle.model.specs.declared.Cone.{Cone}
-use Rattle.model.specs.declared.Gain.{Gain}
-use Rattle.model.specs.declared.Gain.the-variants as gain
 use Rattle.model.specs.declared.Best.{Best}
 use Rattle.model.specs.declared.Best.the-variants as best
 use Rattle.model.specs.declared.State.{State}
 use Rattle.model.specs.declared.State.the-variants.{Ended, Going}
 use Rattle.model.specs.declared.Walk.{Walk}
-use Rattle.model.specs.Step.{restart, narrow, gaining, improved, isOpen, breaks, going, settled, stepped, step, begin, walkFrom, walk, saidRay, said}
+use Rattle.model.specs.Step.{restart, narrow, improved, isOpen, breaks, settled, stepped, step, walkFrom, saidRay, said}
 use Rattle.theory.proofs.Lists.{for-members}
 use Rattle.theory.proofs.Farkas.{refutation-excludes}
 use Rattle.theory.proofs.Conflict.{Certified}
 use Rattle.theory.proofs.Ties.{GoodTie, tie-upward, gain-upward}
-use Rattle.theory.proofs.Lexicographic.{Up}
-use Rattle.theory.proofs.Peak.{Peak}
 use Rattle.theory.proofs.Cone.{Flattest}
 use Rattle.theory.proofs.Restart.{Restarted}
 use Rattle.theory.proofs.Enumeration.{allowedVertices, lawfulRays, none-allowed, feasible-listed, peak-picked, no-lawful-rays, flattest-listed, flattest-picked}
 use Rattle.theory.proofs.Standing.{Standing, BestStands, gains-along, gains-nowhere, start-step, standing-step}
-use Rattle.theory.proofs.Begin.{standing-at-first}
 
 -- ---- what a sound state is
 
