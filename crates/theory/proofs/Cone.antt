@@ -1,6 +1,6 @@
 -- The rays of a system: an angular interval from lo to hi inside the quadrant, or nothing. |d| stands for dx + dy, which is positive for every ray but 0;
 -- the identity f(q)·|p| − f(p)·|q| = cross(p, q)·(b − a) compares what a functional (a, b) does along two rays, also where they are the same.
-use mathlib.Core.Path.{_≡_, refl, sym, _∙_, ap, ap₂, subst}
+use mathlib.Core.Path.{_≡_, refl, sym, _∙_, ap, subst}
 use mathlib.Core.List.{List, [], _∷_, List·Memᴰ}
 use mathlib.Core.Bool.{Bool, true, false, not}
 use mathlib.Core.Logic.{_⊎_, inl, inr}
@@ -9,7 +9,7 @@ use lib.IntN.{pos, negℤ, _+ℤ_, _-ℤ_, _*ℤ_, zero-*ℤ}
 use lib.Signed.{leZ, ltZ, leZ-yes, ltZ-yes, ltZ-no, clashℤ}
 use Rattle.ints.specs.Order.{_≤ᶻ_, _<ᶻ_}
 use Rattle.ints.proofs.Ring.{Poly, _⊕_, _⊖_, _⊗_, ⊝_, _≐_, con}
-use Rattle.ints.proofs.Order.{Sign, minus, nought, plus, sign, nn-add, nn-mul, nn-zero, nn-cancel, nn-neg, sub-nn, pos-nn, pos-mul, pos-add-nn, nn-add-pos, pos-cancel, neg-nn, leZ-no, le-or-lt, le-of-eq, antisymmetric, lt-le}
+use Rattle.ints.proofs.Order.{Sign, minus, nought, plus, sign, nn-add, nn-mul, nn-zero, nn-cancel, nn-neg, sub-nn, pos-nn, pos-mul, pos-add-nn, nn-add-pos, pos-cancel, neg-nn, leZ-no, le-or-lt, le-of-eq, lt-le}
 use Rattle.lp.specs.declared.Constraint.{Constraint}
 use Rattle.lp.specs.declared.Functional.{Functional}
 use Rattle.lp.specs.declared.Ray.{Ray}
@@ -21,8 +21,8 @@ use Rattle.model.specs.declared.Gain.{Gain}
 use Rattle.model.specs.declared.Gain.the-variants as gain
 use Rattle.model.specs.Scan.{direction}
 use Rattle.model.specs.Step.{narrow, narrowed, gaining}
-use Rattle.theory.proofs.Solver.{equal, nn-by, pos-by, clash-by, C, F, R, riseᵖ, crossᵖ, Rayᵖ}
-use Rattle.theory.proofs.Direction.{Null}
+use Rattle.theory.proofs.Solver.{equal, nn-by, pos-by, clash-by, C, R, riseᵖ, crossᵖ, Rayᵖ}
+use Rattle.theory.proofs.Direction.{Null, null-of-size, along-null}
 use Rattle.theory.proofs.Extension.{Extends, for-extended}
 
 -- a direction that leaves no constraint of the system
@@ -216,11 +216,7 @@ module _ (S S′ : List Constraint) (h : Constraint) (ext : Extends S h S′) (q
         nn-dy = quadrant d old .1
 
         go : (d .dx +ℤ d .dy ≤ᶻ pos 0) ⊎ (pos 0 <ᶻ d .dx +ℤ d .dy) → Null d
-        go (inl z) =
-            record {
-              no-dx = antisymmetric (nn-neg (nn-by (R ∷ []) (λ d. ⊝ d .dx ≐ ⊝ (d .dx ⊕ d .dy) ⊕ d .dy) refl d (nn-add (neg-nn z) nn-dy))) nn-dx;
-              no-dy = antisymmetric (nn-neg (nn-by (R ∷ []) (λ d. ⊝ d .dy ≐ ⊝ (d .dx ⊕ d .dy) ⊕ d .dx) refl d (nn-add (neg-nn z) nn-dx))) nn-dy;
-            }
+        go (inl z) = null-of-size d nn-dx nn-dy z
         go (inr s) =
             clashℤ (between-rises h lo hi d (w .lo-forward .size) (w .hi-forward .size) (w .after-lo d old) (w .before-hi d old) s p q) (f h (ext .new))
 
@@ -286,6 +282,6 @@ module _ (S : List Constraint) (f : Functional) (quadrant : Quadrant S) where
     wedge-gains false false a b c d = none-gains (b tt) (d tt)
 
   pub gaining-gains : (cone : Cone) → Spans S cone → Gains S f (gaining f cone)
-  gaining-gains Empty s = λ d r. le-of-eq (ap₂ (λ x y. f .p *ℤ x +ℤ f .q *ℤ y) (s d r .no-dx) (s d r .no-dy) ∙ equal (F ∷ []) (λ f. f .p ⊗ con (pos 0) ⊕ f .q ⊗ con (pos 0) ≐ con (pos 0)) refl f)
+  gaining-gains Empty s = λ d r. le-of-eq (along-null f d (s d r))
   gaining-gains (Wedge lo hi) w =
       wedge-gains lo hi w (ltZ (pos 0) (along f lo)) (ltZ (pos 0) (along f hi)) (λ t. ltZ-yes t) (λ t. ltZ-no t) (λ t. ltZ-yes t) (λ t. ltZ-no t)

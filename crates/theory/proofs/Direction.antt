@@ -1,16 +1,18 @@
 -- An order of points as a set of upward directions. `Up d` says that going along d is no loss; a point is at most another if the direction between
 -- them is up. What follows needs only that `Up` is closed under sums and factors and that nothing but 0 is up both ways: the lexicographic
 -- orders of functionals (Lexicographic.antt) are one instance.
-use mathlib.Core.Path.{_≡_, refl, subst}
+use mathlib.Core.Path.{_≡_, refl, _∙_, ap₂, subst}
 use mathlib.Core.List.{List, [], _∷_}
 use lib.IntN.{ℤ, pos, negℤ, _+ℤ_, _*ℤ_}
 use Rattle.ints.specs.Order.{_≤ᶻ_, _<ᶻ_}
-use Rattle.ints.proofs.Ring.{_⊕_, _⊗_, ⊝_, _≐_}
+use Rattle.ints.proofs.Ring.{_⊕_, _⊗_, ⊝_, _≐_, con}
+use Rattle.ints.proofs.Order.{antisymmetric, nn-add, nn-neg, neg-nn}
 use Rattle.lp.specs.declared.Constraint.{Constraint}
+use Rattle.lp.specs.declared.Functional.{Functional}
 use Rattle.lp.specs.declared.Point.{Point}
 use Rattle.lp.specs.declared.Ray.{Ray}
-use Rattle.lp.specs.Program.{ray, between, Feasible}
-use Rattle.theory.proofs.Solver.{equal, P, betweenᵖ}
+use Rattle.lp.specs.Program.{ray, along, between, Feasible}
+use Rattle.theory.proofs.Solver.{equal, nn-by, F, P, R, betweenᵖ}
 
 -- ---- rays as vectors
 
@@ -29,6 +31,19 @@ ray-path p q = λ i. record { dx = p i; dy = q i }
 pub record Null (d : Ray) : Type 0 where
   pub no-dx : d .dx ≡ pos 0
   pub no-dy : d .dy ≡ pos 0
+
+-- a ray of the quadrant whose coordinates sum to 0 or less is 0
+pub null-of-size : (d : Ray) → pos 0 ≤ᶻ d .dx → pos 0 ≤ᶻ d .dy → d .dx +ℤ d .dy ≤ᶻ pos 0 → Null d
+null-of-size d hx hy z =
+    record {
+      no-dx = antisymmetric (nn-neg (nn-by (R ∷ []) (λ d. ⊝ d .dx ≐ ⊝ (d .dx ⊕ d .dy) ⊕ d .dy) refl d (nn-add (neg-nn z) hy))) hx;
+      no-dy = antisymmetric (nn-neg (nn-by (R ∷ []) (λ d. ⊝ d .dy ≐ ⊝ (d .dx ⊕ d .dy) ⊕ d .dx) refl d (nn-add (neg-nn z) hx))) hy;
+    }
+
+-- nothing is gained along 0
+pub along-null : (f : Functional) (d : Ray) → Null d → along f d ≡ pos 0
+along-null f d n =
+    ap₂ (λ x y. f .p *ℤ x +ℤ f .q *ℤ y) (n .no-dx) (n .no-dy) ∙ equal (F ∷ []) (λ f. f .p ⊗ con (pos 0) ⊕ f .q ⊗ con (pos 0) ≐ con (pos 0)) refl f
 
 -- ---- the order
 

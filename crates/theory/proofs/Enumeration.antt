@@ -1,17 +1,14 @@
 -- The enumeration of `lp` finds what is characterised: the peak of a system among its allowed vertices, and the flattest ray among its lawful candidates.
-use mathlib.Core.Path.{_≡_, refl, sym, _∙_, ap, ap₂, subst}
+use mathlib.Core.Path.{_≡_, refl, sym, _∙_, ap, subst}
 use mathlib.Core.List.{List, [], _∷_, List·Memᴰ, List·Memᴰ·head, List·Memᴰ·tail, List·Memᴰ·cases-cons, List·Memᴰ·not-nil}
 use mathlib.Core.Bool.{not}
 use mathlib.Core.Logic.{_⊎_, inl, inr, ⊎-elim}
 use lib.Dec.{T}
-use lib.IntN.{pos, negℤ, _+ℤ_, _-ℤ_, _*ℤ_, +ℤ-idr, *ℤ-zero}
-use lib.Signed.{leZ, ltZ, quotZ, leZ-yes, ltZ-yes, ltZ-no, clashℤ}
+use lib.IntN.{pos, negℤ, _+ℤ_}
+use lib.Signed.{leZ, ltZ, leZ-yes, ltZ-yes, ltZ-no, clashℤ}
 use Rattle.ints.specs.Order.{_≤ᶻ_, _<ᶻ_}
-use Rattle.ints.specs.Gcd.{gcd2}
-use Rattle.ints.proofs.Ring.{_⊕_, _⊖_, _⊗_, ⊝_, _≐_, con}
-use Rattle.ints.proofs.Order.{nn-add, nn-mul, nn-zero, nn-cancel, nn-neg, neg-nn, pos-nn, le-or-lt, le-of-eq, antisymmetric}
-use Rattle.ints.proofs.Gcd.{gcd2-pos}
-use Rattle.ints.proofs.Reduced.{SamePair, reduce2-same}
+use Rattle.ints.proofs.Ring.{_⊕_, _⊗_, ⊝_, _≐_, con}
+use Rattle.ints.proofs.Order.{nn-add, nn-mul, nn-zero, nn-cancel, neg-nn, pos-nn, le-or-lt, le-of-eq}
 use Rattle.lp.specs.declared.Constraint.{Constraint}
 use Rattle.lp.specs.declared.Functional.{Functional}
 use Rattle.lp.specs.declared.Point.{Point}
@@ -22,9 +19,10 @@ use Rattle.lp.specs.Outcome.{keep, every, pick, vertices, keeps, allowed, bette
 use Rattle.model.specs.Scan.{direction}
 use Rattle.theory.proofs.Solver.{equal, nn-by, P, R, crossᵖ, betweenᵖ}
 use Rattle.theory.proofs.Lists.{and-left, and-right, and-both, every-at, every-of, keep-member, keep-test, member-keep, Picked, picked}
-use Rattle.theory.proofs.Direction.{Upward, AtMost, ray-path, at-most-trans, at-most-both}
+use Rattle.theory.proofs.Direction.{null-of-size, along-null, Upward, AtMost, ray-path, at-most-trans, at-most-both}
 use Rattle.theory.proofs.Lexicographic.{Up, above-up, not-above-up, up-null}
 use Rattle.theory.proofs.Cone.{Recedes, Quadrant, Forward, Candidate, Flattest}
+use Rattle.theory.proofs.Slopes.{same-slope}
 use Rattle.theory.proofs.Reduction.{lowest-unique}
 use Rattle.theory.proofs.Vertex.{Vertex, vertex-proper, vertex-lowest, listed-vertex, vertex-listed}
 use Rattle.theory.proofs.Peak.{Peak}
@@ -137,13 +135,7 @@ module _ (S : List Constraint) (f : Functional) where
     forward-of d r g = record { nn-dx = quadrant d r .0; nn-dy = quadrant d r .1; size = go (le-or-lt (d .dx +ℤ d .dy) (pos 0)) }
       where
         go : (d .dx +ℤ d .dy ≤ᶻ pos 0) ⊎ (pos 0 <ᶻ d .dx +ℤ d .dy) → pos 0 <ᶻ d .dx +ℤ d .dy
-        go (inl z) =
-            clashℤ g
-            (le-of-eq
-            (ap₂ (λ x y. f .p *ℤ x +ℤ f .q *ℤ y)
-            (antisymmetric (nn-neg (nn-by (R ∷ []) (λ d. ⊝ d .dx ≐ ⊝ (d .dx ⊕ d .dy) ⊕ d .dy) refl d (nn-add (neg-nn z) (quadrant d r .1)))) (quadrant d r .0))
-            (antisymmetric (nn-neg (nn-by (R ∷ []) (λ d. ⊝ d .dy ≐ ⊝ (d .dx ⊕ d .dy) ⊕ d .dx) refl d (nn-add (neg-nn z) (quadrant d r .0)))) (quadrant d r .1))
-            ∙ ap₂ (λ x y. x +ℤ y) (*ℤ-zero (f .p)) (*ℤ-zero (f .q))))
+        go (inl z) = clashℤ g (le-of-eq (along-null f d (null-of-size d (quadrant d r .0) (quadrant d r .1) z)))
         go (inr s) = s
 
     -- e is at most as good as d: its slope is not smaller
@@ -163,7 +155,9 @@ module _ (S : List Constraint) (f : Functional) where
     not-flatter x y t = nn-by (R ∷ R ∷ []) (λ x y. crossᵖ x y ≐ ⊝ crossᵖ y x) refl x y (neg-nn {z = cross y x} (ltZ-no t))
 
     pub flattest-picked : (d : Ray) → Flattest S f d → (e : Ray) (es : List Ray) → lawfulRays ≡ e ∷ es → reduceRay (pick flatter e es) ≡ reduceRay d
-    flattest-picked d x e es eq = ray-path (same .first) (same .second)
+    flattest-picked d x e es eq =
+        same-slope q d (forward q q-listed) (x .forward) (choice .first d (subst (λ l. List·Memᴰ d l) eq (flattest-listed d x)))
+        (x .flattest q (lawful-recedes q (keep-test (lawful S f) (candidates S) q q-listed)) (listed-candidate S q (keep-member (lawful S f) (candidates S) q q-listed)) (lawful-gains q (keep-test (lawful S f) (candidates S) q q-listed)))
       where
         q : Ray
         q = pick flatter e es
@@ -179,18 +173,3 @@ module _ (S : List Constraint) (f : Functional) where
 
         q-listed : List·Memᴰ q lawfulRays
         q-listed = subst (λ l. List·Memᴰ q l) (sym eq) (choice .member)
-
-        level : cross d q ≡ pos 0
-        level =
-            antisymmetric
-            (nn-neg (nn-by (R ∷ R ∷ []) (λ d q. ⊝ crossᵖ d q ≐ crossᵖ q d) refl d q (choice .first d (subst (λ l. List·Memᴰ d l) eq (flattest-listed d x)))))
-            (x .flattest q (lawful-recedes q (keep-test (lawful S f) (candidates S) q q-listed)) (listed-candidate S q (keep-member (lawful S f) (candidates S) q q-listed)) (lawful-gains q (keep-test (lawful S f) (candidates S) q q-listed)))
-
-        not-null : (y : Ray) → Forward y → y .dx ≡ pos 0 → y .dy ≡ pos 0 → ⊥
-        not-null y h a b = clashℤ (h .size) (le-of-eq (ap₂ (λ s t. s +ℤ t) a b))
-
-        same : SamePair (quotZ (q .dx) (pos (gcd2 (q .dx) (q .dy)))) (quotZ (q .dy) (pos (gcd2 (q .dx) (q .dy)))) (quotZ (d .dx) (pos (gcd2 (d .dx) (d .dy)))) (quotZ (d .dy) (pos (gcd2 (d .dx) (d .dy))))
-        same =
-            reduce2-same (q .dx) (q .dy) (d .dx) (d .dy) (forward q q-listed .nn-dx) (forward q q-listed .nn-dy) (x .forward .nn-dx) (x .forward .nn-dy)
-            (equal (R ∷ R ∷ []) (λ q d. q .dx ⊗ d .dy ≐ d .dx ⊗ q .dy ⊖ crossᵖ d q) refl q d ∙ ap (λ z. d .dx *ℤ q .dy -ℤ z) level ∙ +ℤ-idr (d .dx *ℤ q .dy))
-            (gcd2-pos (q .dx) (q .dy) (not-null q (forward q q-listed))) (gcd2-pos (d .dx) (d .dy) (not-null d (x .forward)))

@@ -6,7 +6,7 @@ use mathlib.Core.Bool.{Bool, true, false, _&&_}
 use Prim.Native.Nat.{_<_}
 use lib.Dec.{T, ltb, leb, ltb→lt}
 use lib.ListN.{length, getD}
-use lib.IntN.{ℤ, pos, negℤ, _+ℤ_, _-ℤ_, _*ℤ_}
+use lib.IntN.{ℤ, pos, negℤ, _+ℤ_, _-ℤ_, _*ℤ_, zero-*ℤ}
 use lib.Signed.{leZ, ltZ, leZ-yes, ltZ-yes, <ℤ-≤ℤ-trans}
 use Rattle.ints.specs.Order.{_≤ᶻ_, _<ᶻ_}
 use Rattle.ints.proofs.Ring.{_⊕_, _⊖_, _⊗_, ⊝_, _≐_, con}
@@ -68,8 +68,8 @@ refutation-excludes S l r v h =
     (λ v a b c. c ⊗ v .d ⊖ (a ⊗ v .x ⊕ b ⊗ v .y) ⊕ a ⊗ v .x ⊕ b ⊗ v .y ⊕ ⊝ c ⊗ v .d) refl v (total partA S l) (total partB S l) (total partC S l)
     (nn-add-pos
     (nn-add
-    (nn-add (weighted-slack S v h l (r .sound)) (nn-zero (ap (λ z. z *ℤ v .x) (r .cancels-a) ∙ lib.IntN.zero-*ℤ (v .x))))
-    (nn-zero (ap (λ z. z *ℤ v .y) (r .cancels-b) ∙ lib.IntN.zero-*ℤ (v .y))))
+    (nn-add (weighted-slack S v h l (r .sound)) (nn-zero (ap (λ z. z *ℤ v .x) (r .cancels-a) ∙ zero-*ℤ (v .x))))
+    (nn-zero (ap (λ z. z *ℤ v .y) (r .cancels-b) ∙ zero-*ℤ (v .y))))
     (pos-mul (neg-pos (r .falls)) (h .proper)))
 
 pub is-zero : (z : ℤ) → T (isZero z) → z ≡ pos 0

@@ -1,5 +1,5 @@
 -- The lexicographic order of functionals as an upward order (Direction.antt), and that the test `above` of `lp` decides it.
-use mathlib.Core.Path.{_≡_, refl, sym, _∙_, ap, ap₂, subst}
+use mathlib.Core.Path.{_≡_, refl, sym, _∙_, ap, subst}
 use mathlib.Core.List.{List, [], _∷_}
 use mathlib.Core.Bool.{Bool, true, false, not}
 use mathlib.Core.Logic.{_⊎_, inl, inr}
@@ -7,7 +7,7 @@ use lib.Dec.{T}
 use lib.IntN.{ℤ, pos, negℤ, _+ℤ_, _*ℤ_, +ℤ-idl, *ℤ-zero, zero-*ℤ, negℤ-negℤ}
 use lib.Signed.{ltZ, ltZ-yes, ltZ-no, clashℤ}
 use Rattle.ints.specs.Order.{_≤ᶻ_, _<ᶻ_}
-use Rattle.ints.proofs.Ring.{_⊕_, _⊗_, ⊝_, _≐_, con}
+use Rattle.ints.proofs.Ring.{_⊕_, _⊗_, ⊝_, _≐_}
 use Rattle.ints.proofs.Order.{Sign, minus, nought, plus, sign, pos-nn, pos-mul, pos-add-nn, nn-add-pos, pos-cancel, zero-cancel, antisymmetric, neg-pos, pos-neg, nn-zero, lt-le, le-of-eq}
 use Rattle.lp.specs.declared.Functional.{Functional}
 use Rattle.lp.specs.declared.Ray.{Ray}
@@ -15,7 +15,7 @@ use Rattle.lp.specs.Program.{along}
 use Rattle.lp.specs.Outcome.{above}
 use Rattle.theory.proofs.Solver.{equal, F, R, Z, alongᵖ}
 use Rattle.theory.proofs.Direction as Direction
-use Rattle.theory.proofs.Direction.{Upward, Null, times, opposite}
+use Rattle.theory.proofs.Direction.{Upward, Null, along-null, times, opposite}
 
 -- the first functional that is not 0 along d is positive, if there is one
 abbrev pub Up : List Functional → Ray → Type 0
@@ -82,7 +82,7 @@ up-both (f ∷ fs) d (inr p) (inr q) = (p .0, up-both fs d (p .1) (q .1))
 pub up-null : (fs : List Functional) (d : Ray) → Null d → Up fs d
 up-null [] d n = tt
 up-null (f ∷ fs) d n =
-    inr (ap₂ (λ x y. f .p *ℤ x +ℤ f .q *ℤ y) (n .no-dx) (n .no-dy) ∙ equal (F ∷ []) (λ f. f .p ⊗ con (pos 0) ⊕ f .q ⊗ con (pos 0) ≐ con (pos 0)) refl f, up-null fs d n)
+    inr (along-null f d n, up-null fs d n)
 
 -- functionals that are all 0 along nothing but 0 make an order
 pub lexicographic : (fs : List Functional) → ((d : Ray) → Level fs d → Null d) → Upward (Up fs)

@@ -9,6 +9,7 @@ pub mod Line
 pub mod Step
 pub mod Farkas
 pub mod Cone
+pub mod Slopes
 pub mod Tightest
 pub mod Reduction
 pub mod Vertex

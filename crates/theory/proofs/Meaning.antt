@@ -7,14 +7,10 @@ use mathlib.Core.Logic.{⊎-elim}
 use Prim.Native.Nat.{ℕ, _+_, _<_}
 use native.Mathlib.Omega.{arith}
 use lib.Dec.{T}
-use lib.IntN.{ℤ, pos, _+ℤ_, _*ℤ_, +ℤ-idr}
-use lib.Signed.{leZ, quotZ, leZ-yes, ≤ℤ-refl, clashℤ}
+use lib.IntN.{ℤ, pos}
+use lib.Signed.{leZ, leZ-yes, ≤ℤ-refl, clashℤ}
 use Rattle.ints.specs.Order.{_≤ᶻ_}
-use Rattle.ints.specs.Gcd.{gcd2}
-use Rattle.ints.proofs.Ring.{_⊕_, _⊗_, ⊝_, _≐_}
-use Rattle.ints.proofs.Order.{antisymmetric, nn-neg, le-of-eq}
-use Rattle.ints.proofs.Gcd.{gcd2-pos}
-use Rattle.ints.proofs.Reduced.{SamePair, reduce2-same}
+use Rattle.ints.proofs.Order.{antisymmetric}
 use Rattle.lp.specs.declared.Constraint.{Constraint}
 use Rattle.lp.specs.declared.Functional.{Functional}
 use Rattle.lp.specs.declared.Floors.{Floors}
@@ -25,7 +21,7 @@ use Rattle.lp.specs.declared.Outcome.{Outcome}
 use Rattle.lp.specs.declared.Outcome.the-variants as outcome
 use Rattle.lp.specs.Program.{Feasible, along, floorX, floorY, system}
 use Rattle.lp.specs.Textbook.{Infeasible}
-use Rattle.lp.specs.Outcome.{cross, reduceRay, tieOrder, gainOrder}
+use Rattle.lp.specs.Outcome.{reduceRay, tieOrder, gainOrder}
 use Rattle.lp.specs.Outcome as defined
 use Rattle.lp.specs.Prefixes.{one-if}
 use Rattle.lp.specs.Document.{same, count, AlikeInRules}
@@ -35,11 +31,11 @@ use Rattle.model.specs.declared.Best.the-variants as best
 use Rattle.model.specs.declared.State.{State}
 use Rattle.model.specs.declared.State.the-variants.{Ended, Going}
 use Rattle.model.specs.Step.{begin, walk, said, saidRay}
-use Rattle.theory.proofs.Solver.{equal, nn-by, R, crossᵖ}
 use Rattle.theory.proofs.Lists.{and-left, and-right, and-both, for-members}
-use Rattle.theory.proofs.Direction.{Upward, ray-path, at-most-both}
+use Rattle.theory.proofs.Direction.{Upward, at-most-both}
 use Rattle.theory.proofs.Lexicographic.{Up}
-use Rattle.theory.proofs.Cone.{Recedes, Forward, Candidate, Flattest}
+use Rattle.theory.proofs.Cone.{Recedes, Candidate, Flattest}
+use Rattle.theory.proofs.Slopes.{same-slope}
 use Rattle.theory.proofs.Reduction.{lowest-unique}
 use Rattle.theory.proofs.Vertex.{vertex-grows, vertex-lowest}
 use Rattle.theory.proofs.Ties.{GoodTie, tie-upward, gain-upward}
@@ -78,20 +74,8 @@ module _ (t : Tie) (good : GoodTie t) (f : Functional) (S : List Constraint) whe
 
   -- and one flattest ray, up to a factor
   pub flattest-unique : (d e : Ray) → Flattest S f d → Flattest S f e → reduceRay d ≡ reduceRay e
-  flattest-unique d e p q = ray-path (agree .first) (agree .second)
-    where
-      level : cross d e ≡ pos 0
-      level =
-          antisymmetric (nn-neg (nn-by (R ∷ R ∷ []) (λ d e. ⊝ crossᵖ d e ≐ crossᵖ e d) refl d e (q .flattest d (p .recedes) (p .candidate) (p .gains)))) (p .flattest e (q .recedes) (q .candidate) (q .gains))
-
-      not-null : (y : Ray) → Forward y → y .dx ≡ pos 0 → y .dy ≡ pos 0 → ⊥
-      not-null y h a b = clashℤ (h .size) (le-of-eq (ap₂ (λ s t. s +ℤ t) a b))
-
-      agree : SamePair (quotZ (d .dx) (pos (gcd2 (d .dx) (d .dy)))) (quotZ (d .dy) (pos (gcd2 (d .dx) (d .dy)))) (quotZ (e .dx) (pos (gcd2 (e .dx) (e .dy)))) (quotZ (e .dy) (pos (gcd2 (e .dx) (e .dy))))
-      agree =
-          reduce2-same (d .dx) (d .dy) (e .dx) (e .dy) (p .forward .nn-dx) (p .forward .nn-dy) (q .forward .nn-dx) (q .forward .nn-dy)
-          (equal (R ∷ R ∷ []) (λ d e. d .dx ⊗ e .dy ≐ e .dx ⊗ d .dy ⊕ crossᵖ d e) refl d e ∙ ap (λ z. e .dx *ℤ d .dy +ℤ z) level ∙ +ℤ-idr (e .dx *ℤ d .dy))
-          (gcd2-pos (d .dx) (d .dy) (not-null d (p .forward))) (gcd2-pos (e .dx) (e .dy) (not-null e (q .forward)))
+  flattest-unique d e p q =
+      same-slope d e (p .forward) (q .forward) (p .flattest e (q .recedes) (q .candidate) (q .gains)) (q .flattest d (p .recedes) (p .candidate) (p .gains))
 
   pub meaning-unique : (o p : Outcome) → Means t f S o → Means t f S p → o ≡ p
   meaning-unique outcome.Infeasible outcome.Infeasible m n = refl

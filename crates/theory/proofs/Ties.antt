@@ -8,15 +8,15 @@ use lib.Signed.{clashℤ, ltZ-yes}
 use Rattle.ints.specs.Order.{_≤ᶻ_, _<ᶻ_}
 use Rattle.ints.proofs.Laws.{neg-mul}
 use Rattle.ints.proofs.Ring.{_⊕_, _⊖_, _⊗_, ⊝_, _≐_, con}
-use Rattle.ints.proofs.Order.{Sign, minus, nought, plus, sign, pos-nat, pos-add-nn, nn-add-pos, nn-add, nn-zero, nn-neg, neg-nn, neg-pos, pos-neg, le-or-lt, le-of-eq, antisymmetric, zero-cancel}
+use Rattle.ints.proofs.Order.{Sign, minus, nought, plus, sign, pos-nat, pos-add-nn, nn-add-pos, nn-zero, neg-pos, pos-neg, le-or-lt, le-of-eq, zero-cancel}
 use Rattle.lp.specs.declared.Functional.{Functional}
 use Rattle.lp.specs.declared.Ray.{Ray}
 use Rattle.lp.specs.declared.Tie.{Tie}
 use Rattle.lp.specs.Program.{functional, along}
 use Rattle.lp.specs.Outcome.{tieOrder, gainOrder}
 use Rattle.lp.specs.Document.{leastXThenY}
-use Rattle.theory.proofs.Solver.{equal, nn-by, F, R, alongᵖ}
-use Rattle.theory.proofs.Direction.{Upward, Null, opposite}
+use Rattle.theory.proofs.Solver.{equal, F, R, alongᵖ}
+use Rattle.theory.proofs.Direction.{Upward, Null, null-of-size, along-null, opposite}
 use Rattle.theory.proofs.Lexicographic.{Up, lexicographic, along-opposite}
 
 pub record GoodTie (t : Tie) : Type 0 where
@@ -61,23 +61,16 @@ module _ (t : Tie) (good : GoodTie t) where
   pub tie-falls : (d : Ray) → pos 0 ≤ᶻ d .dx → pos 0 ≤ᶻ d .dy → Up (tieOrder t) (opposite d)
   tie-falls d hx hy = go (le-or-lt (d .dx +ℤ d .dy) (pos 0))
     where
-      null-level : Null d → (f : Functional) → along f d ≡ pos 0
-      null-level n f = ap₂ (λ x y. f .p *ℤ x +ℤ f .q *ℤ y) (n .no-dx) (n .no-dy) ∙ equal (F ∷ []) (λ f. f .p ⊗ con (pos 0) ⊕ f .q ⊗ con (pos 0) ≐ con (pos 0)) refl f
-
       down : (along (t .first) d <ᶻ pos 0) ⊎ ((along (t .first) d ≡ pos 0) × (along (t .second) d <ᶻ pos 0)) → Up (tieOrder t) (opposite d)
       down (inl h) = inl (negative-up (t .first) d h)
       down (inr h) = inr (level-up (t .first) d (h .0), inl (negative-up (t .second) d (h .1)))
 
       null : d .dx +ℤ d .dy ≤ᶻ pos 0 → Null d
-      null z =
-          record {
-            no-dx = antisymmetric (nn-neg (nn-by (R ∷ []) (λ d. ⊝ d .dx ≐ ⊝ (d .dx ⊕ d .dy) ⊕ d .dy) refl d (nn-add (neg-nn z) hy))) hx;
-            no-dy = antisymmetric (nn-neg (nn-by (R ∷ []) (λ d. ⊝ d .dy ≐ ⊝ (d .dx ⊕ d .dy) ⊕ d .dx) refl d (nn-add (neg-nn z) hx))) hy;
-          }
+      null z = null-of-size d hx hy z
 
       go : (d .dx +ℤ d .dy ≤ᶻ pos 0) ⊎ (pos 0 <ᶻ d .dx +ℤ d .dy) → Up (tieOrder t) (opposite d)
       go (inl z) =
-          inr (level-up (t .first) d (null-level (null z) (t .first)), inr (level-up (t .second) d (null-level (null z) (t .second)), tt))
+          inr (level-up (t .first) d (along-null (t .first) d (null z)), inr (level-up (t .second) d (along-null (t .second) d (null z)), tt))
       go (inr s) =
           down (good .falls d hx hy (λ n. clashℤ s (le-of-eq (ap₂ (λ x y. x +ℤ y) (n .no-dx) (n .no-dy)))))
 
