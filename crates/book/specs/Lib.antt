@@ -1,0 +1,7 @@
+-- The definitions of this crate.
+pub mod Layout
+pub mod Number
+pub mod Record
+pub mod Reading
+pub mod Repacking
+pub mod Answers
