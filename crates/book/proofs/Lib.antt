@@ -1,2 +1,4 @@
 -- The laws of this crate.
 pub mod Numbers
+pub mod Checks
+pub mod Fields

@@ -1,16 +1,17 @@
 -- Numbers as bytes: what stands at an offset, bounds, and that writing and reading undo one another.
-use Prim.Native.Nat.{ℕ, zero, suc, _+_, _-_, _*_, _/_, _%_, _^_, _≤_, _<_}
+use Prim.Native.Nat.{ℕ, zero, suc, _+_, _-_, _*_, _/_, _%_, _^_, _≤_, _<_, suc-le-suc}
 use mathlib.Core.Path.{_≡_, refl, sym, ap, _∙_}
-use mathlib.Core.Bool.{true}
+use mathlib.Core.Bool.{true, false}
 use mathlib.Core.List.{List, [], _∷_, _++_}
 use native.Mathlib.Omega.{arith}
 use native.Mathlib.Numerals.{add-one, add-two, add-three}
-use borrow.Author.Tests.{lt-ltb, le-ltb}
+use borrow.Author.Tests.{lt-ltb, le-ltb, ltb-false}
 use lib.ListN.{getD, drop, take, length}
+use lib.Dec.{lit<}
 use lib.Seq.{drop-drop}
-use native.Mathlib.Nat.{lt-of-lt-of-le, not-suc-le-zero, le-of-suc-le-suc}
-use lib.IntN.{ℤ, pos, negsuc, subℕ, _-ℤ_}
-use lib.Signed.{mag}
+use native.Mathlib.Nat.{lt-of-lt-of-le, lt-of-le-of-lt, le-suc, not-suc-le-zero, le-of-suc-le-suc}
+use lib.IntN.{ℤ, pos, negsuc, negℤ, _-ℤ_, +ℤ-idl}
+use lib.Signed.{mag, ltZ}
 use mir.Syntax.{Width, w16, w32, w64}
 use mir.Val.{toZ, SFits, bits, hbits, Fits}
 use mir.ValLaws.{toZ-pos, toZ-fits}
@@ -62,6 +63,15 @@ signed-high w f b e h l k =
 
 pub signed-wide : (w : Width) (b : ℕ) → Fits w b → 2 ^ hbits w ≤ 2 ^ 63 → SFits w64 (toZ w b)
 signed-wide w b f k = record { sfits = lt-of-lt-of-le (toZ-fits w b f .sfits) k }
+
+-- a number that is not below −1,000,000,000 can be turned round
+pub neg-fits : (z : ℤ) → SFits w64 z → ltZ z (negsuc 999999999) ≡ false → SFits w64 (pos 0 -ℤ z)
+neg-fits z f h = rw +ℤ-idl (go z f h)
+  where
+    go : (z : ℤ) → SFits w64 z → ltZ z (negsuc 999999999) ≡ false → SFits w64 (negℤ z)
+    go (pos zero) f h = f
+    go (pos (suc n)) f h = record { sfits = lt-of-le-of-lt (le-suc n) (f .sfits) }
+    go (negsuc n) f h = record { sfits = lt-of-le-of-lt (suc-le-suc (ltb-false 999999999 n h)) (lit< tt) }
 
 -- ---- a field of a record: the first bytes of a part are the whole's
 
