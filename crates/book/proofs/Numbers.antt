@@ -44,13 +44,14 @@ two-bytes s at =
 pub four-bytes : (s : List ℕ) (at : ℕ) → getD s at 0 + 256 * (getD s (at + 1) 0 + 256 * (getD s (at + 2) 0 + 256 * getD s (at + 3) 0)) ≡ number 4 (drop at s)
 four-bytes s at =
     rw (add-one, add-two, add-three)
-    (omega
-    (arith
-    , number-step 3 at s
-    , number-step 2 (suc at) s
-    , number-step 1 (suc (suc at)) s
-    , number-step 0 (suc (suc (suc at))) s
-    , number-none (drop (suc (suc (suc (suc at)))) s)))
+    (omega (
+      arith,
+      number-step 3 at s,
+      number-step 2 (suc at) s,
+      number-step 1 (suc (suc at)) s,
+      number-step 0 (suc (suc (suc at))) s,
+      number-none (drop (suc (suc (suc (suc at)))) s),
+    ))
 
 -- ---- signed numbers: w bits as 64 have them
 

@@ -4,10 +4,10 @@
 use Prim.Native.Nat.{ℕ, _+_}
 
 pub record Layout : Type 0 where
-  pub link : ℕ       -- how many bytes a link has
-  pub pad : ℕ        -- how many bytes of padding follow the kind
-  pub version : ℕ    -- what the header has in the place of a kind
-  pub records : ℕ    -- how many records a book has at most, the header among them
+  pub link : ℕ  -- how many bytes a link has
+  pub pad : ℕ  -- how many bytes of padding follow the kind
+  pub version : ℕ  -- what the header has in the place of a kind
+  pub records : ℕ  -- how many records a book has at most, the header among them
 
 module _ (L : Layout) where
   -- where each field starts in its record, after the link at 0; last, where the record ends

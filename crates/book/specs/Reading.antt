@@ -18,7 +18,7 @@ pub record Entry : Type 0 where
   pub rule : Rule
 
 pub data Reading : Type 0 where
-  refused : ℕ → ℕ → Reading                  -- the cause's number, and the record that it names
+  refused : ℕ → ℕ → Reading  -- the cause's number, and the record that it names
   accepted : Functional → List Entry → Reading
 
 module _ (L : Layout) (s : List ℕ) where

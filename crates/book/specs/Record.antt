@@ -46,12 +46,12 @@ module _ (L : Layout) where
   -- a rule record's rule, as written
   abbrev pub ruleOf : List ℕ → Rule
   ruleOf r =
-      record
-      { kind = kindOf r
-      ; a = toZ w16 (aOf r)
-      ; b = toZ w16 (bOf r)
-      ; c = toZ w32 (cOf r)
-      ; label = labelOf r
+      record {
+        kind = kindOf r;
+        a = toZ w16 (aOf r);
+        b = toZ w16 (bOf r);
+        c = toZ w32 (cOf r);
+        label = labelOf r;
       }
 
 -- −32,768, which a, b, p and q must not be; and beyond ±1,000,000,000, where c must not be

@@ -39,7 +39,11 @@ pub fn number4(s: &[u8], at: u32) -> u32
 pub fn signed16(bits: u16) -> i64
     ensures { λ r. ⌜ r ≡ toZ w16 bits ⌝ }
 {
-    if bits < 32768 { bits as i64 } else { bits as i64 - 65536 }
+    if bits < 32768 {
+        bits as i64
+    } else {
+        bits as i64 - 65536
+    }
 }
 
 // Thirty-two bits as a signed number in two's complement.

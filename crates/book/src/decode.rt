@@ -1,7 +1,7 @@
 // A rule record: its link, its check (the causes 8, 9 and 10), and a number of kind 2 turned round.
+use crate::Decoded;
+use crate::Rule;
 use crate::bytes::byte_at;
-use crate::{Decoded, Rule};
-
 ghost use mathlib.Core.Path.{_≡_};
 ghost use mathlib.Core.Bool.{true};
 ghost use Rattle.book.specs.Layout.{v1};
@@ -18,7 +18,7 @@ pub fn link_at(book: &[u8], index: u16) -> u16
 }
 
 // -32,768, which no number of sixteen bits of a book may be.
-fn lowest(x: i64) -> bool
+pub fn lowest(x: i64) -> bool
     ensures { λ r. ⌜ r ≡ spec.lowest x ⌝ }
 {
     x < -32767

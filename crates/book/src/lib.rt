@@ -2,10 +2,15 @@
 // outside is total: it takes any bytes and answers.
 mod bytes;
 mod decode;
+mod header;
 
-use bytes::{byte_at, number2, number4, signed16, signed32};
-use lp::{Constraint, Functional};
-
+use bytes::byte_at;
+use bytes::number2;
+use bytes::number4;
+use bytes::signed16;
+use bytes::signed32;
+use lp::Constraint;
+use lp::Functional;
 ghost use mathlib.Core.Path.{_≡_};
 ghost use Rattle.book.specs.Answers.{RuleAt, constraintOf};
 
