@@ -1,7 +1,8 @@
 -- The check of a rule, test by test, as the code goes through them.
 use Prim.Native.Nat.{ℕ, zero, suc, _≤_, _<_}
 use mathlib.Core.Path.{_≡_, refl, _∙_}
-use mathlib.Core.Bool.{Bool, true, false, _||_, _&&_}
+use mathlib.Core.Bool.{Bool, true, false, cond, _||_, _&&_}
+use mathlib.Core.List.{List}
 use native.Mathlib.Omega.{arith}
 use borrow.Author.Tests.{eq-eqb, ne-eqb}
 use lib.Dec.{eqb}
@@ -9,7 +10,8 @@ use lib.IntN.{ℤ}
 use Rattle.lp.specs.declared.Constraint.{Constraint}
 use Rattle.book.specs.declared.Rule.{Rule}
 use Rattle.book.specs.declared.Decoded.the-variants.{Sound, Kind, Slope, Bound}
-use Rattle.book.specs.Record.{checked, lowest, beyond}
+use Rattle.book.specs.Layout.{Layout}
+use Rattle.book.specs.Record.{checked, decodedOf, ruleOf, linkOf, padOf, badKind, badSlope, badBound, lowest, beyond}
 use Rattle.book.specs.Answers.{constraintOf, turned}
 
 one-or-two : (k : ℕ) → (k ≡ 0 → ⊥) → k ≤ 2 → (eqb k 1 || eqb k 2) && true ≡ true
@@ -43,6 +45,18 @@ module _ (r : Rule) (next : ℕ) where
     pub sound : lowest (r .a) ≡ false → lowest (r .b) ≡ false → beyond (r .c) ≡ false → Sound r next ≡ checked true r next
     unfolding checked
     sound a b c = rw (one-or-two (r .kind) h l, a, b, c)
+
+-- ---- what a sound record holds
+
+chosen : (x y z : Bool) (r r′ : Rule) (i i′ : ℕ) → cond x Kind (cond y Slope (cond z Bound (Sound r i))) ≡ Sound r′ i′ → (r′ ≡ r) × (i′ ≡ i)
+chosen true y z r r′ i i′ e = absurd (let n : _≡_ {A = ℕ} 0 1 = cc in let b : ⊥ = omega arith in b)
+chosen false true z r r′ i i′ e = absurd (let n : _≡_ {A = ℕ} 0 1 = cc in let b : ⊥ = omega arith in b)
+chosen false false true r r′ i i′ e = absurd (let n : _≡_ {A = ℕ} 0 1 = cc in let b : ⊥ = omega arith in b)
+chosen false false false r r′ i i′ e = (cc, cc)
+
+pub sound-holds : (L : Layout) (t : List ℕ) (r : Rule) (i : ℕ) → decodedOf L t ≡ Sound r i → (r ≡ ruleOf L t) × (i ≡ linkOf L t)
+unfolding decodedOf checked
+sound-holds L t r i e = chosen (badKind (eqb (padOf L t) 0) (ruleOf L t)) (badSlope (ruleOf L t)) (badBound (ruleOf L t)) (ruleOf L t) r (linkOf L t) i e
 
 -- ---- a rule as it is planned
 

@@ -3,3 +3,6 @@ pub mod Numbers
 pub mod Checks
 pub mod Fields
 pub mod HeaderTests
+pub mod Walking
+pub mod Decided
+pub mod Causes

@@ -5,3 +5,4 @@ pub mod Record
 pub mod Reading
 pub mod Repacking
 pub mod Answers
+pub mod Causes

@@ -61,13 +61,19 @@ lowest z = ltZ z (negsuc 32766)
 abbrev pub beyond : ℤ → Bool
 beyond z = ltZ z (negsuc 999999999) || ltZ (pos 1000000000) z
 
--- a rule with its link, from a record whose padding is zero or not: sound, or what refuses it first: kind (or padding), a or b, c
+-- causes 8, 9 and 10; `clear` says that the record's padding is zero
+abbrev pub badKind : Bool → Rule → Bool
+badKind clear r = not ((eqb (r .kind) 1 || eqb (r .kind) 2) && clear)
+
+abbrev pub badSlope : Rule → Bool
+badSlope r = lowest (r .a) || lowest (r .b)
+
+abbrev pub badBound : Rule → Bool
+badBound r = beyond (r .c)
+
+-- a rule with its link: sound, or what refuses it first
 unfoldable pub checked : Bool → Rule → ℕ → Decoded
-checked clear r next =
-    cond (not ((eqb (r .kind) 1 || eqb (r .kind) 2) && clear)) Kind
-    (cond (lowest (r .a) || lowest (r .b)) Slope
-    (cond (beyond (r .c)) Bound
-    (Sound r next)))
+checked clear r next = cond (badKind clear r) Kind (cond (badSlope r) Slope (cond (badBound r) Bound (Sound r next)))
 
 unfoldable pub decodedOf : Layout → List ℕ → Decoded
 decodedOf L r = checked (eqb (padOf L r) 0) (ruleOf L r) (linkOf L r)

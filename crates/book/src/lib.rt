@@ -3,16 +3,20 @@
 mod bytes;
 mod decode;
 mod header;
+mod links;
 
 use bytes::byte_at;
 use bytes::number2;
 use bytes::number4;
 use bytes::signed16;
 use bytes::signed32;
+use header::header_fault;
+use links::refused;
+use links::walk;
 use lp::Constraint;
 use lp::Functional;
 ghost use mathlib.Core.Path.{_≡_};
-ghost use Rattle.book.specs.Answers.{RuleAt, constraintOf};
+ghost use Rattle.book.specs.Answers.{Reads, RuleAt, constraintOf};
 
 // A rule as its record has it, kind 2 not turned round.
 pub struct Rule {
@@ -46,6 +50,18 @@ pub struct Repacked {
     pub number: u8,
     pub at: u16,
     pub filled: usize,
+}
+
+// What a book reads as.
+pub fn read(book: &[u8]) -> Chain
+    ensures { λ r. ⌜ Reads (now (book .entry)) r ⌝ }
+{
+    let fault = header_fault(book);
+    if fault == 0 {
+        walk(book)
+    } else {
+        refused(fault, 0)
+    }
 }
 
 // The rule of a record, whether the record is on the chain or not.
