@@ -6,3 +6,4 @@ pub mod HeaderTests
 pub mod Walking
 pub mod Decided
 pub mod Causes
+pub mod Packed

@@ -1,5 +1,5 @@
 -- The answers of the code for each thing defined, and what each public function promises. Whatever an answer does not use is zero.
-use Prim.Native.Nat.{ℕ, _-_}
+use Prim.Native.Nat.{ℕ, _+_, _-_, _*_, _≤_}
 use mathlib.Core.Path.{_≡_}
 use mathlib.Core.Bool.{cond}
 use mathlib.Core.List.{List, [], _∷_, _++_, map}
@@ -50,6 +50,15 @@ constraintOf r =
     cond (eqb (r .kind) 2)
     (record { a = turned (r .a); b = turned (r .b); c = turned (r .c) })
     (record { a = r .a; b = r .b; c = r .c })
+
+-- the rules of some records
+abbrev pub rulesAt : List ℕ → List ℕ → List Rule
+rulesAt s is = map (λ (i : ℕ). ruleOf v1 (recordAt v1 s i)) is
+
+-- an output with room for n rules
+pub record Room (n : ℕ) (out : List ℕ) : Type 0 where
+  pub few : n ≤ 255
+  pub room : 12 * (n + 1) ≤ length out
 
 -- the promises
 pub record Reads (s : List ℕ) (r : Chain) : Type 0 where

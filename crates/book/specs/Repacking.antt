@@ -17,7 +17,8 @@ module _ (L : Layout) where
   -- a record's bytes, from its fields as unsigned numbers
   unfoldable pub recordBytes : (link kind a b label c : ℕ) → List ℕ
   recordBytes link kind a b label c =
-      bytesOf (L .link) link ++ bytesOf 1 kind ++ bytesOf (L .pad) 0 ++ bytesOf 2 a ++ bytesOf 2 b ++ bytesOf 2 label ++ bytesOf 4 c
+      bytesOf (L .link) link
+      ++ (bytesOf 1 kind ++ (bytesOf (L .pad) 0 ++ (bytesOf 2 a ++ (bytesOf 2 b ++ (bytesOf 2 label ++ bytesOf 4 c)))))
 
   abbrev pub headerBytes : ℕ → Functional → ℕ → List ℕ
   headerBytes first o n = recordBytes first (L .version) (ofZ w16 (o .p)) (ofZ w16 (o .q)) n 0

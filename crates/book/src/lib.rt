@@ -4,6 +4,7 @@ mod bytes;
 mod decode;
 mod header;
 mod links;
+mod pack;
 
 use bytes::byte_at;
 use bytes::number2;
@@ -13,10 +14,14 @@ use bytes::signed32;
 use header::header_fault;
 use links::refused;
 use links::walk;
+use pack::header_bytes;
+use pack::next_of;
+use pack::put_rules;
+use pack::store;
 use lp::Constraint;
 use lp::Functional;
 ghost use mathlib.Core.Path.{_≡_};
-ghost use Rattle.book.specs.Answers.{Reads, RuleAt, constraintOf};
+ghost use Rattle.book.specs.Answers.{Reads, Repacks, RuleAt, constraintOf};
 
 // A rule as its record has it, kind 2 not turned round.
 pub struct Rule {
@@ -95,5 +100,38 @@ pub fn constraint(rule: Rule) -> Constraint
             b: rule.b,
             c: rule.c,
         }
+    }
+}
+
+// The repacked form of a book, into the output. A book that is turned back, or an output without room, leaves the output as it was.
+pub fn repack(book: &[u8], out: &mut [u8]) -> Repacked
+    ensures { λ r. ⌜ Repacks (now (book .entry)) (now (out .entry)) r (now (out .exit)) ⌝ }
+{
+    let chain = read(book);
+    let number = chain.number;
+    if number != 0 {
+        return Repacked {
+            number,
+            at: chain.at,
+            filled: 0,
+        };
+    }
+    let n = chain.n;
+    let filled = 12 * (n + 1);
+    if out.len() < filled {
+        return Repacked {
+            number: 11,
+            at: 0,
+            filled: 0,
+        };
+    }
+    let header = header_bytes(book, next_of(0, n) as u8, n as u16);
+    store(&mut *out, 0, header);
+    let records = chain.records;
+    put_rules(book, &mut *out, records, n);
+    Repacked {
+        number: 0,
+        at: 0,
+        filled,
     }
 }
