@@ -154,11 +154,11 @@ module _ (L : Layout) (s : List ℕ) where
       let rest = walked-marks w in
       (set (rest .0) i true, marked-step (rest .1) i (omega arith) h m)
 
-  walked-count : {done : List ℕ} {at : ℕ} → Walked L s done at → countOf L s < L .records
+  pub walked-count : {done : List ℕ} {at : ℕ} → Walked L s done at → countOf L s < L .records
   walked-count (header a b c d f) = count-below a c
   walked-count (visit w i e z h m ka kb kc) = walked-count w
 
-  walked-length : {done : List ℕ} {at : ℕ} → Walked L s done at → length done ≤ countOf L s
+  pub walked-length : {done : List ℕ} {at : ℕ} → Walked L s done at → length done ≤ countOf L s
   walked-length w = omega (arith, walked-marks w .1 .counted)
 
   -- what the walk comes to, from where it was walked to

@@ -7,3 +7,4 @@ pub mod Walking
 pub mod Decided
 pub mod Causes
 pub mod Packed
+pub mod Output

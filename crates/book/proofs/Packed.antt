@@ -84,7 +84,7 @@ paste-next d t b a j m ha hj e =
     let front : take (a + j) P ≡ take a d ++ take j t = take-paste d a t j ha hj in
     let n : a + j + m ≡ a + (j + m) = omega arith in
     let back : drop (a + j + m) P ≡ drop (a + (j + m)) d =
-      sym (drop-drop m (a + j) P) ∙ ap (drop m) (drop-paste d a t j ha hj) ∙ drop-drop m (a + j) d ∙ ap (λ k. drop k d) n in
+    sym (drop-drop m (a + j) P) ∙ ap (drop m) (drop-paste d a t j ha hj) ∙ drop-drop m (a + j) d ∙ ap (λ k. drop k d) n in
     (λ i. front i ++ e i ++ back i)
     ∙ ap (λ l. l ++ drop (a + (j + m)) d) (append-assoc (take a d) (take j t) (take m (drop j t)) ∙ ap (λ l. take a d ++ l) (sym (take-add j m t)))
 

@@ -14,12 +14,12 @@ use bytes::signed32;
 use header::header_fault;
 use links::refused;
 use links::walk;
+use lp::Constraint;
+use lp::Functional;
 use pack::header_bytes;
 use pack::next_of;
 use pack::put_rules;
 use pack::store;
-use lp::Constraint;
-use lp::Functional;
 ghost use mathlib.Core.Path.{_≡_};
 ghost use Rattle.book.specs.Answers.{Reads, Repacks, RuleAt, constraintOf};
 

@@ -1,6 +1,7 @@
 // The repacked form: records written in chain order.
-use crate::bytes::{byte_at, number2, number4};
-
+use crate::bytes::byte_at;
+use crate::bytes::number2;
+use crate::bytes::number4;
 ghost use mathlib.Core.Path.{_≡_};
 ghost use mathlib.Core.Bool.{cond};
 ghost use mathlib.Core.List.{_++_, map};

@@ -84,15 +84,16 @@ loop-again c =
     let few : a .n ≤ length (a .t3) = omega arith in
     let long : 12 * l .k ≤ length T = omega (arith, length-chainBytes v1 1 (rulesAt (a .book .now) (take (a .n) (a .t3))), length-rules (a .book .now) (a .t3) (a .n) few) in
     let next : 12 * l .k + 12 ≡ 12 * (l .k + 1) = omega arith in
-    let copied = rule-copied (a .book .now) (a .t3) (c .before .before .before .before .rule-bytes .result) (a .n) (l .k) (c .before .before .before .before .before .next-of .result) (c .before .before .before .before .before .before .loop-test .taken) few (c .before .before .before .before .before .next-of .ensures) (c .before .before .before .before .rule-bytes .ensures) in
-    ( omega arith
-    , c .before .before .store .ensures
-      ∙ ap (λ o. paste o (12 + 12 * l .k) (c .before .before .before .before .rule-bytes .result) 12) (l .inv .1)
-      ∙ paste-next (a .out .now) T (c .before .before .before .before .rule-bytes .result) 12 (12 * l .k) 12 (omega arith) long copied
-      ∙ ap (paste (a .out .now) 12 T) next
-    , c .before .before .store .kept .0 ∙ l .inv .2
-    , l .inv .3
-    , l .inv .4)
+    let copied = rule-copied (a .book .now) (a .t3) (c .before .before .before .before .rule-bytes .result) (a .n) (l .k) (c .before .before .before .before .before .next-of .result) (c .before .before .before .before .before .before .loop-test .taken) few (c .before .before .before .before .before .next-of .ensures) (c .before .before .before .before .rule-bytes .ensures) in (
+      omega arith,
+      c .before .before .store .ensures
+          ∙ ap (λ o. paste o (12 + 12 * l .k) (c .before .before .before .before .rule-bytes .result) 12) (l .inv .1)
+          ∙ paste-next (a .out .now) T (c .before .before .before .before .rule-bytes .result) 12 (12 * l .k) 12 (omega arith) long copied
+          ∙ ap (paste (a .out .now) 12 T) next,
+      c .before .before .store .kept .0 ∙ l .inv .2,
+      l .inv .3,
+      l .inv .4,
+    )
 
 -- src/pack.rt:80:1
 same-length : tie.Need-same-length Inv-loop μ-loop
