@@ -8,3 +8,5 @@ pub mod Decided
 pub mod Causes
 pub mod Packed
 pub mod Output
+pub mod Spare
+pub mod Bounds

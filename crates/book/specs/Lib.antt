@@ -6,3 +6,5 @@ pub mod Reading
 pub mod Repacking
 pub mod Answers
 pub mod Causes
+pub mod Spare
+pub mod Lawful
