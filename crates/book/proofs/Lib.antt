@@ -10,3 +10,4 @@ pub mod Packed
 pub mod Output
 pub mod Spare
 pub mod Bounds
+pub mod Readback

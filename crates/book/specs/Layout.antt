@@ -1,7 +1,7 @@
 -- The layout of a record: document 01's table of bytes, as one parameter of the format. A record is its fields one after the other:
 -- link, kind (in the header: version), padding that must be zero, a (p), b (q), label (count), c (in the header: zero).
 -- Only what differs between versions of the format is a number here; the offsets follow from it, so that fields cannot overlap.
-use Prim.Native.Nat.{ℕ, _+_}
+use Prim.Native.Nat.{ℕ, _+_, _^_, _≤_, _<_}
 
 pub record Layout : Type 0 where
   pub link : ℕ  -- how many bytes a link has
@@ -35,3 +35,9 @@ module _ (L : Layout) where
 -- version 1: records of 12 bytes, at most 256 of them, 3,072 bytes
 abbrev pub v1 : Layout
 v1 = record { link = 1; pad = 0; version = 1; records = 256 }
+
+-- a layout whose links and count can say every index, and whose version is a byte
+pub record Usable (L : Layout) : Type 0 where
+  pub links : L .records ≤ 256 ^ L .link
+  pub counts : L .records ≤ 65536
+  pub versions : L .version < 256

@@ -40,6 +40,11 @@ module _ (L : Layout) where
   unfoldable pub bookOf : Functional → List Rule → List ℕ
   bookOf o rs = headerBytes L (nextOf 0 rs) o (length rs) ++ chainBytes 1 rs
 
+-- rules as the entries of records k, k + 1, ..
+abbrev pub numbered : ℕ → List Rule → List Entry
+numbered k [] = []
+numbered k (r ∷ rs) = record { index = k; rule = r } ∷ numbered (suc k) rs
+
 -- what repacking comes to: a number and a record, or the bytes
 pub data Packing : Type 0 where
   declined : ℕ → ℕ → Packing
