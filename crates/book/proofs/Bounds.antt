@@ -55,11 +55,11 @@ one-of k h = go (ℕ-discrete k 1) (ℕ-discrete k 2)
 module _ (L : Layout) where
   pub lawful-rule : (r : List ℕ) → (WrongKind L r → ⊥) → (WrongSlope L r → ⊥) → (WrongBound L r → ⊥) → LawfulRule (ruleOf L r)
   lawful-rule r k s b =
-      record
-      { kind = one-of (kindOf L r) (λ m n. k (neither m n))
-      ; a = sixteen (aOf L r) (λ e. s (a-lowest e))
-      ; b = sixteen (bOf L r) (λ e. s (b-lowest e))
-      ; c = within (ruleOf L r .c) (λ l. b (low l)) (λ h. b (high h))
+      record {
+        kind = one-of (kindOf L r) (λ m n. k (neither m n));
+        a = sixteen (aOf L r) (λ e. s (a-lowest e));
+        b = sixteen (bOf L r) (λ e. s (b-lowest e));
+        c = within (ruleOf L r .c) (λ l. b (low l)) (λ h. b (high h));
       }
 
 -- ---- each record of the chain

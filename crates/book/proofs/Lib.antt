@@ -11,3 +11,4 @@ pub mod Output
 pub mod Spare
 pub mod Bounds
 pub mod Readback
+pub mod RepackLaws

@@ -19,7 +19,7 @@ use Rattle.book.specs.Repacking.{headerBytes, nextOf, chainBytes, bookOf
 use Rattle.book.specs.Answers.{padded, indexIn, chainOf, repackedOf, outputOf, rulesAt, Repacks}
 use Rattle.book.specs.Causes.{Applies, cause-1, cause-2, cause-3, cause-4, cause-5, cause-6, cause-7, cause-8, cause-9, cause-10}
 use Rattle.book.proofs.Causes.{refusal-applies, acceptance-means, walked-length, walked-count}
-use Rattle.book.proofs.Packed.{length-recordBytes, length-chainBytes, next-is}
+use Rattle.book.proofs.Packed.{length-recordBytes, length-chainBytes, length-bookOf, next-is}
 
 -- a refusal's number is one of the table's
 number-some : {L : Layout} {s : List ℕ} {k i : ℕ} → Applies L s k i → k ≡ 0 → ⊥
@@ -108,10 +108,7 @@ module _ (s out : List ℕ) where
     rules-long = length-map (c .done) (λ (i : ℕ). ruleOf v1 (recordAt v1 s i)) ∙ sym (c .count)
 
     book-long : length (bookOf v1 (objectiveOf v1 s) (rulesAt s (c .done))) ≡ 12 * (ch .n + 1)
-    unfolding bookOf
-    book-long =
-        length-append (headerBytes v1 (nextOf 0 (rulesAt s (c .done))) (objectiveOf v1 s) (length (rulesAt s (c .done)))) (chainBytes v1 1 (rulesAt s (c .done)))
-        ∙ rw (length-recordBytes, length-chainBytes v1 1 (rulesAt s (c .done)), rules-long) (omega arith)
+    book-long = length-bookOf v1 (objectiveOf v1 s) (rulesAt s (c .done)) ∙ ap (λ n. 12 * (n + 1)) rules-long
 
     fits : 12 * (ch .n + 1) ≤ length out → packOf v1 (readOf v1 s) (length out) ≡ packed (bookOf v1 (objectiveOf v1 s) (rulesAt s (c .done)))
     unfolding packOf

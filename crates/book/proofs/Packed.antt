@@ -3,7 +3,7 @@ use Prim.Native.Nat.{ℕ, zero, suc, _+_, _-_, _*_, _/_, _%_, _^_, _≤_, _<_}
 use mathlib.Core.Path.{_≡_, refl, sym, ap, _∙_}
 use mathlib.Core.List.{List, [], _∷_, _++_}
 use native.Mathlib.Omega.{arith}
-use native.Mathlib.Nat.{zero-mul, suc-mul, add-zero, add-comm, mul-comm}
+use native.Mathlib.Nat.{zero-mul, suc-mul, add-zero, add-comm, mul-comm, mul-suc}
 use native.Mathlib.Numerals.{add-one, one-add}
 use mathlib.Core.Bool.{Bool, true, false, cond}
 use mathlib.Core.List.{append-assoc, map}
@@ -11,6 +11,7 @@ use borrow.Author.Tests.{lt-ltb, le-ltb, ltb-true}
 use lib.Dec.{ltb, leb·suc-suc}
 use lib.ListN.{length, take, drop, getD, length-append, length-map, length-take, List·getD-map}
 use lib.Seq.{take-at, drop-at, drop-drop, drop-append-add, take-add, take-take, take-paste, drop-paste, paste, getD-take, length-take-le}
+use Rattle.lp.specs.declared.Functional.{Functional}
 use Rattle.book.specs.declared.Rule.{Rule}
 use Rattle.book.specs.Record.{recordAt, ruleOf}
 use Rattle.book.specs.Answers.{rulesAt}
@@ -50,6 +51,13 @@ module _ (L : Layout) where
   length-chainBytes k (r ∷ rs) =
       length-append (ruleBytes L (nextOf k rs) r) (chainBytes L (suc k) rs)
       ∙ rw (length-recordBytes, length-chainBytes (suc k) rs, suc-mul) (add-comm (width L) (length rs * width L))
+
+  pub length-bookOf : (o : Functional) (rs : List Rule) → length (bookOf L o rs) ≡ width L * (length rs + 1)
+  unfolding bookOf
+  length-bookOf o rs =
+      length-append (headerBytes L (nextOf 0 rs) o (length rs)) (chainBytes L 1 rs)
+      ∙ rw (length-recordBytes, length-chainBytes 1 rs)
+      (sym (ap (λ m. width L * m) (add-one (length rs)) ∙ mul-suc (width L) (length rs) ∙ add-comm (width L * length rs) (width L) ∙ ap (λ x. width L + x) (mul-comm (width L) (length rs))))
 
   -- ---- a record of the chain
 

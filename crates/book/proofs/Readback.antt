@@ -6,7 +6,7 @@ use mathlib.Core.List.{List, [], _∷_, _++_, map, append-nil}
 use mathlib.Core.Logic.{_⊎_, ⊎-elim}
 use native.Mathlib.Omega.{arith}
 use native.Mathlib.Numerals.{add-one, one-add}
-use native.Mathlib.Nat.{pow-suc, div-lt-iff-lt-mul, zero-mul, suc-mul, add-zero, add-comm, mul-comm, mul-suc, mul-mod-right, mul-div-right, mul-le-mul-left, lt-of-lt-of-le}
+use native.Mathlib.Nat.{pow-suc, div-lt-iff-lt-mul, zero-mul, suc-mul, add-zero, add-comm, mul-mod-right, mul-div-right, mul-le-mul-left, lt-of-lt-of-le}
 use native.Mathlib.Decide.{decLt}
 use borrow.Author.Tests.{lt-ltb, le-ltb, ne-eqb, ltb-true}
 use lib.ListN.{length, take, drop, getD, length-append, length-map, List·getD-map, List·getD-append}
@@ -26,7 +26,7 @@ use Rattle.book.specs.Reading.{Entry, objectiveOf, countOf, entryAt, mem
 use Rattle.book.specs.Repacking.{recordBytes, headerBytes, ruleBytes, nextOf, chainBytes, bookOf, numbered, ruleIn}
 use Rattle.book.specs.Causes.{WrongLength, WrongVersion, WrongCount, WrongObjective, WrongTail, WrongKind, WrongSlope, WrongBound, short, long, uneven, other, differs, p-lowest, q-lowest, set, neither, a-lowest, b-lowest, low, high, Walked, header, visit, Accepts}
 use Rattle.book.specs.Lawful.{LawfulObjective, LawfulRule}
-use Rattle.book.proofs.Packed.{length-bytesOf, length-recordBytes, length-chainBytes, chain-record, next-is}
+use Rattle.book.proofs.Packed.{length-bytesOf, length-recordBytes, length-bookOf, chain-record, next-is}
 use Rattle.book.proofs.Walking.{memb-snoc}
 use Rattle.book.proofs.Causes.{accepts-accepted}
 
@@ -191,7 +191,7 @@ upTo-at (suc j) k h = go (decLt k j) (upTo-at j k)
         let e : k ≡ j = omega arith in
         getD-at (upTo j) (suc j) [] 0 k (upTo-length j ∙ sym e) ∙ ap suc (sym e)
 
-numbered-length : (k : ℕ) (rs : List Rule) → length (numbered k rs) ≡ length rs
+pub numbered-length : (k : ℕ) (rs : List Rule) → length (numbered k rs) ≡ length rs
 numbered-length k [] = refl
 numbered-length k (r ∷ rs) = ap suc (numbered-length (suc k) rs)
 
@@ -213,11 +213,8 @@ module _ (L : Layout) (u : Usable L) (o : Functional) (rs : List Rule) (room : l
   book = bookOf L o rs
 
   book-length : length book ≡ width L * (length rs + 1)
-  unfolding book bookOf
-  book-length =
-      length-append (headerBytes L (nextOf 0 rs) o (length rs)) (chainBytes L 1 rs)
-      ∙ rw (length-recordBytes, length-chainBytes L 1 rs)
-      (sym (ap (λ m. width L * m) (add-one (length rs)) ∙ mul-suc (width L) (length rs) ∙ add-comm (width L * length rs) (width L) ∙ ap (λ x. width L + x) (mul-comm (width L) (length rs))))
+  unfolding book
+  book-length = length-bookOf L o rs
 
   head : recordAt L book 0 ≡ headerBytes L (nextOf 0 rs) o (length rs)
   unfolding book bookOf recordAt
@@ -327,11 +324,11 @@ module _ (L : Layout) (u : Usable L) (o : Functional) (rs : List Rule) (room : l
   unfolding book
   book-reads =
       accepts-accepted L book
-      (record
-      { done = upTo (length rs)
-      ; at = length rs
-      ; walked = walked (length rs) (omega arith)
-      ; ends = link-at (length rs) (omega arith) ∙ rw (le-ltb (length rs) (length rs) (omega arith))
-      ; objective = sym objective-is
-      ; entries = entries
+      (record {
+        done = upTo (length rs);
+        at = length rs;
+        walked = walked (length rs) (omega arith);
+        ends = link-at (length rs) (omega arith) ∙ rw (le-ltb (length rs) (length rs) (omega arith));
+        objective = sym objective-is;
+        entries = entries;
       })

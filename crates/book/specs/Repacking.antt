@@ -1,6 +1,7 @@
 -- The repacked form of document 01: n rules in records 1 to n in chain order, each link one higher, the last 0.
 -- The bytes are a function of the objective and the rules alone, so that there is one form for each.
 use Prim.Native.Nat.{ℕ, zero, suc, _+_, _*_}
+use mathlib.Core.Path.{_≡_}
 use mathlib.Core.Bool.{cond}
 use mathlib.Core.List.{List, [], _∷_, _++_, map}
 use lib.ListN.{length, drop}
@@ -61,3 +62,12 @@ packOf L (accepted o es) room =
 
 abbrev pub repackOf : Layout → List ℕ → ℕ → Packing
 repackOf L s room = packOf L (readOf L s) room
+
+-- two books that are accepted with one objective and the same rules, labels and kinds in the same order, wherever their records lie
+pub record ReadAlike (x y : Reading) : Type 0 where
+  pub goal : Functional
+  pub first : List Entry
+  pub second : List Entry
+  pub one : x ≡ accepted goal first
+  pub two : y ≡ accepted goal second
+  pub rules : map ruleIn first ≡ map ruleIn second
