@@ -23,6 +23,7 @@ use Rattle.book.specs.Reading.{Reading, refused, accepted, Entry, object
 use Rattle.book.specs.Answers.{indexIn}
 use Rattle.book.specs.Causes.{WrongObjective, WrongKind, WrongSlope, WrongBound, p-lowest, q-lowest, neither, a-lowest, b-lowest, low, high, Walked, header, visit, Accepts}
 use Rattle.book.specs.Lawful.{LawfulObjective, LawfulRule}
+use Rattle.book.proofs.Walking.{indices}
 use Rattle.book.proofs.Causes.{acceptance-means, walked-length, walked-count}
 
 -- ---- ranges
@@ -120,17 +121,13 @@ module _ (L : Layout) (s : List ℕ) where
       record { p = sixteen (aOf L (recordAt L s 0)) (λ e. d (p-lowest e)); q = sixteen (bOf L (recordAt L s 0)) (λ e. d (q-lowest e)) }
   walked-objective (visit w i e z h m ka kb kc) = walked-objective w
 
-  indices : (done : List ℕ) → map indexIn (map (entryAt L s) done) ≡ done
-  indices [] = refl
-  indices (i ∷ done) = ap (λ l. i ∷ l) (indices done)
-
   -- an accepted book
   module _ {o : Functional} {es : List Entry} (e : readOf L s ≡ accepted o es) where
     meant : Accepts L s o es
     meant = acceptance-means L s e
 
     listed : map indexIn es ≡ meant .done
-    listed = ap (map indexIn) (meant .entries) ∙ indices (meant .done)
+    listed = ap (map indexIn) (meant .entries) ∙ indices L s (meant .done)
 
     counted : length es ≡ length (meant .done)
     counted = ap length (meant .entries) ∙ length-map (meant .done) (entryAt L s)

@@ -12,3 +12,4 @@ pub mod Spare
 pub mod Bounds
 pub mod Readback
 pub mod RepackLaws
+pub mod Planned

@@ -19,6 +19,7 @@ use Rattle.book.specs.Repacking.{headerBytes, nextOf, chainBytes, bookOf
 use Rattle.book.specs.Answers.{padded, indexIn, chainOf, repackedOf, outputOf, rulesAt, Repacks}
 use Rattle.book.specs.Causes.{Applies, cause-1, cause-2, cause-3, cause-4, cause-5, cause-6, cause-7, cause-8, cause-9, cause-10}
 use Rattle.book.proofs.Causes.{refusal-applies, acceptance-means, walked-length, walked-count}
+use Rattle.book.proofs.Walking.{indices}
 use Rattle.book.proofs.Packed.{length-recordBytes, length-chainBytes, length-bookOf, next-is}
 
 -- a refusal's number is one of the table's
@@ -33,10 +34,6 @@ number-some (cause-7 w z h m) e = omega arith
 number-some (cause-8 r a) e = omega arith
 number-some (cause-9 r a b) e = omega arith
 number-some (cause-10 r a b c) e = omega arith
-
-indices : (L : Layout) (s done : List ℕ) → map indexIn (map (entryAt L s) done) ≡ done
-indices L s [] = refl
-indices L s (i ∷ done) = ap (λ l. i ∷ l) (indices L s done)
 
 pub rules-of : (L : Layout) (s done : List ℕ) → map ruleIn (map (entryAt L s) done) ≡ map (λ (i : ℕ). ruleOf L (recordAt L s i)) done
 rules-of L s [] = refl

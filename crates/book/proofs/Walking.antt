@@ -192,7 +192,7 @@ module _ {s : List ℕ} {seen : List Bool} {records : List ℕ} {n at link : ℕ
             }
 
 -- what the code hands back where the chain ends
-indices : (L : Layout) (s done : List ℕ) → map indexIn (map (entryAt L s) done) ≡ done
+pub indices : (L : Layout) (s done : List ℕ) → map indexIn (map (entryAt L s) done) ≡ done
 indices L s [] = refl
 indices L s (i ∷ done) = ap (λ l. i ∷ l) (indices L s done)
 
