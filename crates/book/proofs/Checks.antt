@@ -1,7 +1,7 @@
 -- The check of a rule, test by test, as the code goes through them.
 use Prim.Native.Nat.{ℕ, zero, suc, _≤_, _<_}
-use mathlib.Core.Path.{_≡_, refl, _∙_}
-use mathlib.Core.Bool.{Bool, true, false, cond, _||_, _&&_}
+use mathlib.Core.Path.{_≡_, refl, sym, ap, _∙_}
+use mathlib.Core.Bool.{Bool, true, false, cond, not, _||_, _&&_}
 use mathlib.Core.List.{List}
 use native.Mathlib.Omega.{arith}
 use borrow.Author.Tests.{eq-eqb, ne-eqb}
@@ -14,37 +14,33 @@ use Rattle.book.specs.Layout.{Layout}
 use Rattle.book.specs.Record.{checked, decodedOf, ruleOf, linkOf, padOf, badKind, badSlope, badBound, lowest, beyond}
 use Rattle.book.specs.Answers.{constraintOf, turned}
 
-one-or-two : (k : ℕ) → (k ≡ 0 → ⊥) → k ≤ 2 → (eqb k 1 || eqb k 2) && true ≡ true
-one-or-two zero h l = absurd (h refl)
-one-or-two (suc zero) h l = refl
-one-or-two (suc (suc zero)) h l = refl
-one-or-two (suc (suc (suc k))) h l = absurd (let z : ⊥ = omega arith in z)
+module _ (r : Rule) where
+  pub kind-one : r .kind ≡ 1 → false ≡ badKind true r
+  kind-one h = rw (eq-eqb (r .kind) 1 h)
+
+  pub kind-other : (r .kind ≡ 1 → ⊥) → not (eqb (r .kind) 2) ≡ badKind true r
+  kind-other h = rw (ne-eqb (r .kind) 1 h) (ap not (sym (and-true (eqb (r .kind) 2))))
+    where
+      and-true : (b : Bool) → b && true ≡ b
+      and-true true = refl
+      and-true false = refl
 
 module _ (r : Rule) (next : ℕ) where
-  pub kind-zero : r .kind ≡ 0 → Kind ≡ checked true r next
+  pub kind-first : badKind true r ≡ true → Kind ≡ checked true r next
   unfolding checked
-  kind-zero h = rw h
+  kind-first k = rw k
 
-  pub kind-over : 2 < r .kind → Kind ≡ checked true r next
+  pub slope-next : badKind true r ≡ false → badSlope r ≡ true → Slope ≡ checked true r next
   unfolding checked
-  kind-over h = rw (ne-eqb (r .kind) 1 (omega arith), ne-eqb (r .kind) 2 (omega arith))
+  slope-next k a = rw (k, a)
 
-  module _ (h : r .kind ≡ 0 → ⊥) (l : r .kind ≤ 2) where
-    pub slope-a : lowest (r .a) ≡ true → Slope ≡ checked true r next
-    unfolding checked
-    slope-a a = rw (one-or-two (r .kind) h l, a)
+  pub bound-last : badKind true r ≡ false → badSlope r ≡ false → badBound r ≡ true → Bound ≡ checked true r next
+  unfolding checked
+  bound-last k a b = rw (k, a, b)
 
-    pub slope-b : lowest (r .a) ≡ false → lowest (r .b) ≡ true → Slope ≡ checked true r next
-    unfolding checked
-    slope-b a b = rw (one-or-two (r .kind) h l, a, b)
-
-    pub bound-c : lowest (r .a) ≡ false → lowest (r .b) ≡ false → beyond (r .c) ≡ true → Bound ≡ checked true r next
-    unfolding checked
-    bound-c a b c = rw (one-or-two (r .kind) h l, a, b, c)
-
-    pub sound : lowest (r .a) ≡ false → lowest (r .b) ≡ false → beyond (r .c) ≡ false → Sound r next ≡ checked true r next
-    unfolding checked
-    sound a b c = rw (one-or-two (r .kind) h l, a, b, c)
+  pub sound : badKind true r ≡ false → badSlope r ≡ false → badBound r ≡ false → Sound r next ≡ checked true r next
+  unfolding checked
+  sound k a b = rw (k, a, b)
 
 -- ---- what a sound record holds
 

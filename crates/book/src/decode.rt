@@ -5,7 +5,7 @@ use crate::bytes::byte_at;
 ghost use mathlib.Core.Path.{_≡_};
 ghost use mathlib.Core.Bool.{true};
 ghost use Rattle.book.specs.Layout.{v1};
-ghost use Rattle.book.specs.Record.{recordAt, linkOf, checked, decodedOf, numberOf};
+ghost use Rattle.book.specs.Record.{recordAt, linkOf, badKind, badSlope, badBound, checked, decodedOf, numberOf};
 ghost use Rattle.book.specs.Record as spec;
 ghost use Rattle.book.specs.Answers as answers;
 
@@ -31,24 +31,48 @@ fn beyond(x: i64) -> bool
     x < -1000000000 || x > 1000000000
 }
 
+// Cause 8.
+fn bad_kind(rule: Rule) -> bool
+    ensures { λ r. ⌜ r ≡ badKind true rule ⌝ }
+{
+    let kind = rule.kind;
+    if kind == 1 {
+        return false;
+    }
+    kind != 2
+}
+
+// Cause 9.
+fn bad_slope(rule: Rule) -> bool
+    ensures { λ r. ⌜ r ≡ badSlope rule ⌝ }
+{
+    if lowest(rule.a) {
+        return true;
+    }
+    lowest(rule.b)
+}
+
+// Cause 10.
+fn bad_bound(rule: Rule) -> bool
+    ensures { λ r. ⌜ r ≡ badBound rule ⌝ }
+{
+    beyond(rule.c)
+}
+
 // A rule with its link, or the first of 8, 9 and 10 that turns it back.
 fn check(rule: Rule, next: u16) -> Decoded
     ensures { λ r. ⌜ r ≡ checked true rule next ⌝ }
 {
-    let kind = rule.kind;
-    if kind == 0 {
+    let kind = bad_kind(rule);
+    let slope = bad_slope(rule);
+    let bound = bad_bound(rule);
+    if kind {
         return Decoded::Kind;
     }
-    if kind > 2 {
-        return Decoded::Kind;
-    }
-    if lowest(rule.a) {
+    if slope {
         return Decoded::Slope;
     }
-    if lowest(rule.b) {
-        return Decoded::Slope;
-    }
-    if beyond(rule.c) {
+    if bound {
         return Decoded::Bound;
     }
     Decoded::Sound(rule, next)

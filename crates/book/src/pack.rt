@@ -5,8 +5,8 @@ use crate::bytes::number4;
 ghost use mathlib.Core.Path.{_≡_};
 ghost use mathlib.Core.Bool.{cond};
 ghost use mathlib.Core.List.{_++_, map};
-ghost use Prim.Native.Nat.{_+_, _*_, _≤_};
-ghost use lib.ListN.{length, take};
+ghost use Prim.Native.Nat.{_+_, _*_, _≤_, _<_};
+ghost use lib.ListN.{getD, length, take};
 ghost use lib.Seq.{paste};
 ghost use lib.Dec.{ltb};
 ghost use Rattle.book.specs.Layout.{v1};
@@ -77,6 +77,14 @@ pub fn store(out: &mut [u8], at: usize, bytes: [u8; 12])
     }
 }
 
+// The record that the chain has at a place.
+fn record_at(records: [u16; 255], k: usize) -> u16
+    requires { ⌜ k < 255 ⌝ }
+    ensures { λ r. ⌜ r ≡ getD records k 0 ⌝ }
+{
+    records[k]
+}
+
 // The rules of the chain into the records 1 to n of the output.
 pub fn put_rules(book: &[u8], out: &mut [u8], records: [u16; 255], n: usize)
     requires { ⌜ Room n (now out) ⌝ }
@@ -85,7 +93,7 @@ pub fn put_rules(book: &[u8], out: &mut [u8], records: [u16; 255], n: usize)
     let mut k: usize = 0;
     while k < n {
         let link = next_of(k + 1, n) as u8;
-        let bytes = rule_bytes(book, records[k], link);
+        let bytes = rule_bytes(book, record_at(records, k), link);
         store(&mut *out, 12 + 12 * k, bytes);
         k += 1;
     }
