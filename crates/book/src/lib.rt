@@ -125,10 +125,11 @@ pub fn repack(book: &[u8], out: &mut [u8]) -> Repacked
             filled: 0,
         };
     }
-    let header = header_bytes(book, next_of(0, n) as u8, n as u16);
+    let rules = n as u16;
+    let header = header_bytes(book, next_of(0, rules) as u8, rules);
     store(&mut *out, 0, header);
     let records = chain.records;
-    put_rules(book, &mut *out, records, n);
+    put_rules(book, &mut *out, records, rules);
     Repacked {
         number: 0,
         at: 0,

@@ -5,8 +5,8 @@ use crate::bytes::number4;
 ghost use mathlib.Core.Path.{_≡_};
 ghost use mathlib.Core.Bool.{cond};
 ghost use mathlib.Core.List.{_++_, map};
-ghost use Prim.Native.Nat.{_+_, _*_, _≤_, _<_};
-ghost use lib.ListN.{getD, length, take};
+ghost use Prim.Native.Nat.{_+_, _*_, _≤_};
+ghost use lib.ListN.{length, take};
 ghost use lib.Seq.{paste};
 ghost use lib.Dec.{ltb};
 ghost use Rattle.book.specs.Layout.{v1};
@@ -16,7 +16,7 @@ ghost use Rattle.book.specs.Repacking.{recordBytes, headerBytes, ruleByt
 ghost use Rattle.book.specs.Answers.{rulesAt, Room};
 
 // The link of record k, where n records follow the header.
-pub fn next_of(k: usize, n: usize) -> usize
+pub fn next_of(k: u16, n: u16) -> u16
     ensures { λ r. ⌜ r ≡ cond (ltb k n) (k + 1) 0 ⌝ }
 {
     if k < n { k + 1 } else { 0 }
@@ -77,24 +77,19 @@ pub fn store(out: &mut [u8], at: usize, bytes: [u8; 12])
     }
 }
 
-// The record that the chain has at a place.
-fn record_at(records: [u16; 255], k: usize) -> u16
-    requires { ⌜ k < 255 ⌝ }
-    ensures { λ r. ⌜ r ≡ getD records k 0 ⌝ }
-{
-    records[k]
-}
-
 // The rules of the chain into the records 1 to n of the output.
-pub fn put_rules(book: &[u8], out: &mut [u8], records: [u16; 255], n: usize)
+pub fn put_rules(book: &[u8], out: &mut [u8], records: [u16; 255], n: u16)
     requires { ⌜ Room n (now out) ⌝ }
     ensures { λ r. ⌜ now (out .exit) ≡ paste (now (out .entry)) 12 (chainBytes v1 1 (rulesAt (now (book .entry)) (take n records))) (12 * n) ⌝ }
 {
-    let mut k: usize = 0;
+    let mut k: u16 = 0;
     while k < n {
-        let link = next_of(k + 1, n) as u8;
-        let bytes = rule_bytes(book, record_at(records, k), link);
-        store(&mut *out, 12 + 12 * k, bytes);
-        k += 1;
+        let i = k as usize;
+        let index = records[i];
+        let place = k + 1;
+        let link = next_of(place, n) as u8;
+        let bytes = rule_bytes(book, index, link);
+        store(&mut *out, 12 * (place as usize), bytes);
+        k = place;
     }
 }

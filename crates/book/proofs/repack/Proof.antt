@@ -30,7 +30,9 @@ read-requires c κs = search needs
 
 -- src/lib.rt:113:9
 returns : tie.Need-returns
-returns c = packs-refused (c .before .before .before .before .args .book .now) (c .before .before .before .before .args .out .now) (c .before .read .result .number) (c .before .read .result .at) (chain-refused (c .before .before .before .before .args .book .now) (c .before .read .result) (c .before .read .ensures .answer) (c .if1 .taken))
+returns c =
+    packs-refused (c .before .before .before .before .args .book .now) (c .before .before .before .before .args .out .now) (c .before .read .result .number) (c .before .read .result .at)
+    (chain-refused (c .before .before .before .before .args .book .now) (c .before .read .result) (c .before .read .ensures .answer) (c .if1 .taken))
 
 -- src/lib.rt:120:24
 add-filled : tie.Need-add-filled
@@ -44,27 +46,27 @@ mul-filled c = omega (arith, few c)
 returns-2 : tie.Need-returns-2
 returns-2 c = packs-declined (c .before .before .before .before .before .args .book .now) (c .before .before .before .before .before .args .out .now) (chained (c .before)) (c .if2 .taken)
 
--- src/lib.rt:128:37
+-- src/lib.rt:128:17
+cast-rules : tie.Need-cast-rules
+cast-rules c = omega (arith, few (c .before))
+
+-- src/lib.rt:129:37
 next-of-requires : tie.Need-next-of-requires
 next-of-requires c κs = search needs
 
--- src/lib.rt:128:37
+-- src/lib.rt:129:37
 cast-header-bytes : tie.Need-cast-header-bytes
 cast-header-bytes c = omega (arith, c .next-of .ensures, next-small 0 (c .before .before .before .read .result .n), few (c .before .before))
 
--- src/lib.rt:128:58
-cast-header-bytes-2 : tie.Need-cast-header-bytes-2
-cast-header-bytes-2 c = omega (arith, few (c .before .before))
-
--- src/lib.rt:128:9
+-- src/lib.rt:129:9
 header-bytes-requires : tie.Need-header-bytes-requires
 header-bytes-requires c κs = search needs
 
--- src/lib.rt:129:5
+-- src/lib.rt:130:5
 store-requires : tie.Need-store-requires
 store-requires c κs = search needs
 
--- src/lib.rt:131:5
+-- src/lib.rt:132:5
 put-rules-requires : tie.Need-put-rules-requires
 put-rules-requires c κs = record { few = few (c .before .before .before .before .before .before .before .before .before); room = omega (arith, c .before .before .before .before .store .kept .0, c .before .before .before .before .before .before .before .before .if2 .left) }
 
@@ -88,9 +90,9 @@ repack-spec =
     add-filled
     mul-filled
     returns-2
+    cast-rules
     next-of-requires
     cast-header-bytes
-    cast-header-bytes-2
     header-bytes-requires
     store-requires
     put-rules-requires
