@@ -1,0 +1,160 @@
+-- What holds of every accepted book: its chain has no more entries than the header counts, each of them a record after the header, none twice,
+-- and its numbers are within document 01's ranges.
+use Prim.Native.Nat.{ℕ, zero, suc, _+_, _-_, _≤_, _<_}
+use mathlib.Core.Path.{_≡_, refl, sym, ap, _∙_, subst, subst⁻¹}
+use mathlib.Core.Bool.{Bool, true, false, _||_}
+use mathlib.Core.List.{List, [], _∷_, _++_, map}
+use mathlib.Core.Logic.{_⊎_, inl, inr, ⊎-elim}
+use native.Mathlib.Omega.{arith}
+use native.Mathlib.Decide.{ℕ-discrete, decLt}
+use borrow.Author.Tests.{lt-ltb, le-ltb, ltb-true, ltb-false, eq-eqb}
+use lib.ListN.{length, getD, length-append, length-map, List·getD-append, List·getD-map}
+use lib.Seq.{getD-at}
+use lib.Dec.{eqb, ltb, T, lt→ltb}
+use lib.IntN.{ℤ, pos, negsuc, natAbs}
+use lib.Signed.{_<ℤ_}
+use mir.Syntax.{w16}
+use mir.Val.{toZ, sel}
+use Rattle.lp.specs.declared.Functional.{Functional}
+use Rattle.book.specs.declared.Rule.{Rule}
+use Rattle.book.specs.Layout.{Layout, width}
+use Rattle.book.specs.Record.{recordAt, linkOf, kindOf, padOf, aOf, bOf, cOf, ruleOf}
+use Rattle.book.specs.Reading.{Reading, refused, accepted, Entry, objectiveOf, countOf, entryAt, memb, readOf}
+use Rattle.book.specs.Answers.{indexIn}
+use Rattle.book.specs.Causes.{WrongObjective, WrongKind, WrongSlope, WrongBound, p-lowest, q-lowest, neither, a-lowest, b-lowest, low, high, Walked, header, visit, Accepts}
+use Rattle.book.specs.Lawful.{LawfulObjective, LawfulRule}
+use Rattle.book.proofs.Walking.{indices}
+use Rattle.book.proofs.Causes.{acceptance-means, walked-length, walked-count}
+
+-- ---- ranges
+
+-- sixteen bits other than −32,768
+sixteen : (n : ℕ) → (toZ w16 n ≡ negsuc 32767 → ⊥) → natAbs (toZ w16 n) ≤ 32767
+sixteen n h = go (ltb n 32768) refl
+  where
+    go : (b : Bool) → ltb n 32768 ≡ b → natAbs (sel b (pos n) (negsuc (65536 - suc n))) ≤ 32767
+    go true e = omega (arith, ltb-true n 32768 e)
+    go false e =
+        let d : 65536 - suc n ≡ 32767 → ⊥ = λ q. h (rw e (ap negsuc q)) in
+        omega (arith, ltb-false n 32768 e)
+
+not-over : (a b : ℕ) → (b < a → ⊥) → a ≤ b
+not-over a b k = omega arith
+
+within : (z : ℤ) → (z <ℤ negsuc 999999999 → ⊥) → (pos 1000000000 <ℤ z → ⊥) → natAbs z ≤ 1000000000
+within (pos n) l h = not-over n 1000000000 (λ k. h (record { lt = lt→ltb 1000000000 n k }))
+within (negsuc n) l h = let m = not-over n 999999999 (λ k. l (record { lt = lt→ltb 999999999 n k })) in omega arith
+
+one-of : (k : ℕ) → ((k ≡ 1 → ⊥) → (k ≡ 2 → ⊥) → ⊥) → (k ≡ 1) ⊎ (k ≡ 2)
+one-of k h = go (ℕ-discrete k 1) (ℕ-discrete k 2)
+  where
+    go : Dec (k ≡ 1) → Dec (k ≡ 2) → (k ≡ 1) ⊎ (k ≡ 2)
+    go (yes e) d = inl e
+    go (no m) (yes e) = inr e
+    go (no m) (no n) = absurd (h m n)
+
+module _ (L : Layout) where
+  pub lawful-rule : (r : List ℕ) → (WrongKind L r → ⊥) → (WrongSlope L r → ⊥) → (WrongBound L r → ⊥) → LawfulRule (ruleOf L r)
+  lawful-rule r k s b =
+      record {
+        kind = one-of (kindOf L r) (λ m n. k (neither m n));
+        a = sixteen (aOf L r) (λ e. s (a-lowest e));
+        b = sixteen (bOf L r) (λ e. s (b-lowest e));
+        c = within (ruleOf L r .c) (λ l. b (low l)) (λ h. b (high h));
+      }
+
+-- ---- each record of the chain
+
+memb-at : (l : List ℕ) (k : ℕ) → k < length l → memb (getD l k 0) l ≡ true
+unfolding memb
+memb-at [] k h = absurd (let z : ⊥ = omega arith in z)
+memb-at (x ∷ l) zero h = rw (eq-eqb x x refl)
+memb-at (x ∷ l) (suc k) h = rw (memb-at l k (omega arith)) (or-true (eqb (getD l k 0) x))
+  where
+    or-true : (b : Bool) → b || true ≡ true
+    or-true true = refl
+    or-true false = refl
+
+-- a fact of every place of a list and of one more is a fact of every place of the longer list
+each-snoc : (P : ℕ → Type 0) (l : List ℕ) (i : ℕ) → ((k : ℕ) → k < length l → P (getD l k 0)) → P i → (k : ℕ) → k < length (l ++ (i ∷ [])) → P (getD (l ++ (i ∷ [])) k 0)
+each-snoc P l i f p k h = go (decLt k (length l))
+  where
+    go : Dec (k < length l) → P (getD (l ++ (i ∷ [])) k 0)
+    go (yes m) = subst⁻¹ P (List·getD-append l (i ∷ []) 0 k m) (f k m)
+    go (no n) =
+        let e : length l ≡ k = omega (arith, length-append l (i ∷ [])) in
+        subst⁻¹ P (getD-at l i [] 0 k e) p
+
+module _ (L : Layout) (s : List ℕ) where
+  walked-within : {done : List ℕ} {at : ℕ} → Walked L s done at → (k : ℕ) → k < length done → (1 ≤ getD done k 0) × (getD done k 0 ≤ countOf L s)
+  walked-within (header a b c d f) = λ k h. absurd (let z : ⊥ = omega arith in z)
+  walked-within (visit {done = done} w i e z h m ka kb kc) =
+      each-snoc (λ j. (1 ≤ j) × (j ≤ countOf L s)) done i (walked-within w) (omega arith, h)
+
+  walked-lawful : {done : List ℕ} {at : ℕ} → Walked L s done at → (k : ℕ) → k < length done → LawfulRule (ruleOf L (recordAt L s (getD done k 0)))
+  walked-lawful (header a b c d f) = λ k h. absurd (let z : ⊥ = omega arith in z)
+  walked-lawful (visit {done = done} w i e z h m ka kb kc) =
+      each-snoc (λ j. LawfulRule (ruleOf L (recordAt L s j))) done i (walked-lawful w) (lawful-rule L (recordAt L s i) ka kb kc)
+
+  walked-distinct : {done : List ℕ} {at : ℕ} → Walked L s done at → (k : ℕ) → k < length done → (j : ℕ) → j < k → getD done j 0 ≡ getD done k 0 → ⊥
+  walked-distinct (header a b c d f) k l j g p = let z : ⊥ = omega arith in z
+  walked-distinct (visit {done = done} w i e z h m ka kb kc) k l j g p =
+      go (decLt k (length done)) (λ q r. walked-distinct w k q j g r)
+    where
+      earlier : j < length done
+      earlier = omega (arith, length-append done (i ∷ []))
+
+      before : getD (done ++ (i ∷ [])) j 0 ≡ getD done j 0
+      before = List·getD-append done (i ∷ []) 0 j earlier
+
+      go : Dec (k < length done) → (k < length done → getD done j 0 ≡ getD done k 0 → ⊥) → ⊥
+      go (yes q) ih = ih q (sym before ∙ p ∙ List·getD-append done (i ∷ []) 0 k q)
+      go (no n) ih =
+          let end : length done ≡ k = omega (arith, length-append done (i ∷ [])) in
+          let same : getD done j 0 ≡ i = sym before ∙ p ∙ getD-at done i [] 0 k end in
+          let seen : memb i done ≡ true = subst (λ (x : ℕ). memb x done ≡ true) same (memb-at done j earlier) in
+          let y : _≡_ {A = ℕ} 0 1 = cc in
+          omega arith
+
+  walked-objective : {done : List ℕ} {at : ℕ} → Walked L s done at → LawfulObjective (objectiveOf L s)
+  walked-objective (header a b c d f) =
+      record { p = sixteen (aOf L (recordAt L s 0)) (λ e. d (p-lowest e)); q = sixteen (bOf L (recordAt L s 0)) (λ e. d (q-lowest e)) }
+  walked-objective (visit w i e z h m ka kb kc) = walked-objective w
+
+  -- an accepted book
+  module _ {o : Functional} {es : List Entry} (e : readOf L s ≡ accepted o es) where
+    meant : Accepts L s o es
+    meant = acceptance-means L s e
+
+    listed : map indexIn es ≡ meant .done
+    listed = ap (map indexIn) (meant .entries) ∙ indices L s (meant .done)
+
+    counted : length es ≡ length (meant .done)
+    counted = ap length (meant .entries) ∙ length-map (meant .done) (entryAt L s)
+
+    -- no more entries than the header counts, and no more than the format has room for
+    pub chain-count : length es ≤ countOf L s
+    chain-count = omega (arith, counted, walked-length L s (meant .walked))
+
+    pub count-room : countOf L s < L .records
+    count-room = walked-count L s (meant .walked)
+
+    pub accepted-objective : o ≡ objectiveOf L s
+    accepted-objective = meant .objective
+
+    pub lawful-objective : LawfulObjective o
+    lawful-objective = subst⁻¹ LawfulObjective (meant .objective) (walked-objective (meant .walked))
+
+    -- every entry is its record's, so the record indices say all
+    pub accepted-entries : es ≡ map (entryAt L s) (map indexIn es)
+    accepted-entries = meant .entries ∙ ap (map (entryAt L s)) (sym listed)
+
+    -- the entry at a place of the chain
+    pub index-within : (k : ℕ) → k < length es → (1 ≤ getD (map indexIn es) k 0) × (getD (map indexIn es) k 0 ≤ countOf L s)
+    index-within k h = rw listed (walked-within (meant .walked) k (omega (arith, counted)))
+
+    pub index-distinct : (j k : ℕ) → j < k → k < length es → getD (map indexIn es) j 0 ≡ getD (map indexIn es) k 0 → ⊥
+    index-distinct j k g h p = walked-distinct (meant .walked) k (omega (arith, counted)) j g (rw listed at p)
+
+    pub entry-lawful : (k : ℕ) → k < length es → LawfulRule (ruleOf L (recordAt L s (getD (map indexIn es) k 0)))
+    entry-lawful k h = rw listed (walked-lawful (meant .walked) k (omega (arith, counted)))

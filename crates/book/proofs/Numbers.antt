@@ -1,0 +1,93 @@
+-- Numbers as bytes: what stands at an offset, bounds, and that writing and reading undo one another.
+use Prim.Native.Nat.{ℕ, zero, suc, _+_, _-_, _*_, _/_, _%_, _^_, _≤_, _<_, suc-le-suc}
+use mathlib.Core.Path.{_≡_, refl, sym, ap, _∙_}
+use mathlib.Core.Bool.{true, false}
+use mathlib.Core.List.{List, [], _∷_, _++_}
+use native.Mathlib.Omega.{arith}
+use native.Mathlib.Numerals.{add-one, add-two, add-three}
+use borrow.Author.Tests.{lt-ltb, le-ltb, ltb-false}
+use lib.ListN.{getD, drop, take, length}
+use lib.Dec.{lit<}
+use lib.Seq.{drop-drop}
+use native.Mathlib.Nat.{lt-of-lt-of-le, lt-of-le-of-lt, le-suc, not-suc-le-zero, le-of-suc-le-suc}
+use lib.IntN.{ℤ, pos, negsuc, negℤ, _-ℤ_, +ℤ-idl}
+use lib.Signed.{mag, ltZ}
+use mir.Syntax.{Width, w16, w32, w64}
+use mir.Val.{toZ, SFits, bits, hbits, Fits}
+use mir.ValLaws.{toZ-pos, toZ-fits}
+use Rattle.book.specs.Number.{number, bytesOf}
+
+-- ---- reading
+
+-- the byte at an offset, and the number after it
+pub number-step : (n at : ℕ) (s : List ℕ) → number (suc n) (drop at s) ≡ getD s at 0 + 256 * number n (drop (suc at) s)
+unfolding number
+number-step zero zero [] = refl
+number-step (suc n) zero [] = refl
+number-step n zero (x ∷ s) = refl
+number-step zero (suc at) [] = refl
+number-step (suc n) (suc at) [] = refl
+number-step n (suc at) (x ∷ s) = number-step n at s
+
+number-none : (s : List ℕ) → number 0 s ≡ 0
+unfolding number
+number-none s = refl
+
+pub one-byte : (s : List ℕ) (at : ℕ) → getD s at 0 ≡ number 1 (drop at s)
+one-byte s at = omega (arith, number-step 0 at s, number-none (drop (suc at) s))
+
+pub two-bytes : (s : List ℕ) (at : ℕ) → getD s at 0 + 256 * getD s (at + 1) 0 ≡ number 2 (drop at s)
+two-bytes s at =
+    rw add-one
+    (omega (arith, number-step 1 at s, number-step 0 (suc at) s, number-none (drop (suc (suc at)) s)))
+
+pub four-bytes : (s : List ℕ) (at : ℕ) → getD s at 0 + 256 * (getD s (at + 1) 0 + 256 * (getD s (at + 2) 0 + 256 * getD s (at + 3) 0)) ≡ number 4 (drop at s)
+four-bytes s at =
+    rw (add-one, add-two, add-three)
+    (omega (
+      arith,
+      number-step 3 at s,
+      number-step 2 (suc at) s,
+      number-step 1 (suc (suc at)) s,
+      number-step 0 (suc (suc (suc at))) s,
+      number-none (drop (suc (suc (suc (suc at)))) s),
+    ))
+
+-- ---- signed numbers: w bits as 64 have them
+
+pub signed-low : (w : Width) (b : ℕ) → b < 2 ^ hbits w → b < 2 ^ 63 → toZ w64 b ≡ toZ w b
+signed-low w b h k = toZ-pos w64 b k ∙ sym (toZ-pos w b h)
+
+pub signed-high : (w : Width) (f b : ℕ) → 2 ^ bits w ≡ suc f → 2 ^ hbits w ≤ b → b < suc f → b < 2 ^ 63 → toZ w64 b -ℤ pos (suc f) ≡ toZ w b
+signed-high w f b e h l k =
+    ap (λ z. z -ℤ pos (suc f)) (toZ-pos w64 b k) ∙ rw (lt-ltb b (suc f) l, le-ltb b (2 ^ hbits w) h, e)
+
+pub signed-wide : (w : Width) (b : ℕ) → Fits w b → 2 ^ hbits w ≤ 2 ^ 63 → SFits w64 (toZ w b)
+signed-wide w b f k = record { sfits = lt-of-lt-of-le (toZ-fits w b f .sfits) k }
+
+-- a number that is not below −1,000,000,000 can be turned round
+pub neg-fits : (z : ℤ) → SFits w64 z → ltZ z (negsuc 999999999) ≡ false → SFits w64 (pos 0 -ℤ z)
+neg-fits z f h = rw +ℤ-idl (go z f h)
+  where
+    go : (z : ℤ) → SFits w64 z → ltZ z (negsuc 999999999) ≡ false → SFits w64 (negℤ z)
+    go (pos zero) f h = f
+    go (pos (suc n)) f h = record { sfits = lt-of-le-of-lt (le-suc n) (f .sfits) }
+    go (negsuc n) f h = record { sfits = lt-of-le-of-lt (suc-le-suc (ltb-false 999999999 n h)) (lit< tt) }
+
+-- ---- a field of a record: the first bytes of a part are the whole's
+
+number-take : (n w : ℕ) (s : List ℕ) → n ≤ w → number n (take w s) ≡ number n s
+unfolding number
+number-take zero w s h = refl
+number-take (suc n) zero s h = absurd (not-suc-le-zero h)
+number-take (suc n) (suc w) [] h = refl
+number-take (suc n) (suc w) (x ∷ s) h = ap (λ v. x + 256 * v) (number-take n w s (le-of-suc-le-suc h))
+
+number-part : (n off w : ℕ) (s : List ℕ) → off + n ≤ w → number n (drop off (take w s)) ≡ number n (drop off s)
+number-part n zero w s h = number-take n w s (omega arith)
+number-part n (suc off) zero s h = absurd (not-suc-le-zero {n = off + n} (omega arith))
+number-part n (suc off) (suc w) [] h = refl
+number-part n (suc off) (suc w) (x ∷ s) h = number-part n off w s (omega arith)
+
+pub field-at : (n off w k : ℕ) (s : List ℕ) → off + n ≤ w → number n (drop off (take w (drop k s))) ≡ number n (drop (k + off) s)
+field-at n off w k s h = number-part n off w (drop k s) h ∙ ap (number n) (drop-drop off k s)

@@ -1,0 +1,133 @@
+-- What repacking hands back and leaves in the output, from what the book reads as.
+use Prim.Native.Nat.{ℕ, zero, suc, _+_, _-_, _*_, _≤_, _<_}
+use mathlib.Core.Path.{_≡_, refl, sym, ap, _∙_, subst}
+use mathlib.Core.Bool.{Bool, true, false, cond}
+use mathlib.Core.List.{List, [], _∷_, _++_, map}
+use native.Mathlib.Omega.{arith}
+use borrow.Author.Tests.{lt-ltb, le-ltb}
+use lib.ListN.{length, take, drop, replicate, length-append, length-map}
+use lib.Seq.{take-at, take-all, drop-drop, paste, take-paste, drop-paste}
+use lib.Dec.{ltb}
+use Rattle.lp.specs.declared.Functional.{Functional}
+use Rattle.book.specs.declared.Rule.{Rule}
+use Rattle.book.specs.declared.Chain.{Chain}
+use Rattle.book.specs.declared.Repacked.{Repacked}
+use Rattle.book.specs.Layout.{Layout, v1, width}
+use Rattle.book.specs.Record.{recordAt, ruleOf}
+use Rattle.book.specs.Reading.{Reading, refused, accepted, Entry, objectiveOf, countOf, entryAt, readOf}
+use Rattle.book.specs.Repacking.{headerBytes, nextOf, chainBytes, bookOf, Packing, declined, packed, ruleIn, packOf, repackOf}
+use Rattle.book.specs.Answers.{padded, indexIn, chainOf, repackedOf, outputOf, rulesAt, Repacks}
+use Rattle.book.specs.Causes.{Applies, cause-1, cause-2, cause-3, cause-4, cause-5, cause-6, cause-7, cause-8, cause-9, cause-10}
+use Rattle.book.proofs.Causes.{refusal-applies, acceptance-means, walked-length, walked-count}
+use Rattle.book.proofs.Walking.{indices}
+use Rattle.book.proofs.Packed.{length-recordBytes, length-chainBytes, length-bookOf, next-is}
+
+-- a refusal's number is one of the table's
+number-some : {L : Layout} {s : List ℕ} {k i : ℕ} → Applies L s k i → k ≡ 0 → ⊥
+number-some (cause-1 a) e = omega arith
+number-some (cause-2 a b) e = omega arith
+number-some (cause-3 a b c) e = omega arith
+number-some (cause-4 a b c d) e = omega arith
+number-some (cause-5 a b c d f) e = omega arith
+number-some (cause-6 w h) e = omega arith
+number-some (cause-7 w z h m) e = omega arith
+number-some (cause-8 r a) e = omega arith
+number-some (cause-9 r a b) e = omega arith
+number-some (cause-10 r a b c) e = omega arith
+
+pub rules-of : (L : Layout) (s done : List ℕ) → map ruleIn (map (entryAt L s) done) ≡ map (λ (i : ℕ). ruleOf L (recordAt L s i)) done
+rules-of L s [] = refl
+rules-of L s (i ∷ done) = ap (λ l. ruleOf L (recordAt L s i) ∷ l) (rules-of L s done)
+
+-- what an accepted book's answer holds
+pub record Chained (s : List ℕ) (ch : Chain) : Type 0 where
+  pub done : List ℕ
+  pub reads : readOf v1 s ≡ accepted (objectiveOf v1 s) (map (entryAt v1 s) done)
+  pub count : ch .n ≡ length done
+  pub kept : ch .records ≡ padded done
+  pub few : length done ≤ 255
+
+module _ (s : List ℕ) (ch : Chain) (e : ch ≡ chainOf (readOf v1 s)) where
+  pub chain-refused : (ch .number ≡ 0 → ⊥) → readOf v1 s ≡ refused (ch .number) (ch .at)
+  unfolding chainOf
+  chain-refused h = go (readOf v1 s) refl
+    where
+      go : (x : Reading) → readOf v1 s ≡ x → readOf v1 s ≡ refused (ch .number) (ch .at)
+      go (refused k i) p =
+          p ∙ sym (λ j. refused ((e ∙ ap chainOf p) j .number) ((e ∙ ap chainOf p) j .at))
+      go (accepted o es) p = absurd (h (ap (λ (c : Chain). c .number) (e ∙ ap chainOf p)))
+
+  pub chain-accepted : ch .number ≡ 0 → Chained s ch
+  unfolding chainOf
+  chain-accepted z = go (readOf v1 s) refl
+    where
+      go : (x : Reading) → readOf v1 s ≡ x → Chained s ch
+      go (refused k i) p =
+          absurd (number-some (refusal-applies v1 s p) (sym (ap (λ (c : Chain). c .number) (e ∙ ap chainOf p)) ∙ z))
+      go (accepted o es) p =
+          let a = acceptance-means v1 s p in
+          let q : readOf v1 s ≡ accepted (objectiveOf v1 s) (map (entryAt v1 s) (a .done)) = p ∙ (λ j. accepted (a .objective j) (a .entries j)) in
+          record {
+            done = a .done;
+            reads = q;
+            count = ap (λ (c : Chain). c .n) (e ∙ ap chainOf q) ∙ length-map (a .done) (entryAt v1 s);
+            kept = ap (λ (c : Chain). c .records) (e ∙ ap chainOf q) ∙ ap padded (indices v1 s (a .done));
+            few = omega (arith, walked-length v1 s (a .walked), walked-count v1 s (a .walked));
+          }
+
+-- two copies from the front on fill the front
+two-pastes : (out H T : List ℕ) (m : ℕ) → length H ≡ 12 → length T ≡ m → 12 ≤ length out → paste (paste out 0 H 12) 12 T m ≡ H ++ T ++ drop (length (H ++ T)) out
+two-pastes out H T m h t r =
+    let P = paste out 0 H 12 in
+    let front : take 12 P ≡ H = take-paste out 0 H 12 (omega arith) (omega arith) ∙ take-all 12 H (omega arith) in
+    let middle : take m T ≡ T = take-all m T (omega arith) in
+    let n : 12 + m ≡ length (H ++ T) = omega (arith, length-append H T) in
+    let back : drop (12 + m) P ≡ drop (length (H ++ T)) out =
+    sym (drop-drop m 12 P) ∙ ap (drop m) (drop-paste out 0 H 12 (omega arith) (omega arith)) ∙ drop-drop m 12 out ∙ ap (λ k. drop k out) n in
+    λ i. front i ++ middle i ++ back i
+
+-- ---- the answers
+
+module _ (s out : List ℕ) where
+  pub packs-refused : (k i : ℕ) → readOf v1 s ≡ refused k i → Repacks s out (record { number = k; at = i; filled = 0 }) out
+  unfolding packOf
+  packs-refused k i e = record { answer = rw e; output = rw e }
+
+  module _ {ch : Chain} (c : Chained s ch) where
+    pub packs-declined : length out < 12 * (ch .n + 1) → Repacks s out (record { number = 11; at = 0; filled = 0 }) out
+    unfolding packOf
+    packs-declined h = record { answer = rw (c .reads, short); output = rw (c .reads, short) }
+      where
+        short : ltb (length out) (12 * (length (map (entryAt v1 s) (c .done)) + 1)) ≡ true
+        short = lt-ltb (length out) (12 * (length (map (entryAt v1 s) (c .done)) + 1)) (rw (length-map, ← c .count) h)
+
+    rules-long : length (rulesAt s (c .done)) ≡ ch .n
+    rules-long = length-map (c .done) (λ (i : ℕ). ruleOf v1 (recordAt v1 s i)) ∙ sym (c .count)
+
+    book-long : length (bookOf v1 (objectiveOf v1 s) (rulesAt s (c .done))) ≡ 12 * (ch .n + 1)
+    book-long = length-bookOf v1 (objectiveOf v1 s) (rulesAt s (c .done)) ∙ ap (λ n. 12 * (n + 1)) rules-long
+
+    fits : 12 * (ch .n + 1) ≤ length out → packOf v1 (readOf v1 s) (length out) ≡ packed (bookOf v1 (objectiveOf v1 s) (rulesAt s (c .done)))
+    unfolding packOf
+    fits h =
+        let room : ltb (length out) (12 * (length (map (entryAt v1 s) (c .done)) + 1)) ≡ false = le-ltb (length out) (12 * (length (map (entryAt v1 s) (c .done)) + 1)) (rw (length-map, ← c .count) h) in
+        rw (c .reads, room, rules-of v1 s (c .done))
+
+    pub packs-packed : 12 * (ch .n + 1) ≤ length out → (first : ℕ) (H out₁ out₂ : List ℕ) → first ≡ cond (ltb 0 (ch .n)) 1 0 → H ≡ headerBytes v1 first (objectiveOf v1 s) (ch .n) → out₁ ≡ paste out 0 H 12 → out₂ ≡ paste out₁ 12 (chainBytes v1 1 (rulesAt s (take (ch .n) (ch .records)))) (12 * ch .n) → Repacks s out (record { number = 0; at = 0; filled = 12 * (ch .n + 1) }) out₂
+    unfolding bookOf
+    packs-packed h first H out₁ out₂ ef eh e₁ e₂ =
+        let rs = rulesAt s (c .done) in
+        let all : take (ch .n) (ch .records) ≡ c .done = (λ j. take (c .count j) (c .kept j)) ∙ take-at (c .done) (replicate (255 - length (c .done)) 0) (length (c .done)) refl in
+        let link : first ≡ nextOf 0 rs = ef ∙ ap (λ n. cond (ltb 0 n) 1 0) (sym rules-long) ∙ sym (next-is 0 0 rs) in
+        let head : H ≡ headerBytes v1 (nextOf 0 rs) (objectiveOf v1 s) (length rs) = eh ∙ (λ j. headerBytes v1 (link j) (objectiveOf v1 s) (sym rules-long j)) in
+        let T = chainBytes v1 1 rs in
+        let long : length T ≡ 12 * ch .n = length-chainBytes v1 1 rs ∙ rw rules-long (omega arith) in
+        record {
+          answer = (λ j. record { number = 0; at = 0; filled = sym book-long j }) ∙ ap repackedOf (sym (fits h));
+          output =
+              e₂
+              ∙ (λ j. paste (e₁ j) 12 (chainBytes v1 1 (rulesAt s (all j))) (12 * ch .n))
+              ∙ ap (λ l. paste (paste out 0 l 12) 12 T (12 * ch .n)) head
+              ∙ two-pastes out (headerBytes v1 (nextOf 0 rs) (objectiveOf v1 s) (length rs)) T (12 * ch .n) (length-recordBytes v1 _ _ _ _ _ _) long (omega arith)
+              ∙ ap (λ (k : Packing). outputOf k out) (sym (fits h));
+        }

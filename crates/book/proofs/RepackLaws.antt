@@ -1,0 +1,180 @@
+-- The laws of repacking: the repacked form of an accepted book is accepted and reads as the same objective and rules; it is its own repacked form; and
+-- books that read alike have one repacked form.
+use Prim.Native.Nat.{ℕ, zero, suc, _+_, _*_, _^_, _≤_, _<_}
+use mathlib.Core.Path.{_≡_, refl, sym, ap, _∙_, subst, subst⁻¹}
+use mathlib.Core.Bool.{Bool, true, false, cond}
+use mathlib.Core.List.{List, [], _∷_, _++_, map}
+use native.Mathlib.Omega.{arith}
+use native.Mathlib.Nat.{mul-comm, mul-suc, add-comm}
+use native.Mathlib.Numerals.{add-one}
+use native.Mathlib.Decide.{decLt}
+use borrow.Author.Tests.{lt-ltb, le-ltb, ltb-false, ltb-true}
+use lib.ListN.{length, take, drop, getD, length-map, List·getD-eq-default, length-take}
+use lib.Seq.{getD-take, getD-drop}
+use lib.Dec.{ltb, lit≤, lit<}
+use Rattle.lp.specs.declared.Functional.{Functional}
+use Rattle.book.specs.declared.Rule.{Rule}
+use Rattle.book.specs.Layout.{Layout, width, atLabel, v1, Usable}
+use Rattle.book.specs.Number.{number, Bytes}
+use Rattle.book.specs.Record.{recordAt, ruleOf, labelOf}
+use Rattle.book.specs.Reading.{Reading, refused, accepted, Entry, countOf, entryAt, readOf}
+use Rattle.book.specs.Repacking.{bookOf, Packing, declined, packed, ruleIn, numbered, packOf, repackOf, ReadAlike}
+use Rattle.book.specs.Answers.{indexIn}
+use Rattle.book.specs.Lawful.{LawfulRule}
+use Rattle.book.specs.Causes.{Applies, cause-1, cause-2, cause-3, cause-4, cause-5, cause-6, cause-7, cause-8, cause-9, cause-10}
+use Rattle.book.proofs.Causes.{refusal-applies}
+use Rattle.book.proofs.Numbers.{two-bytes}
+use Rattle.book.proofs.Bounds.{chain-count, count-room, lawful-objective, accepted-entries, entry-lawful}
+use Rattle.book.proofs.Output.{rules-of}
+use Rattle.book.proofs.Readback.{book-reads, numbered-rules, numbered-length}
+use Rattle.book.proofs.Packed.{length-bookOf}
+
+pub usable-v1 : Usable v1
+usable-v1 = record { links = lit≤ tt; counts = lit≤ tt; versions = lit< tt }
+
+-- ---- labels are sixteen bits
+
+bytes-drop : (n : ℕ) (s : List ℕ) → Bytes s → Bytes (drop n s)
+bytes-drop n s b i = rw (getD-drop n s i 0) (b (n + i))
+
+bytes-take : (n : ℕ) (s : List ℕ) → Bytes s → Bytes (take n s)
+bytes-take n s b i = go (decLt i n)
+  where
+    go : Dec (i < n) → getD (take n s) i 0 < 256
+    go (yes h) = rw (getD-take n s i 0 h) (b i)
+    go (no h) = rw (List·getD-eq-default (take n s) 0 {n = i} (omega (arith, length-take n s))) (lit< tt)
+
+two-small : (s : List ℕ) → Bytes s → number 2 s < 65536
+two-small s b = omega (arith, two-bytes s 0, b 0, b 1)
+
+label-small : (L : Layout) (s : List ℕ) → Bytes s → (i : ℕ) → ruleOf L (recordAt L s i) .label < 65536
+unfolding recordAt
+label-small L s b i = two-small (drop (atLabel L) (take (width L) (drop (i * width L) s))) (bytes-drop (atLabel L) (take (width L) (drop (i * width L) s)) (bytes-take (width L) (drop (i * width L) s) (bytes-drop (i * width L) s b)))
+
+-- ---- from a book to its repacked form
+
+map-at : (f : ℕ → Rule) (l : List ℕ) (j : ℕ) (d : Rule) → j < length l → getD (map f l) j d ≡ f (getD l j 0)
+map-at f [] j d h = absurd (let z : ⊥ = omega arith in z)
+map-at f (x ∷ l) zero d h = refl
+map-at f (x ∷ l) (suc j) d h = map-at f l j d (omega arith)
+
+module _ (L : Layout) (u : Usable L) (s : List ℕ) (b : Bytes s) {o : Functional} {es : List Entry} (e : readOf L s ≡ accepted o es) where
+  at-place : (j : ℕ) (d : Rule) → j < length (map ruleIn es) → getD (map ruleIn es) j d ≡ ruleOf L (recordAt L s (getD (map indexIn es) j 0))
+  at-place j d h =
+      let k : j < length (map indexIn es) = rw length-map (rw length-map at h) in
+      ap (λ l. getD l j d) (ap (map ruleIn) (accepted-entries L s e) ∙ rules-of L s (map indexIn es))
+      ∙ map-at (λ i. ruleOf L (recordAt L s i)) (map indexIn es) j d k
+
+  all-lawful : (j : ℕ) (d : Rule) → j < length (map ruleIn es) → LawfulRule (getD (map ruleIn es) j d) × (getD (map ruleIn es) j d .label < 65536)
+  all-lawful j d h =
+      let k : j < length es = rw length-map at h in
+      rw (at-place j d h) (entry-lawful L s e j k, label-small L s b (getD (map indexIn es) j 0))
+
+  -- the repacked form is accepted, with the same objective and the same rules, labels and kinds in the same order
+  pub packed-reads : readOf L (bookOf L o (map ruleIn es)) ≡ accepted o (numbered 1 (map ruleIn es))
+  packed-reads =
+      let room : length (map ruleIn es) < L .records = omega (arith, length-map es ruleIn, chain-count L s e, count-room L s e) in
+      book-reads L u o (map ruleIn es) room (lawful-objective L s e) all-lawful
+
+-- ---- what repacking says
+
+-- an accepted book whose repacked form has no room
+pub record Crowded (L : Layout) (x : Reading) (room : ℕ) : Type 0 where
+  pub goal : Functional
+  pub entries : List Entry
+  pub reads : x ≡ accepted goal entries
+  pub short : room < width L * (length entries + 1)
+
+number-table : {L : Layout} {s : List ℕ} {k i : ℕ} → Applies L s k i → k ≤ 10
+number-table (cause-1 a) = lit≤ tt
+number-table (cause-2 a b) = lit≤ tt
+number-table (cause-3 a b c) = lit≤ tt
+number-table (cause-4 a b c d) = lit≤ tt
+number-table (cause-5 a b c d f) = lit≤ tt
+number-table (cause-6 w h) = lit≤ tt
+number-table (cause-7 w z h m) = lit≤ tt
+number-table (cause-8 r a) = lit≤ tt
+number-table (cause-9 r a b) = lit≤ tt
+number-table (cause-10 r a b c) = lit≤ tt
+
+-- bytes come of an accepted book with room for them, and are its repacked form
+record Packs (L : Layout) (x : Reading) (room : ℕ) (bs : List ℕ) : Type 0 where
+  goal : Functional
+  entries : List Entry
+  reads : x ≡ accepted goal entries
+  fits : width L * (length entries + 1) ≤ room
+  form : bs ≡ bookOf L goal (map ruleIn entries)
+
+packed-from : (L : Layout) (x : Reading) (room : ℕ) (bs : List ℕ) → packOf L x room ≡ packed bs → Packs L x room bs
+unfolding packOf
+packed-from L (refused k i) room bs e = absurd (let n : _≡_ {A = ℕ} 0 1 = cc in let z : ⊥ = omega arith in z)
+packed-from L (accepted o es) room bs e = go (ltb room (width L * (length es + 1))) refl e
+  where
+    go : (t : Bool) → ltb room (width L * (length es + 1)) ≡ t → cond t (declined 11 0) (packed (bookOf L o (map ruleIn es))) ≡ packed bs → Packs L (accepted o es) room bs
+    go true h e = absurd (let n : _≡_ {A = ℕ} 0 1 = cc in let z : ⊥ = omega arith in z)
+    go false h e =
+        record { goal = o; entries = es; reads = refl; fits = ltb-false room (width L * (length es + 1)) h; form = cc }
+
+packs-whole : (L : Layout) (o : Functional) (es : List Entry) (room : ℕ) → width L * (length es + 1) ≤ room → packOf L (accepted o es) room ≡ packed (bookOf L o (map ruleIn es))
+unfolding packOf
+packs-whole L o es room h = rw (le-ltb room (width L * (length es + 1)) h)
+
+module _ (L : Layout) (u : Usable L) (s : List ℕ) (b : Bytes s) (room : ℕ) (bs : List ℕ) (e : repackOf L s room ≡ packed bs) where
+  from : Packs L (readOf L s) room bs
+  from = packed-from L (readOf L s) room bs e
+
+  back : readOf L bs ≡ accepted (from .goal) (numbered 1 (map ruleIn (from .entries)))
+  back = ap (readOf L) (from .form) ∙ packed-reads L u s b (from .reads)
+
+  -- the repacked bytes are accepted, and read as the same objective and the same rules, labels and kinds in the same order
+  pub repacked-alike : ReadAlike (readOf L s) (readOf L bs)
+  repacked-alike =
+      record {
+        goal = from .goal;
+        first = from .entries;
+        second = numbered 1 (map ruleIn (from .entries));
+        one = from .reads;
+        two = back;
+        rules = sym (numbered-rules 1 (map ruleIn (from .entries)));
+      }
+
+  -- repacking them again gives the same bytes
+  pub repacked-again : (more : ℕ) → length bs ≤ more → repackOf L bs more ≡ packed bs
+  repacked-again more h =
+      let rs = map ruleIn (from .entries) in
+      let long : width L * (length (numbered 1 rs) + 1) ≡ length bs = sym (ap length (from .form) ∙ length-bookOf L (from .goal) rs ∙ ap (λ n. width L * (n + 1)) (sym (numbered-length 1 rs))) in
+      ap (λ x. packOf L x more) back
+      ∙ packs-whole L (from .goal) (numbered 1 rs) more (omega arith)
+      ∙ ap packed (ap (bookOf L (from .goal)) (numbered-rules 1 rs) ∙ sym (from .form))
+
+module _ (L : Layout) (s : List ℕ) (room : ℕ) where
+  -- the bytes are as many as the format says
+  pub repacked-length : {o : Functional} {es : List Entry} {bs : List ℕ} → readOf L s ≡ accepted o es → repackOf L s room ≡ packed bs → length bs ≡ width L * (length es + 1)
+  repacked-length {es = es} {bs = bs} r e =
+      let p = packed-from L (readOf L s) room bs e in
+      let same : p .entries ≡ es = let q = p .reads in cc in
+      ap length (p .form) ∙ length-bookOf L (p .goal) (map ruleIn (p .entries)) ∙ ap (λ n. width L * (n + 1)) (length-map (p .entries) ruleIn) ∙ ap (λ l. width L * (length l + 1)) same
+
+  -- 11 is said of an accepted book without room, and of no other
+  pub no-room : {o : Functional} {es : List Entry} → readOf L s ≡ accepted o es → room < width L * (length es + 1) → repackOf L s room ≡ declined 11 0
+  unfolding packOf
+  no-room {es = es} r h = rw (r, lt-ltb room (width L * (length es + 1)) h)
+
+  pub eleven-last : {i : ℕ} → repackOf L s room ≡ declined 11 i → Crowded L (readOf L s) room
+  unfolding packOf
+  eleven-last {i} e = go (readOf L s) refl e
+    where
+      go : (x : Reading) → readOf L s ≡ x → packOf L x room ≡ declined 11 i → Crowded L (readOf L s) room
+      go (refused k j) p e = absurd (let t = number-table (refusal-applies L s p) in let n : k ≡ 11 = cc in let z : ⊥ = omega arith in z)
+      go (accepted o es) p e = pick (ltb room (width L * (length es + 1))) refl e
+        where
+          pick : (t : Bool) → ltb room (width L * (length es + 1)) ≡ t → cond t (declined 11 0) (packed (bookOf L o (map ruleIn es))) ≡ declined 11 i → Crowded L (readOf L s) room
+          pick true h e = record { goal = o; entries = es; reads = p; short = ltb-true room (width L * (length es + 1)) h }
+          pick false h e = absurd (let n : _≡_ {A = ℕ} 0 1 = cc in let z : ⊥ = omega arith in z)
+
+-- books that read alike repack to the same bytes
+pub alike-repacked : (L : Layout) (s t : List ℕ) (room : ℕ) → ReadAlike (readOf L s) (readOf L t) → repackOf L s room ≡ repackOf L t room
+unfolding packOf
+alike-repacked L s t room a =
+    let n : length (a .first) ≡ length (a .second) = sym (length-map (a .first) ruleIn) ∙ ap length (a .rules) ∙ length-map (a .second) ruleIn in
+    rw (a .one, a .two, a .rules, n)

@@ -1,0 +1,41 @@
+-- Spare records do not matter: two books of one length that agree on the header and on the records of the chain read alike.
+use Prim.Native.Nat.{ℕ, zero, suc}
+use mathlib.Core.Path.{_≡_, refl, sym, ap, _∙_}
+use mathlib.Core.Bool.{cond}
+use mathlib.Core.List.{List, [], _∷_, _++_, map}
+use lib.ListN.{length}
+use lib.Dec.{eqb, ltb}
+use Rattle.book.specs.Layout.{Layout, width}
+use Rattle.book.specs.Record.{recordAt, linkOf, ruleOf, decodedOf, numberOf}
+use Rattle.book.specs.Reading.{Reading, refused, accepted, Entry, objectiveOf, countOf, entryAt, memb, headerFault, follow, walk, readOf}
+use Rattle.book.specs.Spare.{OnChain, header, link}
+use Rattle.book.proofs.Walking.{walk-once}
+
+map-snoc : (f : ℕ → Entry) (l : List ℕ) (i : ℕ) → map f (l ++ (i ∷ [])) ≡ map f l ++ (f i ∷ [])
+map-snoc f [] i = refl
+map-snoc f (x ∷ l) i = ap (λ r. f x ∷ r) (map-snoc f l i)
+
+module _ (L : Layout) (s t : List ℕ) (long : length s ≡ length t) (agree : (i : ℕ) → OnChain L s i → recordAt L s i ≡ recordAt L t i) where
+  same-fault : headerFault L s ≡ headerFault L t
+  unfolding headerFault
+  same-fault = let r = agree 0 header in rw (long, r)
+
+  same-follow : (done : List ℕ) (at i : ℕ) (x y : Reading) → OnChain L s i → map (entryAt L s) done ≡ map (entryAt L t) done → x ≡ y → follow L s done at i x ≡ follow L t done at i y
+  unfolding follow
+  same-follow done at i x y c m p = let r = agree 0 header in let q = agree i c in rw (r, q, m, p)
+
+  same-walk : (links : ℕ) (done : List ℕ) (at : ℕ) → OnChain L s at → map (entryAt L s) done ≡ map (entryAt L t) done → walk L s links done at ≡ walk L t links done at
+  unfolding walk
+  same-walk zero done at c m = refl
+  same-walk (suc links) done at c m =
+      let i = linkOf L (recordAt L s at) in
+      let e : i ≡ linkOf L (recordAt L t at) = ap (linkOf L) (agree at c) in
+      let one : entryAt L s i ≡ entryAt L t i = ap (λ r. record { index = i; rule = ruleOf L r }) (agree i (link c)) in
+      let more : map (entryAt L s) (done ++ (i ∷ [])) ≡ map (entryAt L t) (done ++ (i ∷ [])) = map-snoc (entryAt L s) done i ∙ (λ j. m j ++ (one j ∷ [])) ∙ sym (map-snoc (entryAt L t) done i) in
+      walk-once L s links done at i refl
+      ∙ same-follow done at i (walk L s links (done ++ (i ∷ [])) i) (walk L t links (done ++ (i ∷ [])) i) (link c) m (same-walk links (done ++ (i ∷ [])) i (link c) more)
+      ∙ sym (walk-once L t links done at i e)
+
+  pub spare-free : readOf L s ≡ readOf L t
+  unfolding readOf
+  spare-free = let f = same-fault in let w = same-walk (L .records) [] 0 header refl in rw (f, w)

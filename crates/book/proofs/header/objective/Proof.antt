@@ -1,0 +1,42 @@
+use borrow.Author.Needs.{needs}
+use mathlib.Core.Path.{_≡_, _∙_, ap}
+use mir.Syntax.{w16, w64}
+use mir.Val.{toZ, ofZ}
+use Rattle.book.proofs.Fields.{a-at, b-at}
+use Rattle.book.proofs.header.objective.Statement.{statement}
+use Rattle.book.proofs.header.objective.Tie as tie
+use Rattle.book.proofs.header.objective.Reads as reads
+use Rattle.book.proofs.header.objective.Lts as lts
+use Rattle.book.proofs.bytes.number2.Reads as number2-reads
+use Rattle.book.proofs.bytes.signed16.Reads as signed16-reads
+
+-- src/header.rt:15:21
+number2-requires : tie.Need-number2-requires
+number2-requires c κs = search needs
+
+-- src/header.rt:15:12
+signed16-requires : tie.Need-signed16-requires
+signed16-requires c κs = search needs
+
+-- src/header.rt:16:21
+number2-requires-2 : tie.Need-number2-requires-2
+number2-requires-2 c κs = search needs
+
+-- src/header.rt:16:12
+signed16-requires-2 : tie.Need-signed16-requires-2
+signed16-requires-2 c κs = search needs
+
+-- src/header.rt:11:1
+returns : tie.Need-returns
+returns c =
+    let s = c .before .before .before .before .before .args .book .now in
+    let va : toZ w64 (ofZ w64 (c .before .before .signed16 .result)) ≡ c .before .before .signed16 .result = search needs in
+    let vb : toZ w64 (ofZ w64 (c .signed162 .result)) ≡ c .signed162 .result = search needs in
+    let pa = va ∙ c .before .before .signed16 .ensures ∙ ap (toZ w16) (c .before .before .before .number2 .ensures ∙ a-at s 0) in
+    let pb = vb ∙ c .signed162 .ensures ∙ ap (toZ w16) (c .before .number22 .ensures ∙ b-at s 0) in
+    λ j. record { p = pa j; q = pb j }
+
+pub objective-spec : {M : Type 1} → statement M
+objective-spec =
+    tie.close
+    (tie.spec number2-requires signed16-requires number2-requires-2 signed16-requires-2 returns)

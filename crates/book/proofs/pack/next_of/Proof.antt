@@ -1,0 +1,21 @@
+use borrow.Author.Needs.{needs}
+use borrow.Author.Tests.{lt-ltb, le-ltb}
+use Rattle.book.proofs.pack.next_of.Statement.{statement}
+use Rattle.book.proofs.pack.next_of.Tie as tie
+use Rattle.book.proofs.pack.next_of.Reads as reads
+use Rattle.book.proofs.pack.next_of.Lts as lts
+
+-- src/pack.rt:20:16
+add-result : tie.Need-add-result
+add-result c = search needs
+
+-- src/pack.rt:17:1
+returns : tie.Need-returns
+returns c = rw (lt-ltb (c .before .args .k) (c .before .args .n) (c .if1 .taken))
+
+-- src/pack.rt:17:1
+returns-2 : tie.Need-returns-2
+returns-2 c = rw (le-ltb (c .before .args .k) (c .before .args .n) (c .if1 .left))
+
+pub next-of-spec : {M : Type 1} → statement M
+next-of-spec = tie.close (tie.spec add-result returns returns-2)

@@ -1,0 +1,132 @@
+use borrow.Author.Needs.{needs}
+use native.Mathlib.Omega.{arith}
+use Prim.Native.Nat.{ℕ, _+_, _-_, _*_, _≤_, _<_}
+use mathlib.Core.Path.{_≡_, refl, sym, ap, _∙_}
+use lib.ListN.{length, take}
+use lib.Seq.{paste, paste-zero}
+use Rattle.book.specs.Layout.{v1}
+use Rattle.book.specs.Repacking.{chainBytes}
+use Rattle.book.specs.Answers.{rulesAt, Room}
+use Rattle.book.proofs.Packed.{paste-next, rule-copied, next-small, length-chainBytes, length-rules}
+use Rattle.book.proofs.pack.put_rules.Statement.{statement}
+use Rattle.book.proofs.pack.put_rules.Tie as tie
+use Rattle.book.proofs.pack.put_rules.Reads as reads
+use Rattle.book.proofs.pack.put_rules.Lts as lts
+use Rattle.book.proofs.pack.next_of.Reads as next-of-reads
+use Rattle.book.proofs.pack.rule_bytes.Reads as rule-bytes-reads
+use Rattle.book.proofs.pack.store.Reads as store-reads
+
+abbrev Inv-loop : tie.InvT-loop
+Inv-loop book out₀ n records k₀ out k =
+    (k ≤ n)
+    × (out ≡ paste out₀ 12 (chainBytes v1 1 (rulesAt book (take n records))) (12 * k))
+    × (length out ≡ length out₀)
+    × Room n out₀
+    × (length records ≡ 255)
+
+abbrev μ-loop : tie.MeasureT-loop
+μ-loop book out₀ n records k₀ out k = n - k
+
+-- src/pack.rt:86:5
+loop-holds : tie.Need-loop-holds Inv-loop μ-loop
+loop-holds c = (omega arith, paste-zero (c .before .before .args .out .now) 12 (chainBytes v1 1 (rulesAt (c .before .before .args .book .now) (take (c .before .before .args .n) (c .before .before .args .t3)))), refl, c .before .before .pre, (search needs))
+
+-- src/pack.rt:87:17
+cast-i : tie.Need-cast-i Inv-loop μ-loop
+cast-i c = omega arith
+
+-- src/pack.rt:88:21
+mul-index : tie.Need-mul-index Inv-loop μ-loop
+mul-index c = omega arith
+
+-- src/pack.rt:88:21
+array-read-index : tie.Need-array-read-index Inv-loop μ-loop
+array-read-index c = omega arith
+
+-- src/pack.rt:89:21
+add-place : tie.Need-add-place Inv-loop μ-loop
+add-place c = omega arith
+
+-- src/pack.rt:90:20
+next-of-requires : tie.Need-next-of-requires Inv-loop μ-loop
+next-of-requires c κs = tt
+
+-- src/pack.rt:90:20
+cast-link : tie.Need-cast-link Inv-loop μ-loop
+cast-link c = omega (arith, c .next-of .ensures, next-small (c .before .before .loop .k + 1) (c .before .before .before .before .before .args .n))
+
+-- src/pack.rt:91:13
+rule-bytes-requires : tie.Need-rule-bytes-requires Inv-loop μ-loop
+rule-bytes-requires c κs = tt
+
+-- src/pack.rt:92:32
+cast-store : tie.Need-cast-store Inv-loop μ-loop
+cast-store c = omega arith
+
+-- src/pack.rt:92:26
+mul-store : tie.Need-mul-store Inv-loop μ-loop
+mul-store c = omega arith
+
+-- src/pack.rt:92:9
+store-requires : tie.Need-store-requires Inv-loop μ-loop
+store-requires c κs = omega arith
+
+-- src/pack.rt:86:5
+loop-less : tie.Need-loop-less Inv-loop μ-loop
+loop-less c = omega arith
+
+-- src/pack.rt:86:5
+loop-again : tie.Need-loop-again Inv-loop μ-loop
+loop-again c =
+    let l = c .before .before .before .before .before .before .before .loop in
+    let a = c .before .before .before .before .before .before .before .before .before .before .args in
+    let T = chainBytes v1 1 (rulesAt (a .book .now) (take (a .n) (a .t3))) in
+    let bytes = c .before .before .before .before .rule-bytes .result in
+    let few : a .n ≤ length (a .t3) = omega arith in
+    let long : 12 * l .k ≤ length T = omega (arith, length-chainBytes v1 1 (rulesAt (a .book .now) (take (a .n) (a .t3))), length-rules (a .book .now) (a .t3) (a .n) few) in
+    let here : 12 * (l .k + 1) ≡ 12 + 12 * l .k = omega arith in
+    let next : 12 * l .k + 12 ≡ 12 * (l .k + 1) = omega arith in
+    let copied = rule-copied (a .book .now) (a .t3) bytes (a .n) (l .k) (c .before .before .before .before .before .next-of .result) (c .before .before .before .before .before .before .loop-test .taken) few (c .before .before .before .before .before .next-of .ensures) (c .before .before .before .before .rule-bytes .ensures) in (
+      omega arith,
+      c .before .before .store .ensures
+          ∙ (λ j. paste (l .inv .1 j) (here j) bytes 12)
+          ∙ paste-next (a .out .now) T bytes 12 (12 * l .k) 12 (omega arith) long copied
+          ∙ ap (paste (a .out .now) 12 T) next,
+      c .before .before .store .kept .0 ∙ l .inv .2,
+      l .inv .3,
+      l .inv .4,
+    )
+
+-- src/pack.rt:81:1
+same-length : tie.Need-same-length Inv-loop μ-loop
+same-length c = c .before .loop .inv .2
+
+-- src/pack.rt:81:1
+returns : tie.Need-returns Inv-loop μ-loop
+returns c =
+    let l = c .before .loop in
+    let a = c .before .before .before .before .args in
+    let e : 12 * l .k ≡ 12 * a .n = omega arith in
+    l .inv .1 ∙ ap (paste (a .out .now) 12 (chainBytes v1 1 (rulesAt (a .book .now) (take (a .n) (a .t3))))) e
+
+pub put-rules-spec : {M : Type 1} → statement M
+put-rules-spec =
+    tie.close
+    (tie.spec
+    Inv-loop
+    μ-loop
+    loop-holds
+    cast-i
+    mul-index
+    array-read-index
+    add-place
+    next-of-requires
+    cast-link
+    rule-bytes-requires
+    cast-store
+    mul-store
+    store-requires
+    loop-less
+    loop-again
+    same-length
+    returns)

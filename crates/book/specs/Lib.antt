@@ -1,0 +1,10 @@
+-- The definitions of this crate.
+pub mod Layout
+pub mod Number
+pub mod Record
+pub mod Reading
+pub mod Repacking
+pub mod Answers
+pub mod Causes
+pub mod Spare
+pub mod Lawful

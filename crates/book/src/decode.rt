@@ -1,0 +1,105 @@
+// A rule record: its link, its check (the causes 8, 9 and 10), and a number of kind 2 turned round.
+use crate::Decoded;
+use crate::Rule;
+use crate::bytes::byte_at;
+ghost use mathlib.Core.Path.{_≡_};
+ghost use mathlib.Core.Bool.{true};
+ghost use Rattle.book.specs.Layout.{v1};
+ghost use Rattle.book.specs.Record.{recordAt, linkOf, badKind, badSlope, badBound, checked, decodedOf, numberOf};
+ghost use Rattle.book.specs.Record as spec;
+ghost use Rattle.book.specs.Answers as answers;
+
+// The link of a record.
+pub fn link_at(book: &[u8], index: u16) -> u16
+    ensures { λ r. ⌜ r ≡ linkOf v1 (recordAt v1 (now (book .entry)) index) ⌝ }
+{
+    let at = index as usize * 12;
+    byte_at(book, at) as u16
+}
+
+// -32,768, which no number of sixteen bits of a book may be.
+pub fn lowest(x: i64) -> bool
+    ensures { λ r. ⌜ r ≡ spec.lowest x ⌝ }
+{
+    x < -32767
+}
+
+// Outside the range of c.
+fn beyond(x: i64) -> bool
+    ensures { λ r. ⌜ r ≡ spec.beyond x ⌝ }
+{
+    x < -1000000000 || x > 1000000000
+}
+
+// Cause 8.
+fn bad_kind(rule: Rule) -> bool
+    ensures { λ r. ⌜ r ≡ badKind true rule ⌝ }
+{
+    let kind = rule.kind;
+    if kind == 1 {
+        return false;
+    }
+    kind != 2
+}
+
+// Cause 9.
+fn bad_slope(rule: Rule) -> bool
+    ensures { λ r. ⌜ r ≡ badSlope rule ⌝ }
+{
+    if lowest(rule.a) {
+        return true;
+    }
+    lowest(rule.b)
+}
+
+// Cause 10.
+fn bad_bound(rule: Rule) -> bool
+    ensures { λ r. ⌜ r ≡ badBound rule ⌝ }
+{
+    beyond(rule.c)
+}
+
+// A rule with its link, or the first of 8, 9 and 10 that turns it back.
+fn check(rule: Rule, next: u16) -> Decoded
+    ensures { λ r. ⌜ r ≡ checked true rule next ⌝ }
+{
+    let kind = bad_kind(rule);
+    let slope = bad_slope(rule);
+    let bound = bad_bound(rule);
+    if kind {
+        return Decoded::Kind;
+    }
+    if slope {
+        return Decoded::Slope;
+    }
+    if bound {
+        return Decoded::Bound;
+    }
+    Decoded::Sound(rule, next)
+}
+
+// The record that a link leads to.
+pub fn decode(book: &[u8], index: u16) -> Decoded
+    ensures { λ r. ⌜ r ≡ decodedOf v1 (recordAt v1 (now (book .entry)) index) ⌝ }
+{
+    check(crate::rule_at(book, index), link_at(book, index))
+}
+
+// The cause's number; 0 for a sound record.
+pub fn number_of(decoded: Decoded) -> u8
+    ensures { λ r. ⌜ r ≡ numberOf decoded ⌝ }
+{
+    match decoded {
+        Decoded::Sound(_, _) => 0,
+        Decoded::Kind => 8,
+        Decoded::Slope => 9,
+        Decoded::Bound => 10,
+    }
+}
+
+// A number of a kind 2 rule, turned round. No rule of a book has one below -1,000,000,000; for such a one it is 0.
+pub fn turned(x: i64) -> i64
+    ensures { λ r. ⌜ r ≡ answers.turned x ⌝ }
+{
+    if x < -1000000000 { 0 } else { 0 - x }
+}

@@ -1,0 +1,138 @@
+// The rule book of document 01: what it reads as, what turns it back, and its repacked form. Every function that can be called from
+// outside is total: it takes any bytes and answers.
+mod bytes;
+mod decode;
+mod header;
+mod links;
+mod pack;
+
+use bytes::byte_at;
+use bytes::number2;
+use bytes::number4;
+use bytes::signed16;
+use bytes::signed32;
+use header::header_fault;
+use links::refused;
+use links::walk;
+use lp::Constraint;
+use lp::Functional;
+use pack::header_bytes;
+use pack::next_of;
+use pack::put_rules;
+use pack::store;
+ghost use mathlib.Core.Path.{_≡_};
+ghost use Rattle.book.specs.Answers.{Reads, Repacks, RuleAt, constraintOf};
+
+// A rule as its record has it, kind 2 not turned round.
+pub struct Rule {
+    pub kind: u8,
+    pub a: i64,
+    pub b: i64,
+    pub c: i64,
+    pub label: u16,
+}
+
+// What a rule record comes to: its rule and its link, or what turns it back.
+pub enum Decoded {
+    Sound(Rule, u16),
+    Kind,
+    Slope,
+    Bound,
+}
+
+// What a book reads as. Turned back: the cause's number and the record that it names, and all else zero. Accepted: number and
+// at are 0, and the first n of records are the chain's record indices in order, with zeros after them.
+pub struct Chain {
+    pub number: u8,
+    pub at: u16,
+    pub objective: Functional,
+    pub n: usize,
+    pub records: [u16; 255],
+}
+
+// What repacking answers: the cause's number and the record that it names, or how many bytes of the output were filled.
+pub struct Repacked {
+    pub number: u8,
+    pub at: u16,
+    pub filled: usize,
+}
+
+// What a book reads as.
+pub fn read(book: &[u8]) -> Chain
+    ensures { λ r. ⌜ Reads (now (book .entry)) r ⌝ }
+{
+    let fault = header_fault(book);
+    if fault == 0 {
+        walk(book)
+    } else {
+        refused(fault, 0)
+    }
+}
+
+// The rule of a record, whether the record is on the chain or not.
+pub fn rule_at(book: &[u8], index: u16) -> Rule
+    ensures { λ r. ⌜ RuleAt (now (book .entry)) index r ⌝ }
+{
+    let at = index as u32 * 12;
+    Rule {
+        kind: byte_at(book, at as usize + 1),
+        a: signed16(number2(book, at + 2)),
+        b: signed16(number2(book, at + 4)),
+        c: signed32(number4(book, at + 8)),
+        label: number2(book, at + 6),
+    }
+}
+
+// A rule as it is planned: at most, so that kind 2 is turned round.
+pub fn constraint(rule: Rule) -> Constraint
+    ensures { λ r. ⌜ r ≡ constraintOf rule ⌝ }
+{
+    let kind = rule.kind;
+    if kind == 2 {
+        Constraint {
+            a: decode::turned(rule.a),
+            b: decode::turned(rule.b),
+            c: decode::turned(rule.c),
+        }
+    } else {
+        Constraint {
+            a: rule.a,
+            b: rule.b,
+            c: rule.c,
+        }
+    }
+}
+
+// The repacked form of a book, into the output. A book that is turned back, or an output without room, leaves the output as it was.
+pub fn repack(book: &[u8], out: &mut [u8]) -> Repacked
+    ensures { λ r. ⌜ Repacks (now (book .entry)) (now (out .entry)) r (now (out .exit)) ⌝ }
+{
+    let chain = read(book);
+    let number = chain.number;
+    if number != 0 {
+        return Repacked {
+            number,
+            at: chain.at,
+            filled: 0,
+        };
+    }
+    let n = chain.n;
+    let filled = 12 * (n + 1);
+    if out.len() < filled {
+        return Repacked {
+            number: 11,
+            at: 0,
+            filled: 0,
+        };
+    }
+    let rules = n as u16;
+    let header = header_bytes(book, next_of(0, rules) as u8, rules);
+    store(&mut *out, 0, header);
+    let records = chain.records;
+    put_rules(book, &mut *out, records, rules);
+    Repacked {
+        number: 0,
+        at: 0,
+        filled,
+    }
+}

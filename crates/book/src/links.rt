@@ -1,0 +1,69 @@
+// The walk along the links, with the causes 6 to 10.
+use crate::Chain;
+use crate::Decoded;
+use crate::decode::decode;
+use crate::decode::link_at;
+use crate::decode::number_of;
+use crate::header::count;
+use crate::header::objective;
+use lp::Functional;
+ghost use mathlib.Core.Path.{_≡_};
+ghost use mathlib.Core.List.{[]};
+ghost use Prim.Native.Nat.{_≤_};
+ghost use Rattle.book.specs.Layout.{v1};
+ghost use Rattle.book.specs.Reading.{Reading, countOf};
+ghost use Rattle.book.specs.Reading as spec;
+ghost use Rattle.book.specs.Answers.{chainOf};
+
+// A book that is turned back.
+pub fn refused(number: u8, at: u16) -> Chain
+    ensures { λ r. ⌜ r ≡ chainOf (spec.refused number at) ⌝ }
+{
+    Chain {
+        number,
+        at,
+        objective: Functional { p: 0, q: 0 },
+        n: 0,
+        records: [0u16; 255],
+    }
+}
+
+// The chain from the header's link on. A record that is turned back stops the walk there.
+pub fn walk(book: &[u8]) -> Chain
+    requires { ⌜ countOf v1 (now book) ≤ 255 ⌝ }
+    ensures { λ r. ⌜ r ≡ chainOf (spec.walk v1 (now (book .entry)) 256 [] 0) ⌝ }
+{
+    let last = count(book);
+    let mut seen = [false; 256];
+    seen[0] = true;
+    let mut records = [0u16; 255];
+    let mut n: usize = 0;
+    let mut at: u16 = 0;
+    let mut link = link_at(book, 0);
+    while link != 0 {
+        if link > last {
+            return refused(6, at);
+        }
+        let index = link as usize;
+        if seen[index] {
+            return refused(7, at);
+        }
+        let decoded = decode(book, link);
+        let Decoded::Sound(_, next) = decoded else {
+            return refused(number_of(decoded), link);
+        };
+        seen[index] = true;
+        records[n] = link;
+        n += 1;
+        at = link;
+        link = next;
+    }
+    let goal = objective(book);
+    Chain {
+        number: 0,
+        at: 0,
+        objective: goal,
+        n,
+        records,
+    }
+}

@@ -1,0 +1,184 @@
+// Runs stored books from standard input, and writes a line for what each reads as and a line for what its repacking does.
+// A case is a name and a book, each after its length, and then the length of the output: two bytes for a length, low byte first.
+use io::print_decimal;
+use io::print_hex;
+
+// What the output holds before it is filled.
+ghost use mathlib.Core.Path.{_≡_};
+ghost use Prim.Native.Nat.{_<_, _^_};
+ghost use lib.ListN.{length};
+
+const BEFORE: u8 = 0xA5;
+
+fn number(n: u64) {
+    io::write_all(1, b" ");
+    print_decimal(1, n);
+}
+
+// A number of a book, with its sign.
+fn signed(z: i64) {
+    if z < -4294967296 {
+        io::write_all(1, b" below");
+        return;
+    }
+    if z < 0 {
+        io::write_all(1, b" -");
+        print_decimal(1, (0 - z) as u64);
+    } else {
+        number(z as u64);
+    }
+}
+
+fn wide(x: u8) -> usize
+    ensures { λ r. ⌜ r < 256 ⌝ }
+{
+    x as usize
+}
+
+// The length that stands at an index, or 0 past the end.
+fn length_at(s: &[u8], at: usize) -> usize
+    requires { ⌜ at < 2 ^ 32 ⌝ }
+    ensures { λ r. ⌜ r < 65536 ⌝ }
+{
+    if at + 1 < s.len() {
+        wide(s[at]) + 256 * wide(s[at + 1])
+    } else {
+        0
+    }
+}
+
+// A part of the input, or nothing where the input is too short.
+fn part(s: &[u8], from: usize, len: usize) -> &[u8]
+    requires { ⌜ (from < 2 ^ 32) × (len < 65536) ⌝ }
+{
+    if from + len <= s.len() {
+        let end = from + len;
+        &s[from..end]
+    } else {
+        &s[..0]
+    }
+}
+
+// A rule of the chain: its record, kind, a, b, c and label, and then a, b, c as they are planned.
+fn print_rule(bytes: &[u8], index: u16) {
+    let rule = book::rule_at(bytes, index);
+    let planned = book::constraint(rule);
+    io::write_all(1, b" |");
+    number(index as u64);
+    number(rule.kind as u64);
+    signed(rule.a);
+    signed(rule.b);
+    signed(rule.c);
+    number(rule.label as u64);
+    io::write_all(1, b" as");
+    signed(planned.a);
+    signed(planned.b);
+    signed(planned.c);
+}
+
+// The first n rules of the chain.
+fn print_rules(bytes: &[u8], records: [u16; 255], n: usize) {
+    let mut k: usize = 0;
+    while k < 255 {
+        if k < n {
+            print_rule(bytes, records[k]);
+        }
+        k += 1;
+    }
+}
+
+// What a book reads as.
+fn print_reading(bytes: &[u8]) {
+    let chain = book::read(bytes);
+    let number_said = chain.number;
+    if number_said != 0 {
+        io::write_all(1, b" refused");
+        number(number_said as u64);
+        number(chain.at as u64);
+        return;
+    }
+    let goal = chain.objective;
+    io::write_all(1, b" accepted");
+    signed(goal.p);
+    signed(goal.q);
+    let n = chain.n;
+    number(n as u64);
+    let records = chain.records;
+    print_rules(bytes, records, n);
+}
+
+// Bytes in hexadecimal.
+fn print_bytes(s: &[u8]) {
+    let mut i: usize = 0;
+    while i < s.len() {
+        print_hex(1, wide(s[i]) as u64, 2);
+        i += 1;
+    }
+}
+
+// How many bytes from an index on are not as they were before.
+fn changed(out: &[u8], from: usize) -> usize {
+    let mut n: usize = 0;
+    let mut i = from;
+    while i < out.len() {
+        if out[i] != BEFORE {
+            n += 1;
+        }
+        i += 1;
+    }
+    n
+}
+
+// What repacking a book does to an output.
+fn print_repacking(bytes: &[u8], out: &mut [u8]) {
+    let answer = book::repack(bytes, &mut *out);
+    number(answer.number as u64);
+    number(answer.at as u64);
+    let filled = answer.filled;
+    number(filled as u64);
+    io::write_all(1, b" ");
+    if filled <= out.len() {
+        print_bytes(&out[..filled]);
+        io::write_all(1, b" changed");
+        number(changed(&*out, filled) as u64);
+    }
+}
+
+// An output before it is filled.
+fn fresh() -> [u8; 4096]
+    ensures { λ r. ⌜ 4096 ≡ length r ⌝ }
+{
+    [BEFORE; 4096]
+}
+
+// A case from an index on, and the index after it.
+fn run(input: &[u8], at: usize) -> usize
+    requires { ⌜ at < 2 ^ 16 ⌝ }
+    ensures { λ r. ⌜ at < r ⌝ }
+{
+    let name_length = length_at(input, at);
+    let name = part(input, at + 2, name_length);
+    let book_at = at + 2 + name_length;
+    let book_length = length_at(input, book_at);
+    let bytes = part(input, book_at + 2, book_length);
+    let room_at = book_at + 2 + book_length;
+    let room = length_at(input, room_at);
+    io::write_all(1, name);
+    print_reading(bytes);
+    io::write_all(1, b"\n  packed");
+    let mut out = fresh();
+    if room <= 4096 {
+        print_repacking(bytes, &mut out[..room]);
+    }
+    io::write_all(1, b"\n");
+    room_at + 2
+}
+
+fn main() {
+    let mut input = io::large_buffer();
+    let n = io::read_full(0, &mut input);
+    let mut at: usize = 0;
+    while at < n {
+        at = run(&input[..n], at);
+    }
+}
