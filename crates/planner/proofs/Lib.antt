@@ -1,0 +1,5 @@
+-- Laws that the proofs of the planner's functions cite: sizes of sums and products (Sizes), magnitudes and quotients (Quotients), the passes over
+-- the entries (Passes).
+pub mod Sizes
+pub mod Quotients
+pub mod Passes
