@@ -18,8 +18,8 @@ use Rattle.model.specs.declared.Found.the-variants as found
 use Rattle.model.specs.declared.Broken.{Broken}
 use Rattle.model.specs.declared.Broken.the-variants as broken
 use Rattle.model.specs.Scan.{tighter, tightest, firstBroken}
-use Rattle.model.specs.Bounds.{SmallConstraint, SmallSystem, SmallFound, SmallPoint}
-use Rattle.model.proofs.Bounds.{tighter-small}
+use Rattle.model.specs.Bounds.{SmallConstraint, SmallSystem, SmallFound, SmallBroken, SmallPoint}
+use Rattle.model.proofs.Bounds.{tighter-small, tightest-small, firstBroken-small}
 use Rattle.planner.specs.Entries.{entry, entries}
 use Rattle.planner.specs.Sizes.{Entries, Room, Kept, Along, Checking, Tightening}
 
@@ -28,8 +28,8 @@ pub tighter-past : (l : Constraint) (i : ℕ) (m : Constraint) (f : Found) → l
 tighter-past l i m found.Nothing ec = rw (ec, tighter)
 tighter-past l i m (found.At j k p) ec = rw (ec, tighter)
 
-pub found-point : {f : Found} → SmallFound f → {j : ℕ} {k : Constraint} {p : Point} → f ≡ found.At j k p → SmallPoint p
-found-point s e = subst SmallFound e s .1
+pub found-parts : {f : Found} → SmallFound f → {j : ℕ} {k : Constraint} {p : Point} → f ≡ found.At j k p → SmallConstraint k × SmallPoint p
+found-parts s e = subst SmallFound e s
 
 -- ---- what a list of n entries gives at index k
 
@@ -40,13 +40,20 @@ entry-room h {k} b = record { room = omega (arith, h .room) }
 pub fewer : {l : List ℤ} {n m : ℕ} → m ≤ n → Entries l n → Entries l m
 fewer b h = record { room = omega (arith, h .room); small = λ k c. h .small k (omega arith) }
 
+entries-part : {l : List ℤ} {n : ℕ} → Entries l n → (i k : ℕ) → i + k ≤ n → SmallSystem (entries l i k)
+entries-part h i zero b = tt
+entries-part h i (suc k) b = (h .small i (omega arith), entries-part h (suc i) k (omega arith))
+
+pub entries-small : {l : List ℤ} {n : ℕ} → Entries l n → SmallSystem (entries l 0 n)
+entries-small {l} {n} h = entries-part h 0 n (omega arith)
+
 left-over : (n i : ℕ) → i < n → n - i ≡ suc (n - suc i)
 left-over n i h = omega arith
 
-entries-more : (l : List ℤ) (n i : ℕ) → i < n → entries l i (n - i) ≡ entry l i ∷ entries l (suc i) (n - suc i)
+pub entries-more : (l : List ℤ) (n i : ℕ) → i < n → entries l i (n - i) ≡ entry l i ∷ entries l (suc i) (n - suc i)
 entries-more l n i h = ap (entries l i) (left-over n i h)
 
-entries-none : (l : List ℤ) (n i : ℕ) → n ≤ i → entries l i (n - i) ≡ []
+pub entries-none : (l : List ℤ) (n i : ℕ) → n ≤ i → entries l i (n - i) ≡ []
 entries-none l n i h = ap (entries l i) (none n i h)
   where
     none : (n i : ℕ) → n ≤ i → n - i ≡ 0
@@ -104,3 +111,11 @@ module _ {l : List ℤ} {n : ℕ} {v : Point} (h : Checking l n v) {i : ℕ} (t 
 
   pub unbroken-end : n ≤ i → broken.Nowhere ≡ firstBroken v 0 (entries l 0 n)
   unbroken-end b = sym (ap (firstBroken v i) (entries-none l n i b)) ∙ t .rest
+
+-- ---- what the passes find is within the bounds
+
+pub along-small : {l : List ℤ} {n : ℕ} {line : Constraint} → Along l n line → {f : Found} → f ≡ tightest line 0 (entries l 0 n) found.Nothing → SmallFound f
+along-small {l} {n} h e = subst SmallFound (sym e) (tightest-small (h .line-small) 0 (entries l 0 n) (entries-small (h .entries)) found.Nothing tt)
+
+pub broken-small : {l : List ℤ} {n : ℕ} → Entries l n → (v : Point) → {b : Broken} → b ≡ firstBroken v 0 (entries l 0 n) → {i : ℕ} {m : Constraint} → b ≡ broken.At i m → SmallConstraint m
+broken-small {l} {n} h v e a = subst SmallBroken (sym e ∙ a) (firstBroken-small v 0 (entries l 0 n) (entries-small h))

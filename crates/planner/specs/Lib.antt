@@ -1,3 +1,5 @@
--- The entries of a system as numbers (Entries), and what the planner's private functions ask of the numbers that they are handed (Sizes).
+-- The entries of a system as numbers (Entries), the start point's part of a step (Start), and what the planner's private functions ask of the numbers that they
+-- are handed (Sizes).
 pub mod Entries
+pub mod Start
 pub mod Sizes

@@ -9,7 +9,7 @@ ghost use mathlib.Core.Bool.{_&&_};
 ghost use lib.IntN.{pos, _+ℤ_, _-ℤ_, _*ℤ_, negℤ};
 ghost use lib.Signed.{leZ, ltZ};
 ghost use Rattle.ints.specs.Within.{Within};
-ghost use Rattle.lp.specs.Program.{rise, along};
+ghost use Rattle.lp.specs.Program.{ray, rise, along};
 ghost use Rattle.lp.specs.Outcome.{det as detOf, meet as meetOf, keeps as keepsOf};
 ghost use Rattle.lp.specs.Certificate.{isZero};
 ghost use Rattle.model.specs.Bounds.{SmallConstraint};
@@ -141,5 +141,16 @@ pub fn direction(line: Constraint) -> Ray
     Ray {
         dx: line.b,
         dy: opposite(line.a),
+    }
+}
+
+// The same line the other way.
+pub fn backward(line: Constraint) -> Ray
+    requires { ⌜ SmallConstraint line ⌝ }
+    ensures { λ d. ⌜ d ≡ ray (negℤ (line .b)) (line .a) ⌝ }
+{
+    Ray {
+        dx: opposite(line.b),
+        dy: line.a,
     }
 }

@@ -1,7 +1,7 @@
 use borrow.Author.Needs.{needs}
 use mathlib.Core.Path.{sym, _∙_}
 use Rattle.model.specs.Scan.{tighter}
-use Rattle.planner.proofs.Passes.{found-point}
+use Rattle.planner.proofs.Passes.{found-parts}
 use Rattle.planner.proofs.Passes.{tighter-past}
 use Rattle.planner.proofs.scan.tighter.Statement.{statement}
 use Rattle.planner.proofs.scan.tighter.Tie as tie
@@ -19,7 +19,7 @@ enum-known-found : tie.Need-enum-known-found
 enum-known-found c = search needs
 
 keeps-requires : tie.Need-keeps-requires
-keeps-requires c κs = record { constraint = c .before .before .before .before .before .pre .m-small; point = found-point (c .before .before .before .before .before .pre .found-small) (c .before .found .given .1) }
+keeps-requires c κs = record { constraint = c .before .before .before .before .before .pre .m-small; point = found-parts (c .before .before .before .before .before .pre .found-small) (c .before .found .given .1) .1 }
 
 meet-requires-2 : tie.Need-meet-requires-2
 meet-requires-2 c κs = search needs
