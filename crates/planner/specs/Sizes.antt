@@ -163,3 +163,9 @@ pub record Walking (f : Functional) (t : Tie) (floors : Floors) (l : List ℤ) (
   pub floors-count : 2 ≤ n
   pub first : entry l 0 ≡ floorX floors
   pub second : entry l 1 ≡ floorY floors
+
+-- ---- the answer
+
+pub record Answering (f : Functional) (w : Walk) : Type 0 where
+  pub objective : SmallFunctional f
+  pub state-small : SmallState (w .state)
