@@ -1,2 +1,3 @@
--- What the checker computes of the model.
+-- What the checker computes of the model, and the bounds of the numbers that it forms.
 pub mod Examples
+pub mod Bounds

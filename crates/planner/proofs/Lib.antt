@@ -1,0 +1,6 @@
+-- Laws that the proofs of the planner's functions cite: sizes of sums and products (Sizes), magnitudes and quotients (Quotients), the passes over
+-- the entries (Passes), the parts of a step (Steps).
+pub mod Sizes
+pub mod Quotients
+pub mod Passes
+pub mod Steps

@@ -1,0 +1,101 @@
+-- Magnitudes and quotients: a number that is cast, and a division by a natural number, are what the integers have.
+use mathlib.Core.Path.{_≡_, refl, sym, _∙_, ap, ap₂, subst}
+use mathlib.Core.Bool.{Bool, true, false}
+use Prim.Native.Nat.{ℕ, zero, suc, _^_, _<_, _≤_}
+use native.Mathlib.Omega.{arith}
+use borrow.Author.Tests.{ltb-true}
+use lib.Dec.{T}
+use lib.IntN.{ℤ, pos, negsuc, negℤ, natAbs, _-ℤ_}
+use lib.Signed.{ltZ, nonNeg, quotZ, mag}
+use mir.Syntax.{w64}
+use mir.Val.{Fits, SFits, toZ, ofZ}
+use mir.Facts.{toZ-ofZ}
+use Rattle.ints.specs.Within.{Within}
+use Rattle.ints.specs.Gcd.{gcd, gcd2, gcd3}
+use Rattle.ints.proofs.Gcd.{gcd-zero, gcd-le-right, gcd3-le, gcd3-pos}
+use Rattle.ints.proofs.Machine.{within-fits, within-read, within-neg, within-quot, weaken}
+use Rattle.ints.proofs.Divides.{natAbs-neg}
+use Rattle.lp.specs.declared.Point.{Point}
+use Rattle.lp.specs.declared.Ray.{Ray}
+use Rattle.model.specs.Bounds.{SmallPoint}
+use Rattle.planner.specs.Sizes.{Quotient, Reducible}
+use Rattle.planner.proofs.Sizes.{read, result-read, within-unread, opposite-is}
+
+-- ---- casts to magnitudes
+
+below-zero : (z : ℤ) → ltZ z (pos 0) ≡ true → T (nonNeg (negℤ z))
+below-zero (pos n) e = absurd (omega (arith, ltb-true n 0 e))
+below-zero (negsuc n) e = tt
+
+not-below : (z : ℤ) → ltZ z (pos 0) ≡ false → T (nonNeg z)
+not-below (pos n) e = tt
+not-below (negsuc n) e = subst (λ b. T b) e tt
+
+natAbs-opposite : (z : ℤ) → natAbs (negℤ z) ≡ natAbs z
+natAbs-opposite (pos n) = natAbs-neg n
+natAbs-opposite (negsuc n) = refl
+
+module _ {z : ℤ} (h : Within 65534000000000 z) where
+  magnitude-fits : Fits w64 (natAbs z)
+  magnitude-fits = record { fits = omega (arith, h .small) }
+
+  pub minus-cast : ltZ (read z) (pos 0) ≡ true → T (nonNeg (read (pos 0 -ℤ read z))) × Fits w64 (natAbs (read (pos 0 -ℤ read z)))
+  minus-cast e =
+      subst (λ y. T (nonNeg y) × Fits w64 (natAbs y)) (sym (opposite-is h))
+      (below-zero z (ap (λ y. ltZ y (pos 0)) (sym (within-unread h tt)) ∙ e), record { fits = omega (arith, within-neg h .small) })
+
+  pub plus-cast : ltZ (read z) (pos 0) ≡ false → T (nonNeg (read z)) × Fits w64 (natAbs (read z))
+  plus-cast e =
+      subst (λ y. (ltZ y (pos 0) ≡ false) → T (nonNeg y) × Fits w64 (natAbs y)) (sym (within-unread h tt))
+      (λ e. (not-below z e, magnitude-fits)) e
+
+  pub minus-magnitude : natAbs (read (pos 0 -ℤ read z)) ≡ natAbs z
+  minus-magnitude = ap natAbs (opposite-is h) ∙ natAbs-opposite z
+
+-- ---- quotients
+
+module _ {z : ℤ} {g : ℕ} (h : Quotient z g) where
+  quot-unread : quotZ (read z) (toZ w64 g) ≡ quotZ z (pos g)
+  quot-unread = ap₂ quotZ (within-unread (h .z-small) tt) (toZ-ofZ {w = w64} {z = pos g} (record { sfits = h .g-small }))
+
+  pub quot-fits : SFits w64 (quotZ (read z) (toZ w64 g))
+  quot-fits = subst (λ y. SFits w64 y) (sym quot-unread) (within-fits (within-quot (pos g) (h .z-small)) tt)
+
+  pub quot-is : read (quotZ (read z) (toZ w64 g)) ≡ quotZ z (pos g)
+  quot-is = toZ-ofZ {w = w64} quot-fits ∙ quot-unread
+
+-- what a call returned, for a divisor that is known to be k
+pub quotient-read : {z : ℤ} → Within 65534000000000 z → {g k : ℕ} → g ≡ k → {q : ℤ} → mag q < 2 ^ 63 → q ≡ quotZ (read z) (pos g) → read q ≡ quotZ z (pos k)
+quotient-read h eg b e = result-read b ∙ e ∙ ap₂ (λ y (n : ℕ). quotZ y (pos n)) (within-unread h tt) eg
+
+gcd-small : (m n : ℕ) → m ≤ 32767 → n ≤ 32767 → gcd m n < 2 ^ 63
+gcd-small m zero h k = subst (λ (g : ℕ). g < 2 ^ 63) (sym (gcd-zero m)) (omega arith)
+gcd-small m (suc n) h k = omega (arith, gcd-le-right m (suc n) (omega arith))
+
+-- ---- the divisor of a point, and of a ray, from the magnitudes that it was worked out from
+
+module _ {v : Point} (h : SmallPoint v) {mx my mxy md g : ℕ} (ex : mx ≡ natAbs (read (v .x))) (ey : my ≡ natAbs (read (v .y))) (exy : mxy ≡ gcd mx my) (ed : md ≡ natAbs (read (v .d))) (eg : g ≡ gcd mxy md) where
+  pub point-divisor : g ≡ gcd3 (v .x) (v .y) (v .d)
+  point-divisor =
+      eg
+      ∙ ap₂ gcd (exy ∙ ap₂ gcd (ex ∙ ap natAbs (within-unread (h .x-small) tt)) (ey ∙ ap natAbs (within-unread (h .y-small) tt))) (ed ∙ ap natAbs (within-unread (h .d-small) tt))
+
+  pub point-quotient : {z : ℤ} → Within 65534000000000 z → Quotient (read z) g
+  point-quotient s =
+      record {
+        z-small = within-read s tt;
+        g-small = subst (λ (n : ℕ). n < 2 ^ 63) (sym point-divisor) (omega (arith, gcd3-le (v .x) (v .y) (v .d) (h .d-proper), h .d-small .small));
+        g-proper = subst (λ (n : ℕ). 0 < n) (sym point-divisor) (gcd3-pos (v .x) (v .y) (v .d) (h .d-proper));
+      }
+
+module _ {d : Ray} (h : Reducible d) {mx my g : ℕ} (ex : mx ≡ natAbs (read (d .dx))) (ey : my ≡ natAbs (read (d .dy))) (eg : g ≡ gcd mx my) where
+  pub ray-divisor : g ≡ gcd2 (d .dx) (d .dy)
+  ray-divisor = eg ∙ ap₂ gcd (ex ∙ ap natAbs (within-unread (h .ray .dx-small) tt)) (ey ∙ ap natAbs (within-unread (h .ray .dy-small) tt))
+
+  pub ray-quotient : {z : ℤ} → Within 32767 z → Quotient (read z) g
+  ray-quotient s =
+      record {
+        z-small = within-read (weaken tt s) tt;
+        g-small = subst (λ (n : ℕ). n < 2 ^ 63) (sym ray-divisor) (gcd-small (natAbs (d .dx)) (natAbs (d .dy)) (h .ray .dx-small .small) (h .ray .dy-small .small));
+        g-proper = subst (λ (n : ℕ). 0 < n) (sym ray-divisor) (h .g-proper);
+      }

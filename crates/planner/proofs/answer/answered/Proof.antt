@@ -1,0 +1,33 @@
+use borrow.Author.Needs.{needs}
+use Rattle.planner.proofs.Steps.{state-parts, answer-ended, answer-going}
+use Rattle.planner.proofs.answer.answered.Statement.{statement}
+use Rattle.planner.proofs.answer.answered.Tie as tie
+
+enum-known-state : tie.Need-enum-known-state
+enum-known-state c = search needs
+
+enum-known-state-2 : tie.Need-enum-known-state-2
+enum-known-state-2 c = search needs
+
+said-requires : tie.Need-said-requires
+said-requires c κs = record { functional = c .before .before .before .pre .objective; rays = state-parts (c .before .before .before .pre .state-small) (c .before .state2 .given .1) .1 }
+
+no-certificate-requires : tie.Need-no-certificate-requires
+no-certificate-requires c κs = search needs
+
+returns : tie.Need-returns
+returns c = answer-ended (c .before .before .before .args .objective) (c .before .before .before .args .walk) (c .before .state .given .1)
+
+returns-2 : tie.Need-returns-2
+returns-2 c = answer-going (c .before .before .before .before .before .args .objective) (c .before .before .before .before .before .args .walk) (c .before .before .before .state2 .given .1) (c .before .said .ensures) (c .no-certificate .ensures)
+
+pub answered-spec : {M : Type 1} → statement M
+answered-spec =
+    tie.close
+    (tie.spec
+    enum-known-state
+    enum-known-state-2
+    said-requires
+    no-certificate-requires
+    returns
+    returns-2)

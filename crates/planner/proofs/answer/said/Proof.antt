@@ -1,0 +1,46 @@
+use borrow.Author.Needs.{needs}
+use mathlib.Core.Path.{sym, _∙_}
+use Rattle.planner.proofs.Steps.{gain-reducible}
+use Rattle.planner.proofs.answer.said.Statement.{statement}
+use Rattle.planner.proofs.answer.said.Tie as tie
+
+enum-told : tie.Need-enum-told
+enum-told c = search needs
+
+gaining-requires : tie.Need-gaining-requires
+gaining-requires c κs = search needs
+
+enum-known-d : tie.Need-enum-known-d
+enum-known-d c = search needs
+
+reduce-ray-requires : tie.Need-reduce-ray-requires
+reduce-ray-requires c κs = gain-reducible (c .before .before .before .before .before .before .pre) (c .before .before .before .gaining .ensures) (c .before .d .given .1)
+
+enum-told-2 : tie.Need-enum-told-2
+enum-told-2 c = search needs
+
+enum-known-best : tie.Need-enum-known-best
+enum-known-best c = search needs
+
+returns : tie.Need-returns
+returns c = rw (c .before .before .before .before .before .enum-told .given .1, sym (c .before .before .before .before .gaining .ensures) ∙ c .before .before .d .given .1, c .reduce-ray .ensures)
+
+returns-2 : tie.Need-returns-2
+returns-2 c = rw (c .before .before .before .enum-told .given .1, sym (c .before .before .gaining .ensures) ∙ c .enum-told2 .given .1)
+
+returns-3 : tie.Need-returns-3
+returns-3 c = rw (c .before .best .given .1)
+
+pub said-spec : {M : Type 1} → statement M
+said-spec =
+    tie.close
+    (tie.spec
+    enum-told
+    gaining-requires
+    enum-known-d
+    reduce-ray-requires
+    enum-told-2
+    enum-known-best
+    returns
+    returns-2
+    returns-3)

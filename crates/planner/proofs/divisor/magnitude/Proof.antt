@@ -1,0 +1,23 @@
+use borrow.Author.Needs.{needs}
+use Rattle.ints.proofs.Machine.{sizes}
+use Rattle.planner.proofs.Quotients.{minus-cast, plus-cast, minus-magnitude}
+use Rattle.planner.proofs.divisor.magnitude.Statement.{statement}
+use Rattle.planner.proofs.divisor.magnitude.Tie as tie
+
+sub-result : tie.Need-sub-result
+sub-result c = search sizes depth 8
+
+cast-result : tie.Need-cast-result
+cast-result c = minus-cast (c .before .pre) (c .if1 .taken)
+
+cast-result-2 : tie.Need-cast-result-2
+cast-result-2 c = plus-cast (c .before .pre) (c .if1 .left)
+
+returns : tie.Need-returns
+returns c = minus-magnitude (c .before .pre)
+
+returns-2 : tie.Need-returns-2
+returns-2 c = search needs
+
+pub magnitude-spec : {M : Type 1} → statement M
+magnitude-spec = tie.close (tie.spec sub-result cast-result cast-result-2 returns returns-2)

@@ -1,0 +1,23 @@
+use borrow.Author.Needs.{needs}
+use mathlib.Core.Path.{_∙_, sym}
+use Rattle.lp.specs.Certificate.{isZero}
+use Rattle.planner.proofs.Sizes.{zero-read, both-left, both-right}
+use Rattle.planner.proofs.exact.is_level.Statement.{statement}
+use Rattle.planner.proofs.exact.is_level.Tie as tie
+
+is-zero-requires : tie.Need-is-zero-requires
+is-zero-requires c κs = search needs
+
+is-zero-requires-2 : tie.Need-is-zero-requires-2
+is-zero-requires-2 c κs = search needs
+
+returns : tie.Need-returns
+returns c = zero-read (c .before .before .before .before .before .pre .b-small) tt (c .is-zero2 .ensures) ∙ both-left (sym (zero-read (c .before .before .before .before .before .pre .a-small) tt (c .before .before .before .is-zero .ensures)) ∙ c .before .before .if1 .taken)
+
+returns-2 : tie.Need-returns-2
+returns-2 c =
+    let e = zero-read (c .before .before .before .pre .a-small) tt (c .before .is-zero .ensures) in
+    e ∙ both-right (isZero (c .before .before .before .args .h .b)) (sym e ∙ c .if1 .left)
+
+pub is-level-spec : {M : Type 1} → statement M
+is-level-spec = tie.close (tie.spec is-zero-requires is-zero-requires-2 returns returns-2)

@@ -1,0 +1,22 @@
+use Rattle.ints.proofs.Machine.{sizes}
+use Rattle.planner.proofs.exact.sum.Statement.{statement}
+use Rattle.planner.proofs.exact.sum.Tie as tie
+
+-- src/exact.rt:20:5
+mul-result : tie.Need-mul-result
+mul-result c = search sizes depth 8
+
+-- src/exact.rt:20:13
+mul-result-2 : tie.Need-mul-result-2
+mul-result-2 c = search sizes depth 8
+
+-- src/exact.rt:20:5
+add-result : tie.Need-add-result
+add-result c = search sizes depth 8
+
+-- src/exact.rt:16:1
+returns : tie.Need-returns
+returns c = search sizes depth 8
+
+pub sum-spec : {M : Type 1} → statement M
+sum-spec = tie.close (tie.spec mul-result mul-result-2 add-result returns)

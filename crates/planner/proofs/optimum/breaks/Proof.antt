@@ -1,0 +1,22 @@
+use borrow.Author.Needs.{needs}
+use Rattle.planner.proofs.Steps.{best-point}
+use Rattle.planner.proofs.optimum.breaks.Statement.{statement}
+use Rattle.planner.proofs.optimum.breaks.Tie as tie
+
+enum-told : tie.Need-enum-told
+enum-told c = search needs
+
+enum-known-best : tie.Need-enum-known-best
+enum-known-best c = search needs
+
+keeps-requires : tie.Need-keeps-requires
+keeps-requires c κs = record { constraint = c .before .before .before .pre .h-small; point = best-point (c .before .before .before .pre .best) (c .before .best .given .1) }
+
+returns : tie.Need-returns
+returns c = search needs
+
+returns-2 : tie.Need-returns-2
+returns-2 c = rw (c .before .before .best .given .1, c .keeps .ensures)
+
+pub breaks-spec : {M : Type 1} → statement M
+breaks-spec = tie.close (tie.spec enum-told enum-known-best keeps-requires returns returns-2)

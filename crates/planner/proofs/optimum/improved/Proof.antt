@@ -1,0 +1,58 @@
+use borrow.Author.Needs.{needs}
+use mathlib.Core.Path.{sym, _∙_}
+use Rattle.planner.proofs.Steps.{best-point}
+use Rattle.planner.proofs.optimum.improved.Statement.{statement}
+use Rattle.planner.proofs.optimum.improved.Tie as tie
+
+enum-told : tie.Need-enum-told
+enum-told c = search needs
+
+gaining-requires : tie.Need-gaining-requires
+gaining-requires c κs = search needs
+
+enum-told-2 : tie.Need-enum-told-2
+enum-told-2 c = search needs
+
+enum-told-3 : tie.Need-enum-told-3
+enum-told-3 c = search needs
+
+moved-requires : tie.Need-moved-requires
+moved-requires c κs = search needs
+
+enum-known-best : tie.Need-enum-known-best
+enum-known-best c = search needs
+
+keeps-requires : tie.Need-keeps-requires
+keeps-requires c κs = record { constraint = c .before .before .before .pre .moving .restarting .h-small; point = best-point (c .before .before .before .pre .best) (c .before .best .given .1) }
+
+moved-requires-2 : tie.Need-moved-requires-2
+moved-requires-2 c κs = search needs
+
+returns : tie.Need-returns
+returns c = rw (c .before .before .before .enum-told .given .1, sym (c .before .before .gaining .ensures) ∙ c .enum-told2 .given .1)
+
+returns-2 : tie.Need-returns-2
+returns-2 c = rw (c .before .before .before .before .enum-told .given .1, sym (c .before .before .before .gaining .ensures) ∙ c .before .enum-told3 .given .1, c .moved .ensures)
+
+returns-3 : tie.Need-returns-3
+returns-3 c = rw (c .before .before .before .best .given .1, sym (c .before .keeps .ensures) ∙ c .if1 .taken)
+
+returns-4 : tie.Need-returns-4
+returns-4 c = rw (c .before .before .before .before .best .given .1, sym (c .before .before .keeps .ensures) ∙ c .before .if1 .left, c .moved2 .ensures)
+
+pub improved-spec : {M : Type 1} → statement M
+improved-spec =
+    tie.close
+    (tie.spec
+    enum-told
+    gaining-requires
+    enum-told-2
+    enum-told-3
+    moved-requires
+    enum-known-best
+    keeps-requires
+    moved-requires-2
+    returns
+    returns-2
+    returns-3
+    returns-4)

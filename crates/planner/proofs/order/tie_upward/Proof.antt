@@ -1,0 +1,31 @@
+use borrow.Author.Needs.{needs}
+use mathlib.Core.Path.{sym, _∙_}
+use mathlib.Core.List.{[], _∷_}
+use Rattle.planner.proofs.Steps.{above-gains, above-loses, above-level, above-last}
+use Rattle.planner.proofs.order.tie_upward.Statement.{statement}
+use Rattle.planner.proofs.order.tie_upward.Tie as tie
+
+gains-requires : tie.Need-gains-requires
+gains-requires c κs = search needs
+
+returns : tie.Need-returns
+returns c = above-gains (c .before .before .before .before .args .tie .first) (c .before .before .before .before .args .tie .second ∷ []) (c .before .before .before .before .args .d) (sym (c .before .gains .ensures) ∙ c .if1 .taken)
+
+loses-requires : tie.Need-loses-requires
+loses-requires c κs = search needs
+
+returns-2 : tie.Need-returns-2
+returns-2 c = above-loses (c .before .before .before .before .before .before .args .tie .first) (c .before .before .before .before .before .before .args .tie .second ∷ []) (c .before .before .before .before .before .before .args .d) (sym (c .before .before .before .gains .ensures) ∙ c .before .before .if1 .left) (sym (c .before .loses .ensures) ∙ c .if2 .taken)
+
+gains-requires-2 : tie.Need-gains-requires-2
+gains-requires-2 c κs = search needs
+
+returns-3 : tie.Need-returns-3
+returns-3 c =
+    c .gains2 .ensures
+    ∙ above-last (c .before .before .before .before .before .before .before .args .tie .second) (c .before .before .before .before .before .before .before .args .d)
+    ∙ above-level (c .before .before .before .before .before .before .before .args .tie .first) (c .before .before .before .before .before .before .before .args .tie .second ∷ []) (c .before .before .before .before .before .before .before .args .d) (sym (c .before .before .before .before .gains .ensures) ∙ c .before .before .before .if1 .left) (sym (c .before .before .loses .ensures) ∙ c .before .if2 .left)
+
+pub tie-upward-spec : {M : Type 1} → statement M
+tie-upward-spec =
+    tie.close (tie.spec gains-requires returns loses-requires returns-2 gains-requires-2 returns-3)

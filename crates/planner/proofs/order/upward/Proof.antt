@@ -1,0 +1,29 @@
+use borrow.Author.Needs.{needs}
+use mathlib.Core.Path.{sym, _∙_}
+use Rattle.lp.specs.Outcome.{tieOrder}
+use Rattle.planner.proofs.Steps.{above-gains, above-loses, above-level}
+use Rattle.planner.proofs.order.upward.Statement.{statement}
+use Rattle.planner.proofs.order.upward.Tie as tie
+
+gains-requires : tie.Need-gains-requires
+gains-requires c κs = search needs
+
+returns : tie.Need-returns
+returns c = above-gains (c .before .before .args .objective) (tieOrder (c .before .before .args .tie)) (c .before .before .args .d) (sym (c .before .gains .ensures) ∙ c .if1 .taken)
+
+loses-requires : tie.Need-loses-requires
+loses-requires c κs = search needs
+
+returns-2 : tie.Need-returns-2
+returns-2 c = above-loses (c .before .before .before .before .args .objective) (tieOrder (c .before .before .before .before .args .tie)) (c .before .before .before .before .args .d) (sym (c .before .before .before .gains .ensures) ∙ c .before .before .if1 .left) (sym (c .before .loses .ensures) ∙ c .if2 .taken)
+
+tie-upward-requires : tie.Need-tie-upward-requires
+tie-upward-requires c κs = search needs
+
+returns-3 : tie.Need-returns-3
+returns-3 c = c .tie-upward .ensures ∙ above-level (c .before .before .before .before .before .args .objective) (tieOrder (c .before .before .before .before .before .args .tie)) (c .before .before .before .before .before .args .d) (sym (c .before .before .before .before .gains .ensures) ∙ c .before .before .before .if1 .left) (sym (c .before .before .loses .ensures) ∙ c .before .if2 .left)
+
+pub upward-spec : {M : Type 1} → statement M
+upward-spec =
+    tie.close
+    (tie.spec gains-requires returns loses-requires returns-2 tie-upward-requires returns-3)

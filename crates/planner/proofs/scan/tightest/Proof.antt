@@ -1,0 +1,47 @@
+use Prim.Native.Nat.{_-_}
+use native.Mathlib.Omega.{arith}
+use denote.Ref.{now}
+use Rattle.planner.proofs.Passes.{Tightest, tightest-start, entry-room, tightening, tightest-step, tightest-end}
+use Rattle.planner.proofs.scan.tightest.Statement.{statement}
+use Rattle.planner.proofs.scan.tightest.Tie as tie
+
+abbrev Inv-loop : tie.InvT-loop
+Inv-loop entries n line found₀ i₀ found i = Tightest entries n line found i
+
+abbrev μ-loop : tie.MeasureT-loop
+μ-loop entries n line found₀ i₀ found i = n - i
+
+loop-holds : tie.Need-loop-holds Inv-loop μ-loop
+loop-holds c = tightest-start (now (c .args .entries)) (c .args .n) (c .args .line)
+
+entry-requires : tie.Need-entry-requires Inv-loop μ-loop
+entry-requires c κs = entry-room (c .before .before .pre .entries) (c .loop-test .taken)
+
+tighter-requires : tie.Need-tighter-requires Inv-loop μ-loop
+tighter-requires c κs = tightening (c .before .before .before .pre) (c .before .before .loop .inv) (c .before .loop-test .taken) (c .entry .ensures)
+
+add-i : tie.Need-add-i Inv-loop μ-loop
+add-i c = omega arith
+
+loop-less : tie.Need-loop-less Inv-loop μ-loop
+loop-less c = omega arith
+
+loop-again : tie.Need-loop-again Inv-loop μ-loop
+loop-again c = tightest-step (c .before .before .before .before .pre) (c .before .before .before .loop .inv) (c .before .before .loop-test .taken) (c .before .entry .ensures) (c .tighter .ensures)
+
+returns : tie.Need-returns Inv-loop μ-loop
+returns c = tightest-end (c .before .before .pre) (c .before .loop .inv) (c .loop-test .left)
+
+pub tightest-spec : {M : Type 1} → statement M
+tightest-spec =
+    tie.close
+    (tie.spec
+    Inv-loop
+    μ-loop
+    loop-holds
+    entry-requires
+    tighter-requires
+    add-i
+    loop-less
+    loop-again
+    returns)

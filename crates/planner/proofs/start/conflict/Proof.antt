@@ -1,0 +1,32 @@
+use borrow.Author.Needs.{needs}
+use mathlib.Core.Path.{sym, _∙_, ap, subst}
+use Rattle.lp.specs.Outcome.{det}
+use Rattle.model.specs.Bounds.{SmallConstraint}
+use Rattle.model.proofs.Bounds.{facing-small}
+use Rattle.planner.proofs.Sizes.{result-read}
+use Rattle.planner.proofs.Steps.{certificate-same}
+use Rattle.planner.proofs.start.conflict.Statement.{statement}
+use Rattle.planner.proofs.start.conflict.Tie as tie
+
+facing-requires : tie.Need-facing-requires
+facing-requires c κs = search needs
+
+line-weight-requires : tie.Need-line-weight-requires
+line-weight-requires c κs = search needs
+
+det-requires : tie.Need-det-requires
+det-requires c κs = record { first = subst SmallConstraint (sym (c .before .facing .ensures)) (facing-small (c .before .before .args .side) (c .before .before .pre .h-small)); second = c .before .before .pre .m-small }
+
+det-requires-2 : tie.Need-det-requires-2
+det-requires-2 c κs = record { first = c .before .before .before .pre .k-small; second = subst SmallConstraint (sym (c .before .before .facing .ensures)) (facing-small (c .before .before .before .args .side) (c .before .before .before .pre .h-small)) }
+
+returns : tie.Need-returns
+returns c =
+    let a = c .before .before .before .before .args in
+    let e = c .before .before .before .facing .ensures in
+    certificate-same (a .n) (a .j) (a .i) (result-read (c .before .before .line-weight .ok) ∙ c .before .before .line-weight .ensures)
+    (result-read (c .before .det .ok) ∙ c .before .det .ensures ∙ ap (λ l. det l (a .m)) e) (result-read (c .det2 .ok) ∙ c .det2 .ensures ∙ ap (det (a .k)) e)
+
+pub conflict-spec : {M : Type 1} → statement M
+conflict-spec =
+    tie.close (tie.spec facing-requires line-weight-requires det-requires det-requires-2 returns)

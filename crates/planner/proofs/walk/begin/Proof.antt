@@ -1,0 +1,37 @@
+use borrow.Author.Needs.{needs}
+use Rattle.planner.proofs.Steps.{begun-open, begun-best}
+use Rattle.planner.proofs.walk.begin.Statement.{statement}
+use Rattle.planner.proofs.walk.begin.Tie as tie
+
+gaining-requires : tie.Need-gaining-requires
+gaining-requires c κs = search needs
+
+enum-told : tie.Need-enum-told
+enum-told c = search needs
+
+going-requires : tie.Need-going-requires
+going-requires c κs = search needs
+
+enum-told-2 : tie.Need-enum-told-2
+enum-told-2 c = search needs
+
+going-requires-2 : tie.Need-going-requires-2
+going-requires-2 c κs = search needs
+
+returns : tie.Need-returns
+returns c = begun-open (c .before .before .before .before .before .args .floors) (c .before .before .before .before .before .args .objective) (c .before .before .before .before .before .pre .floors-small) (c .before .before .before .gaining .ensures) (c .before .enum-told .given .1) (c .going .ensures)
+
+returns-2 : tie.Need-returns-2
+returns-2 c = begun-best (c .before .before .before .before .before .args .floors) (c .before .before .before .before .before .args .objective) (c .before .before .before .before .before .pre .floors-small) (c .before .before .before .gaining .ensures) (c .before .enum-told2 .given .1) (c .going2 .ensures)
+
+pub begin-spec : {M : Type 1} → statement M
+begin-spec =
+    tie.close
+    (tie.spec
+    gaining-requires
+    enum-told
+    going-requires
+    enum-told-2
+    going-requires-2
+    returns
+    returns-2)

@@ -1,0 +1,84 @@
+// The answer of document 01, from what the walk holds at the end. Fields that an outcome does not use are zero.
+use crate::cone::gaining;
+use crate::divisor::reduce_ray;
+use lp::Certificate;
+use lp::Functional;
+use lp::Outcome;
+use lp::Point;
+use model::Best;
+use model::Cone;
+use model::Gain;
+use model::State;
+use model::Walk;
+ghost use mathlib.Core.Path.{_≡_};
+ghost use Rattle.model.specs.Step.{said as saidOf};
+ghost use Rattle.planner.specs.Answer.{answerOf, nobody};
+ghost use Rattle.planner.specs.Sizes.{Gaining, Answering};
+
+// A refusal's number and the record it is at, both zero where the book is accepted; else the outcome with its place, counts and witness.
+pub struct Answer {
+    pub number: usize,
+    pub at: usize,
+    pub outcome: Outcome,
+    pub place: usize,
+    pub moves: usize,
+    pub opened: usize,
+    pub certificate: Certificate,
+}
+
+// No entry at all.
+fn no_certificate() -> Certificate
+    ensures { λ r. ⌜ r ≡ nobody ⌝ }
+{
+    Certificate {
+        first: 0,
+        first_weight: 0,
+        second: 0,
+        second_weight: 0,
+        third: 0,
+        third_weight: 0,
+    }
+}
+
+// The outcome of a feasible system.
+fn said(objective: Functional, s: Point, cone: Cone, best: Best) -> Outcome
+    requires { ⌜ Gaining objective cone ⌝ }
+    ensures { λ r. ⌜ r ≡ saidOf objective (State.Going s cone best) ⌝ }
+{
+    match best {
+        Best::Open => match gaining(objective, cone) {
+            Gain::Along(d) => Outcome::Unbounded(s, reduce_ray(d)),
+            Gain::Nowhere => Outcome::Optimal(s),
+        },
+        Best::At(v) => Outcome::Optimal(v),
+    }
+}
+
+pub fn answered(objective: Functional, walk: Walk) -> Answer
+    requires { ⌜ Answering objective walk ⌝ }
+    ensures { λ r. ⌜ r ≡ answerOf objective walk ⌝ }
+{
+    let state = walk.state;
+    let moves = walk.moves;
+    let opened = walk.opened;
+    match state {
+        State::Ended(place, certificate) => Answer {
+            number: 0,
+            at: 0,
+            outcome: Outcome::Infeasible,
+            place,
+            moves,
+            opened,
+            certificate,
+        },
+        State::Going(s, cone, best) => Answer {
+            number: 0,
+            at: 0,
+            outcome: said(objective, s, cone, best),
+            place: 0,
+            moves,
+            opened,
+            certificate: no_certificate(),
+        },
+    }
+}

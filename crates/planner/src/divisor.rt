@@ -1,0 +1,55 @@
+// Points and rays in lowest terms. The greatest common divisor is worked out by repeated remainders, on magnitudes.
+use lp::Point;
+use lp::Ray;
+ghost use mathlib.Core.Path.{_≡_};
+ghost use lib.IntN.{pos, natAbs};
+ghost use lib.Signed.{quotZ};
+ghost use Rattle.ints.specs.Within.{Within};
+ghost use Rattle.ints.specs.Gcd.{gcd};
+ghost use Rattle.lp.specs.Outcome.{reduce as reduceOf, reduceRay};
+ghost use Rattle.model.specs.Bounds.{SmallPoint};
+ghost use Rattle.planner.specs.Sizes.{Quotient, Reducible};
+
+// Euclid's: the second number falls.
+fn divisor(m: u64, n: u64) -> u64
+    ensures { λ r. ⌜ r ≡ gcd m n ⌝ }
+{
+    if n == 0 { m } else { divisor(n, m % n) }
+}
+
+fn magnitude(z: i64) -> u64
+    requires { ⌜ Within 65534000000000 z ⌝ }
+    ensures { λ r. ⌜ r ≡ natAbs z ⌝ }
+{
+    if z < 0 { (0 - z) as u64 } else { z as u64 }
+}
+
+fn quotient(z: i64, g: u64) -> i64
+    requires { ⌜ Quotient z g ⌝ }
+    ensures { λ r. ⌜ r ≡ quotZ z (pos g) ⌝ }
+{
+    z / (g as i64)
+}
+
+pub fn reduce(v: Point) -> Point
+    requires { ⌜ SmallPoint v ⌝ }
+    ensures { λ w. ⌜ w ≡ reduceOf v ⌝ }
+{
+    let g = divisor(divisor(magnitude(v.x), magnitude(v.y)), magnitude(v.d));
+    Point {
+        x: quotient(v.x, g),
+        y: quotient(v.y, g),
+        d: quotient(v.d, g),
+    }
+}
+
+pub fn reduce_ray(d: Ray) -> Ray
+    requires { ⌜ Reducible d ⌝ }
+    ensures { λ e. ⌜ e ≡ reduceRay d ⌝ }
+{
+    let g = divisor(magnitude(d.dx), magnitude(d.dy));
+    Ray {
+        dx: quotient(d.dx, g),
+        dy: quotient(d.dy, g),
+    }
+}

@@ -1,0 +1,11 @@
+// The planner: exact arithmetic on 64-bit integers, equal function by function to the functional model of crate `model`. What a private function asks of
+// its numbers is one record, and document 01's bounds answer it.
+mod answer;
+mod cone;
+mod divisor;
+mod exact;
+mod optimum;
+mod order;
+mod scan;
+mod start;
+mod walk;
