@@ -4,3 +4,4 @@ pub mod Sizes
 pub mod Quotients
 pub mod Passes
 pub mod Steps
+pub mod Demands

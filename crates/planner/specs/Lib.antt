@@ -4,3 +4,5 @@ pub mod Entries
 pub mod Start
 pub mod Answer
 pub mod Sizes
+pub mod Witness
+pub mod Planning
