@@ -5,3 +5,4 @@ pub mod Quotients
 pub mod Passes
 pub mod Steps
 pub mod Demands
+pub mod Witnesses

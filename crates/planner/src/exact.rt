@@ -48,7 +48,7 @@ pub fn opposite(z: i64) -> i64
     0 - z
 }
 
-fn is_zero(z: i64) -> bool
+pub fn is_zero(z: i64) -> bool
     ensures { λ t. ⌜ t ≡ isZero z ⌝ }
 {
     z <= 0 && 0 <= z

@@ -9,3 +9,4 @@ mod order;
 mod scan;
 mod start;
 mod walk;
+mod witness;
