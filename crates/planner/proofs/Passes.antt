@@ -1,16 +1,15 @@
 -- The passes over the entries, from index i to n: what is left of a pass at i gives, with what was found so far, the answer of the whole. One record says so
 -- for each loop, with its start, its step and its end.
 use mathlib.Core.Path.{_≡_, refl, sym, _∙_, ap, subst}
-use mathlib.Core.List.{List, [], _∷_, _++_}
+use mathlib.Core.List.{List, [], _∷_}
 use mathlib.Core.Bool.{Bool, true, false}
-use Prim.Native.Nat.{ℕ, zero, suc, _+_, _*_, _-_, _≤_, _<_}
+use Prim.Native.Nat.{ℕ, zero, suc, _+_, _-_, _≤_, _<_}
 use native.Mathlib.Omega.{arith}
 use native.Mathlib.Nat.{sub-zero}
 use native.Mathlib.Numerals.{add-one}
 use lib.Dec.{T, ltb→lt}
 use lib.IntN.{ℤ, pos, negsuc, negℤ, _+ℤ_, _-ℤ_, _*ℤ_}
 use lib.Signed.{leZ, ltZ, ltZ-yes}
-use lib.ListN.{length}
 use Rattle.ints.specs.Order.{_<ᶻ_}
 use Rattle.ints.proofs.Ring.{ring, _⊕_, _⊖_, _⊗_, ⊝_, _≐_, con}
 use Rattle.ints.proofs.Order.{pos-elim}
@@ -43,7 +42,7 @@ entry-room h {k} b = record { room = omega (arith, h .room) }
 pub fewer : {l : List ℤ} {n m : ℕ} → m ≤ n → Entries l n → Entries l m
 fewer b h = record { room = omega (arith, h .room); small = λ k c. h .small k (omega arith) }
 
-entries-part : {l : List ℤ} {n : ℕ} → Entries l n → (i k : ℕ) → i + k ≤ n → SmallSystem (entries l i k)
+pub entries-part : {l : List ℤ} {n : ℕ} → Entries l n → (i k : ℕ) → i + k ≤ n → SmallSystem (entries l i k)
 entries-part h i zero b = tt
 entries-part h i (suc k) b = (h .small i (omega arith), entries-part h (suc i) k (omega arith))
 

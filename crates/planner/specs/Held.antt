@@ -2,7 +2,7 @@
 -- which the line is walked.
 use mathlib.Core.Bool.{true, false}
 use Prim.Native.Nat.{ℕ}
-use lib.IntN.{ℤ, pos, negℤ}
+use lib.IntN.{pos, negℤ}
 use lib.Signed.{ltZ}
 use Rattle.lp.specs.declared.Constraint.{Constraint}
 use Rattle.lp.specs.declared.Point.{Point}

@@ -1,9 +1,7 @@
-use borrow.Author.Needs.{needs}
 use mathlib.Core.Path.{ap}
 use lib.IntN.{pos}
 use lib.Signed.{leZ}
-use Rattle.planner.proofs.Sizes.{distance-args}
-use Rattle.planner.proofs.Sizes.{distance-read, distance-args}
+use Rattle.planner.proofs.Sizes.{distance-args, distance-read}
 use Rattle.planner.proofs.exact.keeps.Statement.{statement}
 use Rattle.planner.proofs.exact.keeps.Tie as tie
 
