@@ -1,19 +1,21 @@
 -- The walk stays within document 01's bounds: `walk-small`, for every list of lawful rules and so for every prefix of a chain. A meeting point of lawful
 -- constraints is within them as it is made, and reducing makes nothing larger. `slack-small` then says that no sum of a·X + b·Y − c·D leaves 64 bits.
 use mathlib.Core.Path.{_≡_, refl}
-use mathlib.Core.List.{List, [], _∷_, _++_}
+use mathlib.Core.List.{List, [], _∷_, _++_, List·Memᴰ, List·Memᴰ·head, List·Memᴰ·tail}
 use mathlib.Core.Bool.{Bool, true, false, _&&_}
-use Prim.Native.Nat.{ℕ, zero, suc, _+_, _≤_}
+use Prim.Native.Nat.{ℕ, suc, _+_, _≤_}
 use native.Mathlib.Omega.{arith}
 use native.Mathlib.Nat.{zero-add, add-zero}
 use lib.ListN.{length}
 use lib.Dec.{T}
-use lib.IntN.{ℤ, pos, negsuc, negℤ, _+ℤ_, _-ℤ_, _*ℤ_}
+use lib.IntN.{pos, negℤ, _+ℤ_, _*ℤ_}
 use lib.Signed.{leZ, ltZ, ltZ-yes}
+use mir.Syntax.{w64}
+use mir.Val.{SFits}
 use Rattle.ints.specs.Order.{_<ᶻ_}
 use Rattle.ints.specs.Within.{Within}
 use Rattle.ints.specs.Gcd.{gcd2, gcd3}
-use Rattle.ints.proofs.Machine.{within-add, within-sub, within-mul, within-neg, within-quot, within-numeral, weaken}
+use Rattle.ints.proofs.Machine.{within-fits, within-add, within-sub, within-mul, within-neg, within-quot, within-numeral, weaken}
 use Rattle.ints.proofs.Reduced.{reduce-pos}
 use Rattle.lp.specs.declared.Constraint.{Constraint}
 use Rattle.lp.specs.declared.Functional.{Functional}
@@ -21,12 +23,11 @@ use Rattle.lp.specs.declared.Floors.{Floors}
 use Rattle.lp.specs.declared.Tie.{Tie}
 use Rattle.lp.specs.declared.Point.{Point}
 use Rattle.lp.specs.declared.Ray.{Ray}
-use Rattle.lp.specs.declared.Certificate.{Certificate}
 use Rattle.lp.specs.Program.{point, ray, slack, along, rise, floorX, floorY, system}
 use Rattle.lp.specs.Outcome.{det, meet, keeps, above, reduce, reduceRay, tieOrder, gainOrder}
 use Rattle.lp.specs.Certificate.{isZero}
 use Rattle.lp.specs.Prefixes.{one-if}
-use Rattle.lp.specs.Document.{Lawful}
+use Rattle.lp.specs.Document.{Lawful, leastXThenY, zeroFloors}
 use Rattle.model.specs.declared.Found.{Found}
 use Rattle.model.specs.declared.Found.the-variants as found
 use Rattle.model.specs.declared.Broken.{Broken}
@@ -42,9 +43,9 @@ use Rattle.model.specs.declared.Best.the-variants as best
 use Rattle.model.specs.declared.State.{State}
 use Rattle.model.specs.declared.State.the-variants.{Ended, Going}
 use Rattle.model.specs.declared.Walk.{Walk}
-use Rattle.model.specs.Scan.{turned, facing, direction, tighter, tightest, firstBroken}
-use Rattle.model.specs.Step.{certificate, alone, lineWeight, conflict, checked, resettled, restart, narrowed, narrow, gaining, foundPoint, tightestPoint, reopened, improved, isOpen, breaks, going, settled, stepped, step, opening, begin, walkFrom, walk}
-use Rattle.model.specs.Bounds.{SmallConstraint, SmallSystem, SmallFunctional, SmallTie, SmallFloors, SmallPoint, SmallRay, SmallCertificate, SmallFound, SmallBroken, SmallRestart, SmallCone, SmallGain, SmallBest, SmallState, SmallWalk}
+use Rattle.model.specs.Scan.{facing, direction, tighter, tightest, firstBroken}
+use Rattle.model.specs.Step.{alone, lineWeight, conflict, checked, resettled, restart, narrowed, narrow, gaining, foundPoint, tightestPoint, reopened, improved, isOpen, breaks, going, settled, stepped, step, opening, begin, walkFrom, walk}
+use Rattle.model.specs.Bounds.{SmallConstraint, SmallSystem, SmallTie, SmallFloors, SmallPoint, SmallRay, SmallCertificate, SmallFound, SmallBroken, SmallRestart, SmallCone, SmallGain, SmallBest, SmallState, SmallWalk}
 
 -- ---- lawful rules, and the floors
 
@@ -57,6 +58,21 @@ floorX-small h = record { a-small = within-numeral tt; b-small = within-numeral 
 
 pub floorY-small : {f : Floors} → SmallFloors f → SmallConstraint (floorY f)
 floorY-small h = record { a-small = within-numeral tt; b-small = within-numeral tt; c-small = weaken tt (within-neg (h .ly-small)) }
+
+pub lawful-system : (S : List Constraint) → ((r : Constraint) → List·Memᴰ r S → Lawful r) → SmallSystem S
+lawful-system [] h = tt
+lawful-system (r ∷ S) h = (lawful-small (h r (List·Memᴰ·head refl)), lawful-system S (λ s m. h s (List·Memᴰ·tail m)))
+
+-- document 01's own tie and floors
+pub leastXThenY-small : SmallTie leastXThenY
+leastXThenY-small =
+    record {
+      first-small = record { p-small = within-numeral tt; q-small = within-numeral tt };
+      second-small = record { p-small = within-numeral tt; q-small = within-numeral tt };
+    }
+
+pub zeroFloors-small : SmallFloors zeroFloors
+zeroFloors-small = record { lx-small = within-numeral tt; ly-small = within-numeral tt }
 
 -- ---- determinants, meeting points, reduced points
 
@@ -86,10 +102,18 @@ reduceRay-small {d} h =
     record { dx-small = within-quot (pos (gcd2 (d .dx) (d .dy))) (h .dx-small); dy-small = within-quot (pos (gcd2 (d .dx) (d .dy))) (h .dy-small) }
 
 -- document 01: the largest sum in a·X + b·Y − c·D stays below 2^63
-pub slack-small : {r : Constraint} {v : Point} → SmallConstraint r → SmallPoint v → Within 6442057734000000000 (slack r v)
-slack-small h k =
-    weaken tt
-    (within-sub (within-mul (h .c-small) (k .d-small)) (within-add (within-mul (h .a-small) (k .x-small)) (within-mul (h .b-small) (k .y-small))))
+module _ {r : Constraint} {v : Point} (h : SmallConstraint r) (k : SmallPoint v) where
+  pub left-small : Within 4294705156000000000 (r .a *ℤ v .x +ℤ r .b *ℤ v .y)
+  left-small = weaken tt (within-add (within-mul (h .a-small) (k .x-small)) (within-mul (h .b-small) (k .y-small)))
+
+  pub right-small : Within 2147352578000000000 (r .c *ℤ v .d)
+  right-small = within-mul (h .c-small) (k .d-small)
+
+  pub slack-small : Within 6442057734000000000 (slack r v)
+  slack-small = within-sub right-small left-small
+
+  pub slack-fits : SFits w64 (slack r v)
+  slack-fits = within-fits slack-small tt
 
 -- ---- the scans
 

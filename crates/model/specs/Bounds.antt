@@ -2,7 +2,7 @@
 -- every product and sum within 64 bits; that the walk's numbers have them is proved in proofs/Bounds.antt.
 use mathlib.Core.List.{List, [], _∷_}
 use Prim.Native.Nat.{ℕ, suc, _≤_}
-use lib.IntN.{ℤ, pos}
+use lib.IntN.{pos}
 use Rattle.ints.specs.Order.{_<ᶻ_}
 use Rattle.ints.specs.Within.{Within}
 use Rattle.lp.specs.declared.Constraint.{Constraint}

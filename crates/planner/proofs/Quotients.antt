@@ -1,6 +1,6 @@
 -- Magnitudes and quotients: a number that is cast, and a division by a natural number, are what the integers have.
 use mathlib.Core.Path.{_≡_, refl, sym, _∙_, ap, ap₂, subst}
-use mathlib.Core.Bool.{Bool, true, false}
+use mathlib.Core.Bool.{true, false}
 use Prim.Native.Nat.{ℕ, zero, suc, _^_, _<_, _≤_}
 use native.Mathlib.Omega.{arith}
 use borrow.Author.Tests.{ltb-true}
@@ -8,7 +8,7 @@ use lib.Dec.{T}
 use lib.IntN.{ℤ, pos, negsuc, negℤ, natAbs, _-ℤ_}
 use lib.Signed.{ltZ, nonNeg, quotZ, mag}
 use mir.Syntax.{w64}
-use mir.Val.{Fits, SFits, toZ, ofZ}
+use mir.Val.{Fits, SFits, toZ}
 use mir.Facts.{toZ-ofZ}
 use Rattle.ints.specs.Within.{Within}
 use Rattle.ints.specs.Gcd.{gcd, gcd2, gcd3}

@@ -17,7 +17,8 @@ use Rattle.lp.specs.declared.Point.{Point}
 use Rattle.lp.specs.declared.Ray.{Ray}
 use Rattle.lp.specs.Program.{constraint, point, ray}
 use Rattle.lp.specs.Certificate.{isZero}
-use Rattle.planner.specs.Sizes.{Factors, Distance, Lines, Kept, Risen, Gained}
+use Rattle.model.specs.Bounds.{SmallConstraint, SmallPoint}
+use Rattle.planner.specs.Sizes.{Factors, Distance, Lines, Risen, Gained}
 
 pub record DistanceFits (a x b y c d : ℤ) : Type 0 where
   pub ax : SFits w64 (a *ℤ x)
@@ -72,6 +73,17 @@ module _ {p q s t : ℤ} (f : Factors p q s t) where
   difference-read h e = result-read h ∙ e ∙ factors-same (λ p q s t. p *ℤ q -ℤ s *ℤ t)
 
 module _ {a x b y c d : ℤ} (f : Distance a x b y c d) where
+  pub distance-args : Distance (read a) (read x) (read b) (read y) (read c) (read d)
+  distance-args =
+      record {
+        a-small = within-read (f .a-small) tt;
+        x-small = within-read (f .x-small) tt;
+        b-small = within-read (f .b-small) tt;
+        y-small = within-read (f .y-small) tt;
+        c-small = within-read (f .c-small) tt;
+        d-small = within-read (f .d-small) tt;
+      }
+
   pub distance-read : {z : ℤ} → mag z < 2 ^ 63 → z ≡ read c *ℤ read d -ℤ (read a *ℤ read x +ℤ read b *ℤ read y) → read z ≡ c *ℤ d -ℤ (a *ℤ x +ℤ b *ℤ y)
   distance-read h e =
       result-read h
@@ -126,15 +138,15 @@ along-factors h =
       t-small = weaken tt (h .ray .dy-small);
     }
 
-pub kept-distance : {r : Constraint} {v : Point} → Kept r v → Distance (r .a) (v .x) (r .b) (v .y) (r .c) (v .d)
-kept-distance h =
+pub kept-distance : {r : Constraint} {v : Point} → SmallConstraint r → SmallPoint v → Distance (r .a) (v .x) (r .b) (v .y) (r .c) (v .d)
+kept-distance h k =
     record {
-      a-small = h .constraint .a-small;
-      x-small = h .point .x-small;
-      b-small = h .constraint .b-small;
-      y-small = h .point .y-small;
-      c-small = h .constraint .c-small;
-      d-small = h .point .d-small;
+      a-small = h .a-small;
+      x-small = k .x-small;
+      b-small = h .b-small;
+      y-small = k .y-small;
+      c-small = h .c-small;
+      d-small = k .d-small;
     }
 
 -- a point is its three numbers

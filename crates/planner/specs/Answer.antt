@@ -1,6 +1,6 @@
 -- The answer that a walk gives: the outcome that the model says, its place and witness where it is infeasible and zero elsewhere, and the two counts.
 use Prim.Native.Nat.{ℕ}
-use lib.IntN.{ℤ, pos}
+use lib.IntN.{pos}
 use Rattle.lp.specs.declared.Functional.{Functional}
 use Rattle.lp.specs.declared.Certificate.{Certificate}
 use Rattle.lp.specs.declared.Outcome.{Outcome}
@@ -8,7 +8,7 @@ use Rattle.model.specs.declared.State.{State}
 use Rattle.model.specs.declared.State.the-variants.{Ended, Going}
 use Rattle.model.specs.declared.Walk.{Walk}
 use Rattle.model.specs.Step.{certificate, said}
-use Rattle.planner.specs.declared.answer.Answer.{Answer}
+use Rattle.planner.specs.declared.Answer.{Answer}
 
 abbrev pub nobody : Certificate
 nobody = certificate 0 (pos 0) 0 (pos 0) 0 (pos 0)

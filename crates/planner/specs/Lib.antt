@@ -1,6 +1,7 @@
--- The entries of a system as numbers (Entries), the start point's part of a step (Start), the answer (Answer), and what the planner's private functions ask of the numbers that they
+-- The entries of a system as numbers (Entries), what a pass holds (Held), the start point's part of a step (Start), the answer (Answer), and what the planner's private functions ask of the numbers that they
 -- are handed (Sizes).
 pub mod Entries
+pub mod Held
 pub mod Start
 pub mod Answer
 pub mod Sizes

@@ -18,6 +18,7 @@ use Rattle.model.specs.declared.Cone.{Cone}
 use Rattle.model.specs.declared.Best.{Best}
 use Rattle.model.specs.declared.Walk.{Walk}
 use Rattle.model.specs.Bounds.{SmallConstraint, SmallFunctional, SmallTie, SmallFloors, SmallPoint, SmallRay, SmallFound, SmallCone, SmallBest, SmallState}
+use Rattle.planner.specs.declared.scan.Held.{Held}
 use Rattle.planner.specs.Entries.{entry}
 
 -- of two products
@@ -39,10 +40,6 @@ pub record Distance (a x b y c d : ℤ) : Type 0 where
 pub record Lines (r s : Constraint) : Type 0 where
   pub first : SmallConstraint r
   pub second : SmallConstraint s
-
-pub record Kept (r : Constraint) (v : Point) : Type 0 where
-  pub constraint : SmallConstraint r
-  pub point : SmallPoint v
 
 pub record Risen (r : Constraint) (d : Ray) : Type 0 where
   pub constraint : SmallConstraint r
@@ -67,10 +64,16 @@ pub record Reducible (d : Ray) : Type 0 where
 pub record Room (l : List ℤ) (k : ℕ) : Type 0 where
   pub room : 3 * k + 2 < length l
 
-pub record Tightening (line m : Constraint) (found : Found) : Type 0 where
+-- a point, or one at infinity
+pub record SmallTriple (v : Point) : Type 0 where
+  pub x-small : Within 65534000000000 (v .x)
+  pub y-small : Within 65534000000000 (v .y)
+  pub d-small : Within 2147352578 (v .d)
+
+pub record Tightening (line m : Constraint) (t : Held) : Type 0 where
   pub line-small : SmallConstraint line
   pub m-small : SmallConstraint m
-  pub found-small : SmallFound found
+  pub point-small : SmallTriple (t .point)
 
 -- n entries, each within the bounds
 pub record Entries (l : List ℤ) (n : ℕ) : Type 0 where

@@ -14,7 +14,7 @@ ghost use Rattle.lp.specs.Outcome.{det as detOf, meet as meetOf, keeps as keeps
 ghost use Rattle.lp.specs.Certificate.{isZero};
 ghost use Rattle.model.specs.Bounds.{SmallConstraint};
 ghost use Rattle.model.specs.Scan.{facing as facingOf, direction as directionOf};
-ghost use Rattle.planner.specs.Sizes.{Factors, Distance, Lines, Kept, Risen, Gained};
+ghost use Rattle.planner.specs.Sizes.{Factors, Distance, Lines, Risen, Gained};
 
 // p·q + s·t
 fn sum(p: i64, q: i64, s: i64, t: i64) -> i64
@@ -90,10 +90,17 @@ pub fn crosses(m: Constraint, line: Constraint) -> bool
 }
 
 pub fn keeps(r: Constraint, v: Point) -> bool
-    requires { ⌜ Kept r v ⌝ }
+    requires { ⌜ Distance (r .a) (v .x) (r .b) (v .y) (r .c) (v .d) ⌝ }
     ensures { λ t. ⌜ t ≡ keepsOf r v ⌝ }
 {
     0 <= distance(r.a, v.x, r.b, v.y, r.c, v.d)
+}
+
+// A point that is not at infinity.
+pub fn is_proper(v: Point) -> bool
+    ensures { λ t. ⌜ t ≡ ltZ (pos 0) (v .d) ⌝ }
+{
+    0 < v.d
 }
 
 // A constraint that is never left along a ray.

@@ -1,14 +1,18 @@
 // The passes over the entries of a system. Entries stand in one lent slice, three numbers each, floors first; n says how many of them count.
 use crate::exact::crosses;
+use crate::exact::is_proper;
 use crate::exact::keeps;
 use crate::exact::meet;
+use crate::exact::opposite;
 use lp::Constraint;
 use lp::Point;
 use model::Broken;
 use model::Found;
 ghost use mathlib.Core.Path.{_≡_};
-ghost use Rattle.model.specs.Scan.{tighter as tighterOf, tightest as tightestOf, firstBroken};
+ghost use Rattle.model.specs.Scan.{tightest as tightestOf, firstBroken};
+ghost use Rattle.model.specs.Bounds.{SmallConstraint};
 ghost use Rattle.planner.specs.Entries.{entry as entryOf, entries as entriesOf};
+ghost use Rattle.planner.specs.Held.{farthest, tightened, foundOf};
 ghost use Rattle.planner.specs.Sizes.{Room, Tightening, Along, Checking};
 
 pub fn entry(entries: &[i64], k: usize) -> Constraint
@@ -23,24 +27,59 @@ pub fn entry(entries: &[i64], k: usize) -> Constraint
     }
 }
 
-// Entry m, at index i, is met along the line, and before the point found so far.
-fn tighter(line: Constraint, i: usize, m: Constraint, found: Found) -> Found
-    requires { ⌜ Tightening line m found ⌝ }
-    ensures { λ r. ⌜ r ≡ tighterOf line i m found ⌝ }
+// The tightest point so far on a line that is walked, with the entry that makes it and the entry's index. At first it is the point at infinity, whose d is 0:
+// whatever meets the line breaks it. (The model's Found says the same; this has no tag, and so the loop holds it in registers.)
+pub struct Held {
+    pub index: usize,
+    pub entry: Constraint,
+    pub point: Point,
+}
+
+fn at_infinity(line: Constraint) -> Held
+    requires { ⌜ SmallConstraint line ⌝ }
+    ensures { λ t. ⌜ t ≡ farthest line ⌝ }
 {
+    Held {
+        index: 0,
+        entry: line,
+        point: Point {
+            x: line.b,
+            y: opposite(line.a),
+            d: 0,
+        },
+    }
+}
+
+// Entry m, at index i, is met along the line, and before the point held so far.
+fn tighter(line: Constraint, i: usize, m: Constraint, held: Held) -> Held
+    requires { ⌜ Tightening line m held ⌝ }
+    ensures { λ t. ⌜ t ≡ tightened line i m held ⌝ }
+{
+    let p = held.point;
     if crosses(m, line) {
-        match found {
-            Found::Nothing => Found::At(i, m, meet(m, line)),
-            Found::At(j, k, p) => {
-                if keeps(m, p) {
-                    Found::At(j, k, p)
-                } else {
-                    Found::At(i, m, meet(m, line))
-                }
+        if keeps(m, p) {
+            held
+        } else {
+            Held {
+                index: i,
+                entry: m,
+                point: meet(m, line),
             }
         }
     } else {
-        found
+        held
+    }
+}
+
+fn found(held: Held) -> Found
+    ensures { λ r. ⌜ r ≡ foundOf held ⌝ }
+{
+    let p = held.point;
+    if is_proper(p) {
+        let k = held.entry;
+        Found::At(held.index, k, p)
+    } else {
+        Found::Nothing
     }
 }
 
@@ -49,13 +88,13 @@ pub fn tightest(entries: &[i64], n: usize, line: Constraint) -> Found
     requires { ⌜ Along (now entries) n line ⌝ }
     ensures { λ r. ⌜ r ≡ tightestOf line 0 (entriesOf (now (entries .entry)) 0 n) Found.Nothing ⌝ }
 {
-    let mut found = Found::Nothing;
+    let mut held = at_infinity(line);
     let mut i = 0;
     while i < n {
-        found = tighter(line, i, entry(entries, i), found);
+        held = tighter(line, i, entry(entries, i), held);
         i += 1;
     }
-    found
+    found(held)
 }
 
 // The first of n entries that a point breaks.

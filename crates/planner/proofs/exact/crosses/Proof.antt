@@ -1,5 +1,5 @@
 use mathlib.Core.Path.{ap}
-use lib.IntN.{ℤ, pos}
+use lib.IntN.{pos}
 use lib.Signed.{ltZ}
 use Rattle.planner.proofs.Sizes.{factors-read, det-factors, difference-read}
 use Rattle.planner.proofs.exact.crosses.Statement.{statement}

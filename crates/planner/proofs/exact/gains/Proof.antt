@@ -1,5 +1,5 @@
 use mathlib.Core.Path.{ap}
-use lib.IntN.{ℤ, pos}
+use lib.IntN.{pos}
 use lib.Signed.{ltZ}
 use Rattle.planner.proofs.Sizes.{factors-read, along-factors, sum-read}
 use Rattle.planner.proofs.exact.gains.Statement.{statement}

@@ -1,16 +1,15 @@
-use borrow.Author.Needs.{needs}
 use mathlib.Core.Path.{ap}
 use lib.IntN.{pos}
 use lib.Signed.{leZ}
-use Rattle.planner.proofs.Sizes.{distance-read, kept-distance}
+use Rattle.planner.proofs.Sizes.{distance-args, distance-read}
 use Rattle.planner.proofs.exact.keeps.Statement.{statement}
 use Rattle.planner.proofs.exact.keeps.Tie as tie
 
 distance-requires : tie.Need-distance-requires
-distance-requires c κs = search needs
+distance-requires c κs = distance-args (c .before .before .before .before .before .before .pre)
 
 returns : tie.Need-returns
-returns c = ap (leZ (pos 0)) (distance-read (kept-distance (c .before .before .before .before .before .before .before .pre)) (c .distance .ok) (c .distance .ensures))
+returns c = ap (leZ (pos 0)) (distance-read (c .before .before .before .before .before .before .before .pre) (c .distance .ok) (c .distance .ensures))
 
 pub keeps-spec : {M : Type 1} → statement M
 keeps-spec = tie.close (tie.spec distance-requires returns)

@@ -1,4 +1,5 @@
 use borrow.Author.Needs.{needs}
+use Rattle.planner.proofs.Sizes.{kept-distance}
 use Rattle.planner.proofs.Steps.{best-point}
 use Rattle.planner.proofs.optimum.breaks.Statement.{statement}
 use Rattle.planner.proofs.optimum.breaks.Tie as tie
@@ -10,7 +11,7 @@ enum-known-best : tie.Need-enum-known-best
 enum-known-best c = search needs
 
 keeps-requires : tie.Need-keeps-requires
-keeps-requires c κs = record { constraint = c .before .before .before .pre .h-small; point = best-point (c .before .before .before .pre .best) (c .before .best .given .1) }
+keeps-requires c κs = kept-distance (c .before .before .before .pre .h-small) (best-point (c .before .before .before .pre .best) (c .before .best .given .1))
 
 returns : tie.Need-returns
 returns c = search needs

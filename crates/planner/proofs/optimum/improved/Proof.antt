@@ -1,5 +1,6 @@
 use borrow.Author.Needs.{needs}
 use mathlib.Core.Path.{sym, _∙_}
+use Rattle.planner.proofs.Sizes.{kept-distance}
 use Rattle.planner.proofs.Steps.{best-point}
 use Rattle.planner.proofs.optimum.improved.Statement.{statement}
 use Rattle.planner.proofs.optimum.improved.Tie as tie
@@ -23,7 +24,7 @@ enum-known-best : tie.Need-enum-known-best
 enum-known-best c = search needs
 
 keeps-requires : tie.Need-keeps-requires
-keeps-requires c κs = record { constraint = c .before .before .before .pre .moving .restarting .h-small; point = best-point (c .before .before .before .pre .best) (c .before .best .given .1) }
+keeps-requires c κs = kept-distance (c .before .before .before .pre .moving .restarting .h-small) (best-point (c .before .before .before .pre .best) (c .before .best .given .1))
 
 moved-requires-2 : tie.Need-moved-requires-2
 moved-requires-2 c κs = search needs

@@ -1,24 +1,26 @@
 use Prim.Native.Nat.{_-_}
 use native.Mathlib.Omega.{arith}
-use denote.Ref.{now}
 use Rattle.planner.proofs.Passes.{Tightest, tightest-start, entry-room, tightening, tightest-step, tightest-end}
 use Rattle.planner.proofs.scan.tightest.Statement.{statement}
 use Rattle.planner.proofs.scan.tightest.Tie as tie
 
 abbrev Inv-loop : tie.InvT-loop
-Inv-loop entries n line found₀ i₀ found i = Tightest entries n line found i
+Inv-loop entries n line held₀ i₀ held i = Tightest entries n line held i
 
 abbrev μ-loop : tie.MeasureT-loop
-μ-loop entries n line found₀ i₀ found i = n - i
+μ-loop entries n line held₀ i₀ held i = n - i
+
+at-infinity-requires : tie.Need-at-infinity-requires Inv-loop μ-loop
+at-infinity-requires c κs = c .pre .line-small
 
 loop-holds : tie.Need-loop-holds Inv-loop μ-loop
-loop-holds c = tightest-start (now (c .args .entries)) (c .args .n) (c .args .line)
+loop-holds c = tightest-start (c .before .pre) (c .at-infinity .ensures)
 
 entry-requires : tie.Need-entry-requires Inv-loop μ-loop
-entry-requires c κs = entry-room (c .before .before .pre .entries) (c .loop-test .taken)
+entry-requires c κs = entry-room (c .before .before .before .pre .entries) (c .loop-test .taken)
 
 tighter-requires : tie.Need-tighter-requires Inv-loop μ-loop
-tighter-requires c κs = tightening (c .before .before .before .pre) (c .before .before .loop .inv) (c .before .loop-test .taken) (c .entry .ensures)
+tighter-requires c κs = tightening (c .before .before .before .before .pre) (c .before .before .loop .inv) (c .before .loop-test .taken) (c .entry .ensures)
 
 add-i : tie.Need-add-i Inv-loop μ-loop
 add-i c = omega arith
@@ -27,10 +29,13 @@ loop-less : tie.Need-loop-less Inv-loop μ-loop
 loop-less c = omega arith
 
 loop-again : tie.Need-loop-again Inv-loop μ-loop
-loop-again c = tightest-step (c .before .before .before .before .pre) (c .before .before .before .loop .inv) (c .before .before .loop-test .taken) (c .before .entry .ensures) (c .tighter .ensures)
+loop-again c = tightest-step (c .before .before .before .before .before .pre) (c .before .before .before .loop .inv) (c .before .before .loop-test .taken) (c .before .entry .ensures) (c .tighter .ensures)
+
+found-requires : tie.Need-found-requires Inv-loop μ-loop
+found-requires c κs = tt
 
 returns : tie.Need-returns Inv-loop μ-loop
-returns c = tightest-end (c .before .before .pre) (c .before .loop .inv) (c .loop-test .left)
+returns c = tightest-end (c .before .before .before .before .pre) (c .before .before .loop .inv) (c .before .loop-test .left) (c .found .ensures)
 
 pub tightest-spec : {M : Type 1} → statement M
 tightest-spec =
@@ -38,10 +43,12 @@ tightest-spec =
     (tie.spec
     Inv-loop
     μ-loop
+    at-infinity-requires
     loop-holds
     entry-requires
     tighter-requires
     add-i
     loop-less
     loop-again
+    found-requires
     returns)

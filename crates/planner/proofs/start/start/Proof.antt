@@ -1,10 +1,11 @@
 use borrow.Author.Needs.{needs}
 use mathlib.Core.Path.{sym, _∙_}
+use Rattle.planner.proofs.Sizes.{kept-distance}
 use Rattle.planner.proofs.start.start.Statement.{statement}
 use Rattle.planner.proofs.start.start.Tie as tie
 
 keeps-requires : tie.Need-keeps-requires
-keeps-requires c κs = search needs
+keeps-requires c κs = kept-distance (c .pre .restarting .h-small) (c .pre .s-small)
 
 restart-requires : tie.Need-restart-requires
 restart-requires c κs = search needs

@@ -1,5 +1,5 @@
 use borrow.Author.Needs.{needs}
-use Rattle.planner.proofs.Steps.{begun-open, begun-best}
+use Rattle.planner.proofs.Walks.{begun-open, begun-best}
 use Rattle.planner.proofs.walk.begin.Statement.{statement}
 use Rattle.planner.proofs.walk.begin.Tie as tie
 

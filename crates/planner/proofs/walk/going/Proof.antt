@@ -1,5 +1,5 @@
 use borrow.Author.Needs.{needs}
-use mathlib.Core.Path.{sym, _∙_, ap}
+use mathlib.Core.Path.{_∙_, ap}
 use Prim.Native.Nat.{ℕ, _+_}
 use Rattle.lp.specs.Prefixes.{one-if}
 use Rattle.model.specs.declared.State.the-variants.{Going}

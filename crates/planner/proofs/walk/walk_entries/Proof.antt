@@ -1,7 +1,7 @@
 use Prim.Native.Nat.{_-_}
 use native.Mathlib.Omega.{arith}
 use Rattle.planner.proofs.Passes.{entry-room}
-use Rattle.planner.proofs.Steps.{Walked, walked-start, stepping, walked-step, walked-end}
+use Rattle.planner.proofs.Walks.{Walked, walked-start, stepping, walked-step, walked-end}
 use Rattle.planner.proofs.walk.walk_entries.Statement.{statement}
 use Rattle.planner.proofs.walk.walk_entries.Tie as tie
 

@@ -1,8 +1,8 @@
 use borrow.Author.Needs.{needs}
 use mathlib.Core.Path.{sym, _∙_}
-use Rattle.planner.proofs.Steps.{gain-reducible}
-use Rattle.planner.proofs.answer.said.Statement.{statement}
-use Rattle.planner.proofs.answer.said.Tie as tie
+use Rattle.planner.proofs.Answers.{gain-reducible}
+use Rattle.planner.proofs.verdict.said.Statement.{statement}
+use Rattle.planner.proofs.verdict.said.Tie as tie
 
 enum-told : tie.Need-enum-told
 enum-told c = search needs

@@ -1,30 +1,25 @@
 // The answer of document 01, from what the walk holds at the end. Fields that an outcome does not use are zero.
+use crate::Answer;
 use crate::cone::gaining;
 use crate::divisor::reduce_ray;
+use crate::walk::walk_entries;
 use lp::Certificate;
+use lp::Floors;
 use lp::Functional;
 use lp::Outcome;
 use lp::Point;
+use lp::Tie;
 use model::Best;
 use model::Cone;
 use model::Gain;
 use model::State;
 use model::Walk;
 ghost use mathlib.Core.Path.{_≡_};
-ghost use Rattle.model.specs.Step.{said as saidOf};
+ghost use Prim.Native.Nat.{_-_};
+ghost use Rattle.model.specs.Step.{said as saidOf, walk as walkOf};
 ghost use Rattle.planner.specs.Answer.{answerOf, nobody};
-ghost use Rattle.planner.specs.Sizes.{Gaining, Answering};
-
-// A refusal's number and the record it is at, both zero where the book is accepted; else the outcome with its place, counts and witness.
-pub struct Answer {
-    pub number: usize,
-    pub at: usize,
-    pub outcome: Outcome,
-    pub place: usize,
-    pub moves: usize,
-    pub opened: usize,
-    pub certificate: Certificate,
-}
+ghost use Rattle.planner.specs.Entries.{entries as entriesOf};
+ghost use Rattle.planner.specs.Sizes.{Gaining, Answering, Walking};
 
 // No entry at all.
 fn no_certificate() -> Certificate
@@ -54,7 +49,7 @@ fn said(objective: Functional, s: Point, cone: Cone, best: Best) -> Outcome
     }
 }
 
-pub fn answered(objective: Functional, walk: Walk) -> Answer
+pub fn verdict(objective: Functional, walk: Walk) -> Answer
     requires { ⌜ Answering objective walk ⌝ }
     ensures { λ r. ⌜ r ≡ answerOf objective walk ⌝ }
 {
@@ -81,4 +76,19 @@ pub fn answered(objective: Functional, walk: Walk) -> Answer
             certificate: no_certificate(),
         },
     }
+}
+
+// The plan of n entries, of which the floors are the first two.
+pub fn plan_entries(
+    objective: Functional,
+    tie: Tie,
+    floors: Floors,
+    entries: &[i64],
+    n: usize,
+) -> Answer
+    requires { ⌜ Walking objective tie floors (now entries) n ⌝ }
+    ensures { λ r. ⌜ r ≡ answerOf objective (walkOf tie floors objective (entriesOf (now (entries .entry)) 2 (n - 2))) ⌝ }
+{
+    let walk = walk_entries(objective, tie, floors, entries, n);
+    verdict(objective, walk)
 }

@@ -1,7 +1,8 @@
 use borrow.Author.Needs.{needs}
-use Rattle.planner.proofs.Steps.{state-parts, answer-ended, answer-going}
-use Rattle.planner.proofs.answer.answered.Statement.{statement}
-use Rattle.planner.proofs.answer.answered.Tie as tie
+use Rattle.planner.proofs.Steps.{state-parts}
+use Rattle.planner.proofs.Answers.{answer-ended, answer-going}
+use Rattle.planner.proofs.verdict.verdict.Statement.{statement}
+use Rattle.planner.proofs.verdict.verdict.Tie as tie
 
 enum-known-state : tie.Need-enum-known-state
 enum-known-state c = search needs
@@ -21,8 +22,8 @@ returns c = answer-ended (c .before .before .before .args .objective) (c .before
 returns-2 : tie.Need-returns-2
 returns-2 c = answer-going (c .before .before .before .before .before .args .objective) (c .before .before .before .before .before .args .walk) (c .before .before .before .state2 .given .1) (c .before .said .ensures) (c .no-certificate .ensures)
 
-pub answered-spec : {M : Type 1} → statement M
-answered-spec =
+pub verdict-spec : {M : Type 1} → statement M
+verdict-spec =
     tie.close
     (tie.spec
     enum-known-state
