@@ -1,10 +1,10 @@
 -- Laws that the proofs of the planner's functions cite: sizes of sums and products (Sizes), magnitudes and quotients (Quotients), the passes over
--- the entries (Passes), the parts of a step (Steps), the walk (Walks) and the answer (Answers).
+-- the entries (Passes), the parts of a step (Steps), the walk (Walks) and the verdict (Verdicts).
 pub mod Sizes
 pub mod Quotients
 pub mod Passes
 pub mod Steps
 pub mod Walks
-pub mod Answers
+pub mod Verdicts
 pub mod Demands
 pub mod Witnesses

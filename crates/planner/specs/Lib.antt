@@ -1,9 +1,9 @@
--- The entries of a system as numbers (Entries), what a pass holds (Held), the start point's part of a step (Start), the answer (Answer), and what the planner's private functions ask of the numbers that they
+-- The entries of a system as numbers (Entries), what a pass holds (Held), the start point's part of a step (Start), the verdict (Verdict), the witness by record (Witness), what a book is planned as (Planning), and what the planner's private functions ask of the numbers that they
 -- are handed (Sizes).
 pub mod Entries
 pub mod Held
 pub mod Start
-pub mod Answer
+pub mod Verdict
 pub mod Sizes
 pub mod Witness
 pub mod Planning

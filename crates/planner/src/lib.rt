@@ -10,17 +10,3 @@ mod start;
 mod verdict;
 mod walk;
 mod witness;
-
-use lp::Certificate;
-use lp::Outcome;
-
-// A refusal's number and the record it is at, both zero where the book is accepted; else the outcome with its place, counts and witness.
-pub struct Answer {
-    pub number: usize,
-    pub at: usize,
-    pub outcome: Outcome,
-    pub place: usize,
-    pub moves: usize,
-    pub opened: usize,
-    pub certificate: Certificate,
-}

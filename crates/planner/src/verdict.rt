@@ -1,5 +1,4 @@
-// The answer of document 01, from what the walk holds at the end. Fields that an outcome does not use are zero.
-use crate::Answer;
+// The plan of document 01, from what the walk holds at the end, with its witness by index. Fields that an outcome does not use are zero.
 use crate::cone::gaining;
 use crate::divisor::reduce_ray;
 use crate::walk::walk_entries;
@@ -14,10 +13,12 @@ use model::Cone;
 use model::Gain;
 use model::State;
 use model::Walk;
+use report::Plan;
 ghost use mathlib.Core.Path.{_≡_};
 ghost use Prim.Native.Nat.{_-_};
 ghost use Rattle.model.specs.Step.{said as saidOf, walk as walkOf};
-ghost use Rattle.planner.specs.Answer.{answerOf, nobody};
+ghost use Rattle.planner.specs.Verdict.{verdictOf};
+ghost use Rattle.planner.specs.Witness.{nobody};
 ghost use Rattle.planner.specs.Entries.{entries as entriesOf};
 ghost use Rattle.planner.specs.Sizes.{Gaining, Answering, Walking};
 
@@ -49,31 +50,27 @@ fn said(objective: Functional, s: Point, cone: Cone, best: Best) -> Outcome
     }
 }
 
-pub fn verdict(objective: Functional, walk: Walk) -> Answer
+pub fn verdict(objective: Functional, walk: Walk) -> Plan
     requires { ⌜ Answering objective walk ⌝ }
-    ensures { λ r. ⌜ r ≡ answerOf objective walk ⌝ }
+    ensures { λ r. ⌜ r ≡ verdictOf objective walk ⌝ }
 {
     let state = walk.state;
     let moves = walk.moves;
     let opened = walk.opened;
     match state {
-        State::Ended(place, certificate) => Answer {
-            number: 0,
-            at: 0,
+        State::Ended(place, certificate) => Plan {
             outcome: Outcome::Infeasible,
+            moves,
+            opened,
             place,
-            moves,
-            opened,
-            certificate,
+            witness: certificate,
         },
-        State::Going(s, cone, best) => Answer {
-            number: 0,
-            at: 0,
+        State::Going(s, cone, best) => Plan {
             outcome: said(objective, s, cone, best),
-            place: 0,
             moves,
             opened,
-            certificate: no_certificate(),
+            place: 0,
+            witness: no_certificate(),
         },
     }
 }
@@ -85,9 +82,9 @@ pub fn plan_entries(
     floors: Floors,
     entries: &[i64],
     n: usize,
-) -> Answer
+) -> Plan
     requires { ⌜ Walking objective tie floors (now entries) n ⌝ }
-    ensures { λ r. ⌜ r ≡ answerOf objective (walkOf tie floors objective (entriesOf (now (entries .entry)) 2 (n - 2))) ⌝ }
+    ensures { λ r. ⌜ r ≡ verdictOf objective (walkOf tie floors objective (entriesOf (now (entries .entry)) 2 (n - 2))) ⌝ }
 {
     let walk = walk_entries(objective, tie, floors, entries, n);
     verdict(objective, walk)

@@ -1,6 +1,6 @@
 use borrow.Author.Needs.{needs}
 use mathlib.Core.Path.{sym, _∙_}
-use Rattle.planner.proofs.Answers.{gain-reducible}
+use Rattle.planner.proofs.Verdicts.{gain-reducible}
 use Rattle.planner.proofs.verdict.said.Statement.{statement}
 use Rattle.planner.proofs.verdict.said.Tie as tie
 

@@ -1,6 +1,6 @@
 use borrow.Author.Needs.{needs}
 use Rattle.planner.proofs.Steps.{state-parts}
-use Rattle.planner.proofs.Answers.{answer-ended, answer-going}
+use Rattle.planner.proofs.Verdicts.{verdict-ended, verdict-going}
 use Rattle.planner.proofs.verdict.verdict.Statement.{statement}
 use Rattle.planner.proofs.verdict.verdict.Tie as tie
 
@@ -17,10 +17,10 @@ no-certificate-requires : tie.Need-no-certificate-requires
 no-certificate-requires c κs = search needs
 
 returns : tie.Need-returns
-returns c = answer-ended (c .before .before .before .args .objective) (c .before .before .before .args .walk) (c .before .state .given .1)
+returns c = verdict-ended (c .before .before .before .args .objective) (c .before .before .before .args .walk) (c .before .state .given .1)
 
 returns-2 : tie.Need-returns-2
-returns-2 c = answer-going (c .before .before .before .before .before .args .objective) (c .before .before .before .before .before .args .walk) (c .before .before .before .state2 .given .1) (c .before .said .ensures) (c .no-certificate .ensures)
+returns-2 c = verdict-going (c .before .before .before .before .before .args .objective) (c .before .before .before .before .before .args .walk) (c .before .before .before .state2 .given .1) (c .before .said .ensures) (c .no-certificate .ensures)
 
 pub verdict-spec : {M : Type 1} → statement M
 verdict-spec =

@@ -1,4 +1,4 @@
--- The answer, from what the walk holds. A ray along which the objective gains is not 0, so it can be divided by its greatest common divisor.
+-- The plan, from what the walk holds. A ray along which the objective gains is not 0, so it can be divided by its greatest common divisor.
 use mathlib.Core.Path.{_≡_, sym, _∙_, ap, ap₂, subst}
 use mathlib.Core.List.{List}
 use mathlib.Core.Bool.{Bool, true, false}
@@ -26,11 +26,12 @@ use Rattle.model.specs.declared.Best.{Best}
 use Rattle.model.specs.declared.State.{State}
 use Rattle.model.specs.declared.State.the-variants.{Ended, Going}
 use Rattle.model.specs.declared.Walk.{Walk}
-use Rattle.model.specs.Step.{gaining, walk, said}
+use Rattle.model.specs.Step.{gaining, walk, said, placeOf}
 use Rattle.model.specs.Bounds.{SmallGain, SmallState}
 use Rattle.model.proofs.Bounds.{walk-small, gaining-small}
 use Rattle.planner.specs.Entries.{entries}
-use Rattle.planner.specs.Answer.{answer, answerOf, nobody, placeOf, witnessOf}
+use Rattle.planner.specs.Verdict.{planned, verdictOf, witnessOf}
+use Rattle.planner.specs.Witness.{nobody}
 use Rattle.planner.specs.Sizes.{Gaining, Reducible, Answering, Walking}
 use Rattle.planner.proofs.Passes.{entries-part}
 
@@ -59,17 +60,17 @@ gain-reducible {f} {cone} s e {d} k =
       g-proper = gcd2-pos (d .dx) (d .dy) (λ ex ey. <ℤ-irrefl (subst (λ z. pos 0 <ᶻ z) (along-nought f d ex ey) (subst (Gains f) (sym e ∙ k) (gaining-gains f cone))));
     }
 
--- ---- the answer
+-- ---- the plan
 
 module _ (f : Functional) (w : Walk) where
-  answer-shown : {s : State} → w .state ≡ s → answer (said f s) (placeOf s) (w .moves) (w .opened) (witnessOf s) ≡ answerOf f w
-  answer-shown e = ap (λ s. answer (said f s) (placeOf s) (w .moves) (w .opened) (witnessOf s)) (sym e)
+  verdict-shown : {s : State} → w .state ≡ s → planned (said f s) (placeOf s) (w .moves) (w .opened) (witnessOf s) ≡ verdictOf f w
+  verdict-shown e = ap (λ s. planned (said f s) (placeOf s) (w .moves) (w .opened) (witnessOf s)) (sym e)
 
-  pub answer-ended : {p : ℕ} {c : Certificate} → w .state ≡ Ended p c → answer Infeasible p (w .moves) (w .opened) c ≡ answerOf f w
-  answer-ended e = answer-shown e
+  pub verdict-ended : {p : ℕ} {c : Certificate} → w .state ≡ Ended p c → planned Infeasible p (w .moves) (w .opened) c ≡ verdictOf f w
+  verdict-ended e = verdict-shown e
 
-  pub answer-going : {s : Point} {cone : Cone} {b : Best} → w .state ≡ Going s cone b → {o : Outcome} → o ≡ said f (Going s cone b) → {c : Certificate} → c ≡ nobody → answer o 0 (w .moves) (w .opened) c ≡ answerOf f w
-  answer-going e eo ec = (λ i. answer (eo i) 0 (w .moves) (w .opened) (ec i)) ∙ answer-shown e
+  pub verdict-going : {s : Point} {cone : Cone} {b : Best} → w .state ≡ Going s cone b → {o : Outcome} → o ≡ said f (Going s cone b) → {c : Certificate} → c ≡ nobody → planned o 0 (w .moves) (w .opened) c ≡ verdictOf f w
+  verdict-going e eo ec = (λ i. planned (eo i) 0 (w .moves) (w .opened) (ec i)) ∙ verdict-shown e
 
 -- what the answer asks of the walk
 pub answering : {f : Functional} {t : Tie} {floors : Floors} {l : List ℤ} {n : ℕ} → Walking f t floors l n → {w : Walk} → w ≡ walk t floors f (entries l 2 (n - 2)) → Answering f w
