@@ -6,5 +6,6 @@ pub mod Passes
 pub mod Steps
 pub mod Walks
 pub mod Verdicts
+pub mod Layouts
 pub mod Demands
 pub mod Witnesses

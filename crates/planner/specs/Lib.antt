@@ -3,6 +3,7 @@
 pub mod Entries
 pub mod Held
 pub mod Start
+pub mod Layout
 pub mod Verdict
 pub mod Sizes
 pub mod Witness

@@ -3,6 +3,7 @@
 mod cone;
 mod divisor;
 mod exact;
+mod layout;
 mod optimum;
 mod order;
 mod scan;
