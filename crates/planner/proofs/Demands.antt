@@ -49,24 +49,27 @@ module _ (o : Functional) (es : List Entry) (p : Plan) (promise : PlannedAs es o
 
   -- "impossible" exactly when no pair of fractions of any size keeps all rules
   pub impossible-exactly : (p .outcome ≡ outcome.Infeasible) ↔ Infeasible chain
-  impossible-exactly =
-      ( (λ e. infeasible-exactly leastXThenY least-x-then-y-good zeroFloors o (rulesOf es) .0 (sym (promise .outcome-defined) ∙ e))
-      , (λ none. promise .outcome-defined ∙ infeasible-exactly leastXThenY least-x-then-y-good zeroFloors o (rulesOf es) .1 none) )
+  impossible-exactly = (
+    (λ e. infeasible-exactly leastXThenY least-x-then-y-good zeroFloors o (rulesOf es) .0 (sym (promise .outcome-defined) ∙ e)),
+    (λ none. promise .outcome-defined ∙ infeasible-exactly leastXThenY least-x-then-y-good zeroFloors o (rulesOf es) .1 none),
+  )
 
   -- "unlimited" exactly when allowed pairs exist and gains have no top
   pub unlimited-exactly : ((s : Point) × (d : Ray) × (p .outcome ≡ outcome.Unbounded s d)) ↔ Unbounded chain o
-  unlimited-exactly =
-      ( (λ x. unbounded-exactly leastXThenY least-x-then-y-good zeroFloors o (rulesOf es) .0 (x .0, x .1, sym (promise .outcome-defined) ∙ x .2))
-      , (λ u. back (unbounded-exactly leastXThenY least-x-then-y-good zeroFloors o (rulesOf es) .1 u)) )
+  unlimited-exactly = (
+    (λ x. unbounded-exactly leastXThenY least-x-then-y-good zeroFloors o (rulesOf es) .0 (x .0, x .1, sym (promise .outcome-defined) ∙ x .2)),
+    (λ u. back (unbounded-exactly leastXThenY least-x-then-y-good zeroFloors o (rulesOf es) .1 u)),
+  )
     where
       back : (s : Point) × (d : Ray) × (Rattle.lp.specs.Outcome.outcome leastXThenY zeroFloors o (rulesOf es) ≡ outcome.Unbounded s d) → (s : Point) × (d : Ray) × (p .outcome ≡ outcome.Unbounded s d)
       back (s, d, e) = (s, d, promise .outcome-defined ∙ e)
 
   -- "best" exactly when they exist and gains have a top
   pub best-exactly : ((v : Point) × (p .outcome ≡ outcome.Optimal v)) ↔ Bounded chain o
-  best-exactly =
-      ( (λ x. optimal-exactly leastXThenY least-x-then-y-good zeroFloors o (rulesOf es) .0 (x .0, sym (promise .outcome-defined) ∙ x .1))
-      , (λ b. back (optimal-exactly leastXThenY least-x-then-y-good zeroFloors o (rulesOf es) .1 b)) )
+  best-exactly = (
+    (λ x. optimal-exactly leastXThenY least-x-then-y-good zeroFloors o (rulesOf es) .0 (x .0, sym (promise .outcome-defined) ∙ x .1)),
+    (λ b. back (optimal-exactly leastXThenY least-x-then-y-good zeroFloors o (rulesOf es) .1 b)),
+  )
     where
       back : (v : Point) × (Rattle.lp.specs.Outcome.outcome leastXThenY zeroFloors o (rulesOf es) ≡ outcome.Optimal v) → (v : Point) × (p .outcome ≡ outcome.Optimal v)
       back (v, e) = (v, promise .outcome-defined ∙ e)

@@ -33,7 +33,7 @@ pub filled-step : {f : ℕ → Constraint} {n : ℕ} {l₀ l l′ : List ℤ} {i
 filled-step {f} {n} {l₀} {l} {l′} {i} h less e put =
     record {
       state = put ∙ ap₂ (λ (m : List ℤ) (c : Constraint). putEntry m (i + 2) c) (h .state) e ∙ ap (λ (k : ℕ). laid f k l₀) (sym (add-one i));
-      within = omega arith
+      within = omega arith;
     }
 
 pub filled-end : {f : ℕ → Constraint} {n : ℕ} {l₀ l : List ℤ} {i : ℕ} → Filled f n l₀ l i → n ≤ i → l ≡ laid f n l₀
@@ -57,10 +57,12 @@ module _ (l : List ℤ) (k : ℕ) (c : Constraint) where
           at-set (set (set l (3 * k) (c .a)) (3 * k + 1) (c .b)) (3 * k + 2) (3 * k) (c .c) (λ e. omega arith)
           ∙ at-set (set l (3 * k) (c .a)) (3 * k + 1) (3 * k) (c .b) (λ e. omega arith)
           ∙ getD-set-same l (3 * k) (c .a) (pos 0) (omega arith)
+
       second : getD (putEntry l k c) (3 * k + 1) (pos 0) ≡ c .b
       second =
           at-set (set (set l (3 * k) (c .a)) (3 * k + 1) (c .b)) (3 * k + 2) (3 * k + 1) (c .c) (λ e. omega arith)
           ∙ getD-set-same (set l (3 * k) (c .a)) (3 * k + 1) (c .b) (pos 0) (simp length-set (omega arith))
+
       third : getD (putEntry l k c) (3 * k + 2) (pos 0) ≡ c .c
       third = getD-set-same (set (set l (3 * k) (c .a)) (3 * k + 1) (c .b)) (3 * k + 2) (c .c) (pos 0) (simp length-set (omega arith))
 
@@ -76,8 +78,10 @@ module _ (l : List ℤ) (k : ℕ) (c : Constraint) where
     where
       first : getD (putEntry l k c) (3 * j) (pos 0) ≡ getD l (3 * j) (pos 0)
       first = put-away (3 * j) (λ e. other (omega arith)) (λ e. other (omega arith)) (λ e. other (omega arith))
+
       second : getD (putEntry l k c) (3 * j + 1) (pos 0) ≡ getD l (3 * j + 1) (pos 0)
       second = put-away (3 * j + 1) (λ e. other (omega arith)) (λ e. other (omega arith)) (λ e. other (omega arith))
+
       third : getD (putEntry l k c) (3 * j + 2) (pos 0) ≡ getD l (3 * j + 2) (pos 0)
       third = put-away (3 * j + 2) (λ e. other (omega arith)) (λ e. other (omega arith)) (λ e. other (omega arith))
 
@@ -111,5 +115,6 @@ entries-are l z i (r ∷ rs) f =
   where
     first : (i : ℕ) → i ≡ 0 + i
     first i = omega arith
+
     shift : (k : ℕ) → k + suc i ≡ suc k + i
     shift k = omega arith

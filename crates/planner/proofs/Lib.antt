@@ -7,5 +7,8 @@ pub mod Steps
 pub mod Walks
 pub mod Verdicts
 pub mod Layouts
+pub mod Chains
+pub mod Finish
+pub mod Plans
 pub mod Demands
 pub mod Witnesses

@@ -18,7 +18,9 @@ use Rattle.lp.specs.Prefixes.{place, moves, opens}
 use Rattle.lp.specs.Certificate.{named, certifies}
 use Rattle.lp.specs.Document.{leastXThenY, zeroFloors}
 use Rattle.book.specs.declared.Rule.{Rule}
+use Rattle.book.specs.declared.Chain.{Chain}
 use Rattle.book.specs.Layout.{v1}
+use Rattle.book.specs.Answers.{chainOf}
 use Rattle.book.specs.Reading.{Reading, refused, accepted, Entry, readOf}
 use Rattle.report.specs.declared.Answer.{Answer}
 use Rattle.report.specs.declared.Answer.the-variants.{Refused, Planned}
@@ -64,3 +66,10 @@ AnsweredBy (accepted o es) (Planned p) = PlannedAs es o p
 -- the promise of `plan`
 pub record Answers (s : List ℕ) (a : Answer) : Type 0 where
   pub answered : AnsweredBy (readOf v1 s) a
+
+-- a chain that was read off an accepted book
+pub record Chained (s : List ℕ) (c : Chain) : Type 0 where
+  pub objective : Functional
+  pub entries : List Entry
+  pub accepts : readOf v1 s ≡ accepted objective entries
+  pub chain : c ≡ chainOf (accepted objective entries)

@@ -1,5 +1,6 @@
 // The planner: exact arithmetic on 64-bit integers, equal function by function to the functional model of crate `model`. What a private function asks of
 // its numbers is one record, and document 01's bounds answer it.
+mod answer;
 mod cone;
 mod divisor;
 mod exact;
@@ -11,3 +12,13 @@ mod start;
 mod verdict;
 mod walk;
 mod witness;
+
+use report::Answer;
+ghost use Rattle.planner.specs.Planning.{Answers};
+
+// The plan of a book, or its refusal. Every field is fixed by the bytes but the witness, which is any valid one.
+pub fn plan(book: &[u8]) -> Answer
+    ensures { λ r. ⌜ Answers (now (book .entry)) r ⌝ }
+{
+    answer::answer(book)
+}

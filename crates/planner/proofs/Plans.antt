@@ -1,0 +1,112 @@
+-- The plan of an accepted book, from the chain that was read off it: what each call asks, and what the answer is.
+use mathlib.Core.Path.{_≡_, refl, sym, _∙_, ap, subst}
+use mathlib.Core.List.{List, map}
+use Prim.Native.Nat.{ℕ, _+_, _-_, _≤_, _<_}
+use native.Mathlib.Omega.{arith}
+use lib.ListN.{length, replicate, length-append, length-replicate}
+use lib.IntN.{ℤ}
+use Rattle.lp.specs.declared.Functional.{Functional}
+use Rattle.lp.specs.declared.Floors.{Floors}
+use Rattle.lp.specs.declared.Tie.{Tie}
+use Rattle.lp.specs.declared.Certificate.{Certificate}
+use Rattle.lp.specs.Document.{leastXThenY, zeroFloors}
+use Rattle.book.specs.declared.Chain.{Chain}
+use Rattle.book.specs.Layout.{v1}
+use Rattle.book.specs.Reading.{Reading, refused, accepted, Entry, readOf}
+use Rattle.book.specs.Answers.{Reads, chainOf, padded, indexIn}
+use Rattle.book.specs.Causes.{Applies, cause-1, cause-2, cause-3, cause-4, cause-5, cause-6, cause-7, cause-8, cause-9, cause-10}
+use Rattle.book.proofs.Causes.{refusal-applies}
+use Rattle.report.specs.declared.Answer.{Answer}
+use Rattle.report.specs.declared.Answer.the-variants.{Refused, Planned}
+use Rattle.report.specs.declared.Plan.{Plan}
+use Rattle.model.specs.Step.{walk}
+use Rattle.planner.specs.Entries.{entries}
+use Rattle.planner.specs.Sizes.{Walking}
+use Rattle.planner.specs.Layout.{laidOut, ruleFor, Laying}
+use Rattle.planner.specs.Witness.{coded, rising}
+use Rattle.planner.specs.Verdict.{verdictOf}
+use Rattle.planner.specs.Planning.{rulesOf, Chained, AnsweredBy, Answers}
+use Rattle.planner.proofs.Chains.{length-index, few, laying, walking, rules-given}
+use Rattle.planner.proofs.Finish.{finished}
+
+module _ (s : List ℕ) (chain : Chain) (h : Chained s chain) where
+  pub chain-few : chain .n ≤ 255
+  unfolding chainOf
+  chain-few = subst (λ (c : Chain). c .n ≤ 255) (sym (h .chain)) (few s (h .objective) (h .entries) (h .accepts))
+
+  pub chain-length : 255 ≡ length (chain .records)
+  unfolding chainOf
+  chain-length = subst (λ (c : Chain). 255 ≡ length (c .records)) (sym (h .chain)) (padded-length (map indexIn (h .entries)) (fits (h .entries) (few s (h .objective) (h .entries) (h .accepts))))
+    where
+      fits : (es : List Entry) → length es ≤ 255 → length (map indexIn es) ≤ 255
+      fits es k = omega (arith, length-index es)
+
+      padded-length : (l : List ℕ) → length l ≤ 255 → 255 ≡ length (padded l)
+      padded-length l k = omega (arith, length-append l (replicate (255 - length l) 0), length-replicate {A = ℕ} (255 - length l) 0)
+
+  pub chain-laying : (l : List ℤ) → length l ≡ 771 → Laying (chain .records) (chain .n) l
+  unfolding chainOf
+  chain-laying l room =
+      subst (λ (c : Chain). Laying (c .records) (c .n) l) (sym (h .chain)) (laying s (h .objective) (h .entries) (h .accepts) l room)
+
+  module _ (l : List ℤ) (room : length l ≡ 771) (full : List ℤ) (laid : full ≡ laidOut (ruleFor s (chain .records)) (chain .n) l) (t : Tie) (et : t ≡ leastXThenY) (floors : Floors) (ef : floors ≡ zeroFloors) where
+    -- the same, with everything the code handed over named
+    at-chain : (Q : Functional → Tie → Floors → List ℤ → ℕ → Type 0) → ((c : Chain) → c ≡ chainOf (accepted (h .objective) (h .entries)) → Q (c .objective) leastXThenY zeroFloors (laidOut (ruleFor s (c .records)) (c .n) l) (c .n + 2)) → Q (chain .objective) t floors full (chain .n + 2)
+    at-chain Q f =
+        subst (λ (m : List ℤ). Q (chain .objective) t floors m (chain .n + 2)) (sym laid)
+        (subst (λ (u : Tie). Q (chain .objective) u floors (laidOut (ruleFor s (chain .records)) (chain .n) l) (chain .n + 2)) (sym et)
+        (subst (λ (g : Floors). Q (chain .objective) leastXThenY g (laidOut (ruleFor s (chain .records)) (chain .n) l) (chain .n + 2)) (sym ef) (f chain (h .chain))))
+
+    pub chain-walking : Walking (chain .objective) t floors full (chain .n + 2)
+    unfolding chainOf
+    chain-walking =
+        at-chain (λ o t floors m n. Walking o t floors m n)
+        (λ c e. subst (λ (c : Chain). Walking (c .objective) leastXThenY zeroFloors (laidOut (ruleFor s (c .records)) (c .n) l) (c .n + 2)) (sym e) (walking s (h .objective) (h .entries) (h .accepts) l room))
+
+    pub chain-finished : (p : Plan) → p ≡ verdictOf (chain .objective) (walk t floors (chain .objective) (entries full 2 (chain .n + 2 - 2))) → (w : Certificate) → w ≡ rising (coded (chain .records) (p .witness)) → Answers s (Planned (record { outcome = p .outcome; moves = p .moves; opened = p .opened; place = p .place; witness = w }))
+    unfolding chainOf
+    chain-finished p q w u =
+        record {
+          answered = subst (λ (r : Reading). AnsweredBy r (Planned (record { outcome = p .outcome; moves = p .moves; opened = p .opened; place = p .place; witness = w }))) (sym (h .accepts))
+              (finished s (h .objective) (h .entries) (h .accepts) p (q ∙ said) w (u ∙ ap (λ (c : Chain). rising (coded (c .records) (p .witness))) (h .chain)));
+        }
+      where
+        said : verdictOf (chain .objective) (walk t floors (chain .objective) (entries full 2 (chain .n + 2 - 2))) ≡ verdictOf (h .objective) (walk leastXThenY zeroFloors (h .objective) (rulesOf (h .entries)))
+        said =
+            at-chain (λ o t floors m n. verdictOf o (walk t floors o (entries m 2 (n - 2))) ≡ verdictOf (h .objective) (walk leastXThenY zeroFloors (h .objective) (rulesOf (h .entries))))
+            (λ c e. subst (λ (c : Chain). verdictOf (c .objective) (walk leastXThenY zeroFloors (c .objective) (entries (laidOut (ruleFor s (c .records)) (c .n) l) 2 (c .n + 2 - 2))) ≡ verdictOf (h .objective) (walk leastXThenY zeroFloors (h .objective) (rulesOf (h .entries)))) (sym e)
+            (ap (λ rs. verdictOf (h .objective) (walk leastXThenY zeroFloors (h .objective) rs)) (rules-given s (h .objective) (h .entries) (h .accepts) l room)))
+
+-- ---- which books are planned
+
+-- no cause has the number 0
+cause-number : {s : List ℕ} {n r : ℕ} → Applies v1 s n r → n ≡ 0 → ⊥
+cause-number (cause-1 a) e = omega arith
+cause-number (cause-2 a b) e = omega arith
+cause-number (cause-3 a b c) e = omega arith
+cause-number (cause-4 a b c d) e = omega arith
+cause-number (cause-5 a b c d f) e = omega arith
+cause-number (cause-6 a b) e = omega arith
+cause-number (cause-7 a b c d) e = omega arith
+cause-number (cause-8 a b) e = omega arith
+cause-number (cause-9 a b c) e = omega arith
+cause-number (cause-10 a b c d) e = omega arith
+
+module _ (s : List ℕ) (chain : Chain) (h : Reads s chain) where
+  pub zero-chained : chain .number ≡ 0 → Chained s chain
+  unfolding chainOf
+  zero-chained z = go (readOf v1 s) refl
+    where
+      go : (r : Reading) → readOf v1 s ≡ r → Chained s chain
+      go (refused n i) e =
+          absurd (cause-number (refusal-applies v1 s e) (sym (ap (λ (c : Chain). c .number) (h .answer ∙ ap chainOf e)) ∙ z))
+      go (accepted o es) e = record { objective = o; entries = es; accepts = e; chain = h .answer ∙ ap chainOf e }
+
+  pub other-refused : (chain .number ≡ 0 → ⊥) → Answers s (Refused (chain .number) (chain .at))
+  unfolding chainOf
+  other-refused z = go (readOf v1 s) refl
+    where
+      go : (r : Reading) → readOf v1 s ≡ r → Answers s (Refused (chain .number) (chain .at))
+      go (refused n i) e =
+          record { answered = subst (λ (r : Reading). AnsweredBy r (Refused (chain .number) (chain .at))) (sym e) (ap (λ (c : Chain). Refused (c .number) (c .at)) (h .answer ∙ ap chainOf e)) }
+      go (accepted o es) e = absurd (z (ap (λ (c : Chain). c .number) (h .answer ∙ ap chainOf e)))

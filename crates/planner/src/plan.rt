@@ -1,0 +1,64 @@
+// The plan of a book: its chain is read once, its entries laid out in one run of numbers, walked, and answered.
+use crate::layout::lay_out;
+use crate::verdict::plan_entries;
+use crate::witness::witness;
+use book::Chain;
+use lp::Floors;
+use lp::Functional;
+use lp::Tie;
+use report::Answer;
+use report::Plan;
+ghost use mathlib.Core.Path.{_≡_};
+ghost use Rattle.lp.specs.Document.{leastXThenY, zeroFloors};
+ghost use Rattle.planner.specs.Planning.{Answers, Chained};
+
+// Document 01's tie: least x, then least y.
+fn least_x_then_y() -> Tie
+    ensures { λ r. ⌜ r ≡ leastXThenY ⌝ }
+{
+    Tie {
+        first: Functional { p: -1, q: 0 },
+        second: Functional { p: 0, q: -1 },
+    }
+}
+
+fn zero_floors() -> Floors
+    ensures { λ r. ⌜ r ≡ zeroFloors ⌝ }
+{
+    Floors { lx: 0, ly: 0 }
+}
+
+// The plan of an accepted book. The run has room for two floors and 255 rules.
+fn planned(book: &[u8], chain: Chain) -> Plan
+    requires { ⌜ Chained (now book) chain ⌝ }
+    ensures { λ r. ⌜ Answers (now (book .entry)) (Answer.Planned r) ⌝ }
+{
+    let n = chain.n;
+    let records = chain.records;
+    let objective = chain.objective;
+    let mut entries = [0i64; 771];
+    lay_out(book, &records, n, &mut entries);
+    let plan = plan_entries(objective, least_x_then_y(), zero_floors(), &entries, n + 2);
+    let outcome = plan.outcome;
+    let certificate = plan.witness;
+    Plan {
+        outcome,
+        moves: plan.moves,
+        opened: plan.opened,
+        place: plan.place,
+        witness: witness(&records, certificate),
+    }
+}
+
+// The answer to any bytes: refused with number and record, or planned.
+pub fn answer(book: &[u8]) -> Answer
+    ensures { λ r. ⌜ Answers (now (book .entry)) r ⌝ }
+{
+    let chain = book::read(book);
+    let number = chain.number;
+    if number == 0 {
+        Answer::Planned(planned(book, chain))
+    } else {
+        Answer::Refused(number as usize, chain.at as usize)
+    }
+}
