@@ -4,13 +4,13 @@ use lib.ListN.{replicate}
 use lib.IntN.{pos}
 use Rattle.planner.proofs.Plans.{chain-few, chain-length, chain-laying, chain-walking, chain-finished}
 use borrow.Author.Needs.{needs}
-use Rattle.planner.proofs.plan.planned.Statement.{statement}
-use Rattle.planner.proofs.plan.planned.Tie as tie
-use Rattle.planner.proofs.plan.planned.Reads as reads
-use Rattle.planner.proofs.plan.planned.Lts as lts
+use Rattle.planner.proofs.answer.planned.Statement.{statement}
+use Rattle.planner.proofs.answer.planned.Tie as tie
+use Rattle.planner.proofs.answer.planned.Reads as reads
+use Rattle.planner.proofs.answer.planned.Lts as lts
 use Rattle.planner.proofs.layout.lay_out.Reads as lay-out-reads
-use Rattle.planner.proofs.plan.least_x_then_y.Reads as least-x-then-y-reads
-use Rattle.planner.proofs.plan.zero_floors.Reads as zero-floors-reads
+use Rattle.planner.proofs.answer.least_x_then_y.Reads as least-x-then-y-reads
+use Rattle.planner.proofs.answer.zero_floors.Reads as zero-floors-reads
 use Rattle.planner.proofs.verdict.plan_entries.Reads as plan-entries-reads
 use Rattle.planner.proofs.witness.witness.Reads as witness-reads
 

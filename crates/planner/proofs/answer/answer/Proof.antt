@@ -1,11 +1,11 @@
 use Rattle.planner.proofs.Plans.{zero-chained, other-refused}
 use borrow.Author.Needs.{needs}
-use Rattle.planner.proofs.plan.answer.Statement.{statement}
-use Rattle.planner.proofs.plan.answer.Tie as tie
-use Rattle.planner.proofs.plan.answer.Reads as reads
-use Rattle.planner.proofs.plan.answer.Lts as lts
+use Rattle.planner.proofs.answer.answer.Statement.{statement}
+use Rattle.planner.proofs.answer.answer.Tie as tie
+use Rattle.planner.proofs.answer.answer.Reads as reads
+use Rattle.planner.proofs.answer.answer.Lts as lts
 use Rattle.book.proofs.read.Reads as read-reads
-use Rattle.planner.proofs.plan.planned.Reads as planned-reads
+use Rattle.planner.proofs.answer.planned.Reads as planned-reads
 
 -- src/plan.rt:57:9
 read-requires : tie.Need-read-requires
