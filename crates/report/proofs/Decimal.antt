@@ -48,10 +48,10 @@ decimal-more n h = last n (n / 10) (n % 10) (omega arith) (omega arith)
 pub decimal-longer : (n : ℕ) → 10 ≤ n → length (decimal n) ≡ length (decimal (n / 10)) + 1
 decimal-longer n h = ap length (decimal-more n h) ∙ length-append (decimal (n / 10)) ((48 + n % 10) ∷ [])
 
-one : (n : ℕ) → n < 10 → length (decimal n) ≡ 1
-one n h = ap length (decimal-digit n h)
+pub decimal-one : (n : ℕ) → n < 10 → length (decimal n) ≡ 1
+decimal-one n h = ap length (decimal-digit n h)
 
-one-digit : (n : ℕ) → (n < 10) ⊎ (10 ≤ n)
+pub one-digit : (n : ℕ) → (n < 10) ⊎ (10 ≤ n)
 one-digit n = go (ltb n 10) refl
   where
     go : (t : Bool) → ltb n 10 ≡ t → (n < 10) ⊎ (10 ≤ n)
@@ -60,8 +60,8 @@ one-digit n = go (ltb n 10) refl
 
 -- below a power of ten
 pub decimal-short : (k n : ℕ) → n < 10 ^ suc k → length (decimal n) ≤ suc k
-decimal-short zero n h = omega (arith, one n (omega (arith, pow-succ' 10 zero)))
-decimal-short (suc k) n h = ⊎-elim (λ p. omega (arith, one n p)) (λ p. omega (arith, decimal-longer n p, decimal-short k (n / 10) (omega (arith, pow-succ' 10 (suc k))))) (one-digit n)
+decimal-short zero n h = omega (arith, decimal-one n (omega (arith, pow-succ' 10 zero)))
+decimal-short (suc k) n h = ⊎-elim (λ p. omega (arith, decimal-one n p)) (λ p. omega (arith, decimal-longer n p, decimal-short k (n / 10) (omega (arith, pow-succ' 10 (suc k))))) (one-digit n)
 
 -- any u64 has at most 20 digits
 pub decimal-usize : (n : ℕ) → Fits w64 n → length (decimal n) ≤ 20

@@ -77,12 +77,12 @@ negative z f t =
     let g : turned z ≡ pos n = ap (λ (y : ℤ). pos 0 -ℤ y) (toZ-ofZ {w = w64} fits ∙ e) ∙ turn n in
     let fits′ : SFits w64 (turned z) = subst (λ (y : ℤ). SFits w64 y) (sym g) (record { sfits = h }) in
     let k : read (turned z) ≡ pos n = toZ-ofZ {w = w64} fits′ ∙ g in
-    record
-    { raised-fits = fits
-    ; turned-fits = fits′
-    ; counts = subst (λ (y : ℤ). T (nonNeg y) × Fits w64 (natAbs y)) (sym k) (tt, record { fits = omega arith })
-    ; one-more = subst (λ (y : ℤ). Fits w64 (natAbs y + 1)) (sym k) (record { fits = omega arith })
-    ; magnitude = ap (λ (y : ℤ). natAbs y + 1) k ∙ (omega arith) ∙ sym (ap natAbs p)
+    record {
+      raised-fits = fits;
+      turned-fits = fits′;
+      counts = subst (λ (y : ℤ). T (nonNeg y) × Fits w64 (natAbs y)) (sym k) (tt, record { fits = omega arith });
+      one-more = subst (λ (y : ℤ). Fits w64 (natAbs y + 1)) (sym k) (record { fits = omega arith });
+      magnitude = ap (λ (y : ℤ). natAbs y + 1) k ∙ (omega arith) ∙ sym (ap natAbs p);
     }
 
 pub counted : (z : ℤ) → SFits w64 z → ltZ (read z) (pos 0) ≡ false → T (nonNeg (read z)) × Fits w64 (natAbs (read z))

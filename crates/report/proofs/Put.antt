@@ -19,10 +19,10 @@ sets-append l i (a ∷ u) v =
 -- what two functions append in turn
 pub followed : {before mid after : List ℕ} {at next end i j : ℕ} {u v : List ℕ} → Appended before at u i mid next → Appended mid next v j after end → Appended before at (u ++ v) (i + j) after end
 followed {before} {mid} {after} {at} {next} {end} {i} {j} {u} {v} f g =
-    record
-    { stored = g .stored ∙ ap (λ (l : List ℕ). sets l next v) (f .stored) ∙ ap (λ (k : ℕ). sets (sets before at u) k v) (f .moved) ∙ sym (sets-append before at u v)
-    ; moved = rw length-append (omega arith)
-    ; small = rw length-append (omega arith)
+    record {
+      stored = g .stored ∙ ap (λ (l : List ℕ). sets l next v) (f .stored) ∙ ap (λ (k : ℕ). sets (sets before at u) k v) (f .moved) ∙ sym (sets-append before at u v);
+      moved = rw length-append (omega arith);
+      small = rw length-append (omega arith);
     }
 
 -- in more room than was taken
@@ -56,20 +56,20 @@ nothing out at room = record { stored = refl; moved = omega arith; small = omega
 
 pub too-small : (answer : Answer) (out : List ℕ) → length out < lineRoom → Written answer out out 0
 too-small answer out h =
-    record
-    { untouched = λ _. refl
-    ; nothing = λ _. refl
-    ; line = λ k. absurd (omega arith)
-    ; counted = λ k. absurd (omega arith)
-    ; enough = omega arith
+    record {
+      untouched = λ _. refl;
+      nothing = λ _. refl;
+      line = λ k. absurd (omega arith);
+      counted = λ k. absurd (omega arith);
+      enough = omega arith;
     }
 
 pub line-stands : (answer : Answer) {before after : List ℕ} {count room : ℕ} → lineRoom ≤ length before → room ≤ lineRoom → Appended before 0 (lineOf answer) room after count → Written answer before after count
 line-stands answer {before} {after} {count} {room} h k f =
-    record
-    { untouched = λ g. absurd (omega arith)
-    ; nothing = λ g. absurd (omega arith)
-    ; line = λ _. f .stored ∙ sets-eq (lineOf answer) before 0 (omega arith) ∙ ap (λ (n : ℕ). lineOf answer ++ drop n before) (zero-add (length (lineOf answer)))
-    ; counted = λ _. omega arith
-    ; enough = omega arith
+    record {
+      untouched = λ g. absurd (omega arith);
+      nothing = λ g. absurd (omega arith);
+      line = λ _. f .stored ∙ sets-eq (lineOf answer) before 0 (omega arith) ∙ ap (λ (n : ℕ). lineOf answer ++ drop n before) (zero-add (length (lineOf answer)));
+      counted = λ _. omega arith;
+      enough = omega arith;
     }

@@ -1,5 +1,5 @@
 -- The printed line of document 01 as a list of bytes: decimal numbers with no leading zeros and no plus sign, one space between fields, one line
--- feed at the end. Words and signs are ASCII; each is spelt out beside its bytes.
+-- feed at the end.
 use mathlib.Core.List.{List, [], _∷_, _++_}
 use Prim.Native.Nat.{ℕ, zero, suc, _+_, _-_, _/_, _%_}
 use lib.ListN.{length}
@@ -10,28 +10,32 @@ use Rattle.lp.specs.declared.Outcome.{Outcome}
 use Rattle.lp.specs.declared.Outcome.the-variants.{Infeasible, Unbounded, Optimal}
 use Rattle.lp.specs.declared.Certificate.{Certificate}
 use Rattle.lp.specs.Certificate.{Weighted, named}
+use Rattle.report.specs.Text.{text}
 use Rattle.report.specs.declared.Plan.{Plan}
 use Rattle.report.specs.declared.Answer.{Answer}
 use Rattle.report.specs.declared.Answer.the-variants.{Refused, Planned}
 
+-- the byte of a digit: "0" is 48
+abbrev pub digit : ℕ → List ℕ
+digit r = (48 + r) ∷ []
+
 -- the digits of 10 · q + r, for a digit r; k bounds the number of steps
 abbrev pub digits : ℕ → ℕ → ℕ → List ℕ
-digits zero q r = (48 + r) ∷ []
-digits (suc k) zero r = (48 + r) ∷ []
-digits (suc k) (suc q) r = digits k (suc q / 10) (suc q % 10) ++ ((48 + r) ∷ [])
+digits zero q r = digit r
+digits (suc k) zero r = digit r
+digits (suc k) (suc q) r = digits k (suc q / 10) (suc q % 10) ++ digit r
 
 unfoldable pub decimal : ℕ → List ℕ
 decimal n = digits n (n / 10) (n % 10)
 
--- "-" before the digits of a negative number
 unfoldable pub signed : ℤ → List ℕ
 signed (pos n) = decimal n
-signed (negsuc n) = 45 ∷ decimal (suc n)
+signed (negsuc n) = text "-" ++ decimal (suc n)
 
 -- ---- fields: each after one space
 
 abbrev pub field : List ℕ → List ℕ
-field bytes = 32 ∷ bytes
+field bytes = text " " ++ bytes
 
 unfoldable pub number : ℕ → List ℕ
 number n = field (decimal n)
@@ -51,47 +55,32 @@ direction d = integer (d .dx) ++ integer (d .dy)
 unfoldable pub counts : Plan → List ℕ
 counts p = number (p .moves) ++ number (p .opened)
 
--- an entry of a witness: "X" and "Y" for the floors, then the record's index
+-- an entry of a witness: the floors have letters, and r + 1 is the rule in record r
 unfoldable pub entry : ℕ → List ℕ
-entry zero = field (88 ∷ [])
-entry (suc zero) = field (89 ∷ [])
+entry zero = field (text "X")
+entry (suc zero) = field (text "Y")
 entry (suc (suc r)) = number (suc r)
 
--- entry and weight, for each
+-- for each, entry and weight
 unfoldable pub entries : List Weighted → List ℕ
 entries [] = []
 entries (w ∷ l) = (entry (w .entry) ++ integer (w .weight)) ++ entries l
 
--- k, then k times entry and weight
+-- k, then k times entry and weight: those whose weight is not 0
 unfoldable pub witness : Certificate → List ℕ
 witness k = number (length (named k)) ++ entries (named k)
 
 -- ---- the line
 
-abbrev pub best : List ℕ
-best = 98 ∷ 101 ∷ 115 ∷ 116 ∷ []
-
-abbrev pub unlimited : List ℕ
-unlimited = 117 ∷ 110 ∷ 108 ∷ 105 ∷ 109 ∷ 105 ∷ 116 ∷ 101 ∷ 100 ∷ []
-
-abbrev pub impossible : List ℕ
-impossible = 105 ∷ 109 ∷ 112 ∷ 111 ∷ 115 ∷ 115 ∷ 105 ∷ 98 ∷ 108 ∷ 101 ∷ []
-
-abbrev pub refused : List ℕ
-refused = 114 ∷ 101 ∷ 102 ∷ 117 ∷ 115 ∷ 101 ∷ 100 ∷ []
-
-abbrev pub lineFeed : List ℕ
-lineFeed = 10 ∷ []
-
 -- of a plan, by its outcome
 unfoldable pub fields : Plan → Outcome → List ℕ
-fields p (Optimal v) = best ++ (pair v ++ counts p)
-fields p (Unbounded v d) = unlimited ++ (pair v ++ (direction d ++ counts p))
-fields p Infeasible = impossible ++ (number (p .place) ++ (counts p ++ witness (p .witness)))
+fields p (Optimal v) = text "best" ++ (pair v ++ counts p)
+fields p (Unbounded v d) = text "unlimited" ++ (pair v ++ (direction d ++ counts p))
+fields p Infeasible = text "impossible" ++ (number (p .place) ++ (counts p ++ witness (p .witness)))
 
 unfoldable pub answerFields : Answer → List ℕ
 answerFields (Planned p) = fields p (p .outcome)
-answerFields (Refused n r) = refused ++ (number n ++ number r)
+answerFields (Refused n r) = text "refused" ++ (number n ++ number r)
 
 unfoldable pub lineOf : Answer → List ℕ
-lineOf a = answerFields a ++ lineFeed
+lineOf a = answerFields a ++ text "\n"

@@ -1,30 +1,23 @@
+-- `report::append_pair` meets its contract. Three numbers in turn, each read back whole from its bits.
+use borrow.Author.Needs.{needs}
 use Rattle.report.proofs.Put.{followed}
 use Rattle.report.specs.Line.{pair}
 use Rattle.report.proofs.Integer.{whole}
-use borrow.Author.Needs.{needs}
 use Rattle.report.proofs.append_pair.Statement.{statement}
 use Rattle.report.proofs.append_pair.Tie as tie
-use Rattle.report.proofs.append_pair.Reads as reads
-use Rattle.report.proofs.append_pair.Lts as lts
-use Rattle.report.proofs.text.append_integer.Reads as append-integer-reads
 
--- src/lib.rt:39:9
 append-integer-requires : tie.Need-append-integer-requires
 append-integer-requires c κs = search needs
 
--- src/lib.rt:40:9
 append-integer-requires-2 : tie.Need-append-integer-requires-2
 append-integer-requires-2 c κs = search needs
 
--- src/lib.rt:41:5
 append-integer-requires-3 : tie.Need-append-integer-requires-3
 append-integer-requires-3 c κs = search needs
 
--- src/lib.rt:35:1
 same-length : tie.Need-same-length
 same-length c = search needs
 
--- src/lib.rt:35:1
 returns : tie.Need-returns
 unfolding pair
 returns c = followed (whole (c .before .before .before .before .before .before .before .before .before .before .before .before .before .before .before .before .args .v .x) (record { sfits = c .before .before .before .before .before .before .before .before .before .before .before .before .before .struct-told .given .0 .1 }) (c .before .before .before .before .before .before .before .before .before .before .before .before .append-integer .ensures)) (followed (whole (c .before .before .before .before .before .before .before .before .before .before .before .before .before .before .before .before .args .v .y) (record { sfits = c .before .before .before .before .before .before .before .before .struct-told2 .given .1 .0 .1 }) (c .before .before .before .before .before .before .before .append-integer2 .ensures)) (whole (c .before .before .before .before .before .before .before .before .before .before .before .before .before .before .before .before .args .v .d) (record { sfits = c .before .before .before .struct-told3 .given .1 .1 .0 .1 }) (c .before .before .append-integer3 .ensures)))

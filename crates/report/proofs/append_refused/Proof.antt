@@ -1,34 +1,25 @@
+-- `report::append_refused` meets its contract. Word and two numbers in turn.
+use borrow.Author.Needs.{needs}
 use Rattle.report.proofs.Put.{followed}
 use Rattle.report.specs.Line.{answerFields}
-use borrow.Author.Needs.{needs}
 use Rattle.report.proofs.append_refused.Statement.{statement}
 use Rattle.report.proofs.append_refused.Tie as tie
-use Rattle.report.proofs.append_refused.Reads as reads
-use Rattle.report.proofs.append_refused.Lts as lts
-use Rattle.report.proofs.text.append_number.Reads as append-number-reads
-use Rattle.report.proofs.text.append_word.Reads as append-word-reads
 
--- src/lib.rt:136:29
 slice-aggregate-append-word : tie.Need-slice-aggregate-append-word
 slice-aggregate-append-word c = search needs
 
--- src/lib.rt:136:9
 append-word-requires : tie.Need-append-word-requires
 append-word-requires c κs = search needs
 
--- src/lib.rt:137:9
 append-number-requires : tie.Need-append-number-requires
 append-number-requires c κs = search needs
 
--- src/lib.rt:138:5
 append-number-requires-2 : tie.Need-append-number-requires-2
 append-number-requires-2 c κs = search needs
 
--- src/lib.rt:132:1
 same-length : tie.Need-same-length
 same-length c = search needs
 
--- src/lib.rt:132:1
 returns : tie.Need-returns
 unfolding answerFields
 returns c = followed (c .before .before .before .before .before .before .before .before .before .before .append-word .ensures) (followed (c .before .before .before .before .before .before .append-number .ensures) (c .before .before .append-number2 .ensures))

@@ -1,61 +1,45 @@
-use mathlib.Core.Path.{sym}
-use lib.IntN.{ℤ}
+-- `report::append_witness` meets its contract. The count is the number of named entries, and what each weight prints makes up what the list of them
+-- prints.
 use native.Mathlib.Omega.{arith}
+use borrow.Author.Needs.{needs}
 use Rattle.report.proofs.Put.{followed, spelt}
 use Rattle.report.proofs.Integer.{read}
 use Rattle.report.proofs.Witness.{Weights, at-most-one, counted, whole-entry, witness-parts}
-use borrow.Author.Needs.{needs}
 use Rattle.report.proofs.append_witness.Statement.{statement}
 use Rattle.report.proofs.append_witness.Tie as tie
-use Rattle.report.proofs.append_witness.Reads as reads
-use Rattle.report.proofs.append_witness.Lts as lts
-use Rattle.report.proofs.append_weighted.Reads as append-weighted-reads
-use Rattle.report.proofs.text.append_number.Reads as append-number-reads
-use Rattle.report.proofs.used.Reads as used-reads
 
--- src/lib.rt:96:17
 used-requires : tie.Need-used-requires
 used-requires c κs = search needs
 
--- src/lib.rt:96:40
 used-requires-2 : tie.Need-used-requires-2
 used-requires-2 c κs = search needs
 
--- src/lib.rt:96:17
 add-count : tie.Need-add-count
 add-count c = record { fits = omega (arith, at-most-one (read (c .before .before .before .before .before .args .k .«first_weight»)), at-most-one (read (c .before .before .before .before .before .args .k .«second_weight»))) }
 
--- src/lib.rt:96:64
 used-requires-3 : tie.Need-used-requires-3
 used-requires-3 c κs = search needs
 
--- src/lib.rt:96:17
 add-count-2 : tie.Need-add-count-2
 add-count-2 c = record { fits = omega (arith, at-most-one (read (c .before .before .before .before .before .before .before .args .k .«first_weight»)), at-most-one (read (c .before .before .before .before .before .before .before .args .k .«second_weight»)), at-most-one (read (c .before .before .before .before .before .before .before .args .k .«third_weight»))) }
 
--- src/lib.rt:97:9
 append-number-requires : tie.Need-append-number-requires
 append-number-requires c κs = search needs
 
--- src/lib.rt:98:9
 append-weighted-requires : tie.Need-append-weighted-requires
 append-weighted-requires c κs = search needs
 
--- src/lib.rt:99:9
 append-weighted-requires-2 : tie.Need-append-weighted-requires-2
 append-weighted-requires-2 c κs = search needs
 
--- src/lib.rt:100:5
 append-weighted-requires-3 : tie.Need-append-weighted-requires-3
 append-weighted-requires-3 c κs = record { free = omega (arith, c .before .before .before .before .before .before .before .before .before .before .before .before .before .before .before .before .before .before .before .before .before .before .before .pre .free, c .before .before .before .before .before .before .before .before .before .before .before .before .before .before .append-number) }
 
--- src/lib.rt:92:1
 same-length : tie.Need-same-length
 same-length c = search needs
 
--- src/lib.rt:92:1
 returns : tie.Need-returns
-returns c = 
+returns c =
     let fits : Weights (c .before .before .before .before .before .before .before .before .before .before .before .before .before .before .before .before .before .before .before .before .before .before .before .before .before .before .args .k) = record { first-fits = (record { sfits = c .before .before .before .before .before .before .before .before .before .before .before .before .before .before .before .before .before .before .before .before .before .before .before .before .struct-told .given .1 .0 .1 }); second-fits = (record { sfits = c .before .before .before .before .before .before .before .before .before .before .before .before .before .before .before .before .before .before .before .before .before .before .struct-told2 .given .1 .1 .1 .0 .1 }); third-fits = (record { sfits = c .before .before .before .before .before .before .before .before .before .before .before .before .before .before .before .before .before .before .before .before .struct-told3 .given .1 .1 .1 .1 .1 .0 .1 }) } in
     spelt (witness-parts (c .before .before .before .before .before .before .before .before .before .before .before .before .before .before .before .before .before .before .before .before .before .before .before .before .before .before .args .k) _ (counted (c .before .before .before .before .before .before .before .before .before .before .before .before .before .before .before .before .before .before .before .before .before .before .before .before .before .before .args .k) fits _ _ _ (c .before .before .before .before .before .before .before .before .before .before .before .before .before .before .before .before .before .before .before .before .before .before .before .used .ensures) (c .before .before .before .before .before .before .before .before .before .before .before .before .before .before .before .before .before .before .before .before .before .used2 .ensures) (c .before .before .before .before .before .before .before .before .before .before .before .before .before .before .before .before .before .before .before .used3 .ensures)))
     (followed (c .before .before .before .before .before .before .before .before .before .before .before .before .before .before .before .before .before .append-number .ensures)

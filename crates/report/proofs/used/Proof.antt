@@ -1,16 +1,13 @@
+-- `report::used` meets its contract. A weight of 0 names no entry; any other names one.
 use mathlib.Core.Path.{sym, ap}
 use lib.ListN.{length}
 use Rattle.report.proofs.Integer.{none-named, one-named}
 use Rattle.report.proofs.used.Statement.{statement}
 use Rattle.report.proofs.used.Tie as tie
-use Rattle.report.proofs.used.Reads as reads
-use Rattle.report.proofs.used.Lts as lts
 
--- src/lib.rt:86:1
 returns : tie.Need-returns
 returns c = sym (ap length (none-named 0 (c .before .args .weight) (c .before .fits .weight) (c .if1 .taken)))
 
--- src/lib.rt:86:1
 returns-2 : tie.Need-returns-2
 returns-2 c = sym (ap length (one-named 0 (c .before .args .weight) (c .if1 .left)))
 

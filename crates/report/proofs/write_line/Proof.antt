@@ -1,35 +1,26 @@
+-- `report::write_line` meets its contract. A small buffer is left alone; else the fields and the line feed make up the line.
 use native.Mathlib.Omega.{arith}
+use borrow.Author.Needs.{needs}
 use Rattle.report.proofs.Put.{followed, too-small, line-stands}
 use Rattle.report.specs.Line.{lineOf}
-use borrow.Author.Needs.{needs}
 use Rattle.report.proofs.write_line.Statement.{statement}
 use Rattle.report.proofs.write_line.Tie as tie
-use Rattle.report.proofs.write_line.Reads as reads
-use Rattle.report.proofs.write_line.Lts as lts
-use Rattle.report.proofs.append_fields.Reads as append-fields-reads
-use Rattle.report.proofs.text.append_word.Reads as append-word-reads
 
--- src/lib.rt:168:9
 returns : tie.Need-returns
 returns c = too-small (c .before .before .args .answer) (c .before .before .args .out .now) (c .if1 .taken)
 
--- src/lib.rt:170:9
 append-fields-requires : tie.Need-append-fields-requires
 append-fields-requires c κs = search needs
 
--- src/lib.rt:171:17
 slice-aggregate-append-word : tie.Need-slice-aggregate-append-word
 slice-aggregate-append-word c = search needs
 
--- src/lib.rt:171:5
 append-word-requires : tie.Need-append-word-requires
 append-word-requires c κs = search needs
 
--- src/lib.rt:164:1
 same-length : tie.Need-same-length
 same-length c = search needs
 
--- src/lib.rt:164:1
 returns-2 : tie.Need-returns-2
 unfolding lineOf
 returns-2 c = line-stands (c .before .before .before .before .before .before .before .before .before .before .before .args .answer) (c .before .before .before .before .before .before .before .before .before .if1 .left) (omega arith) (followed (c .before .before .before .before .before .before .before .append-fields .ensures) (c .before .before .append-word .ensures))

@@ -1,12 +1,14 @@
+-- `report::text::append_decimal` meets its contract. The measure is the number. Below 10 the one digit is all; else the digits of the tenth part come
+-- first, and the last digit after them.
+use mathlib.Core.Path.{ap, sym}
 use Prim.Native.Nat.{ℕ, _<_}
-use mathlib.Core.Path.{_≡_, ap, sym, _∙_}
 use native.Mathlib.Omega.{arith}
-use borrow.Author.Needs.{needs}
 use lib.ListN.{length}
-use Rattle.report.proofs.Decimal.{decimal-digit, decimal-more, decimal-longer}
-use Rattle.report.proofs.Put.{followed, exactly}
+use borrow.Author.Needs.{needs}
 use borrow.Fn.Kinds.{In}
 use borrow.Fn.PlainCycle.{Measures, is, falls, and}
+use Rattle.report.proofs.Decimal.{decimal-digit, decimal-more, decimal-longer}
+use Rattle.report.proofs.Put.{followed, exactly}
 use Rattle.report.proofs.text.append_decimal.Reads as append-decimal
 use Rattle.report.proofs.text.append_decimal.Kinds as append-decimal-kinds
 use Rattle.report.proofs.text.+append_decimal.Lts-append_decimal as append-decimal-lts
@@ -33,7 +35,6 @@ append-decimal-below t =
     (falls 1 append-decimal-kinds.ps _<_ μ-append-decimal t)
     append-decimal.Pre
 
--- src/text.rt:35:21
 append-decimal-cast-last : (t : ℕ) → append-decimal-lts.Need-cast-last (
   append-byte-reads.Asked,
   append-byte-reads.Learnt,
@@ -42,7 +43,6 @@ append-decimal-cast-last : (t : ℕ) → append-decimal-lts.Need-cast-last (
 ) (append-decimal-at t) append-decimal.Post
 append-decimal-cast-last t c = omega arith
 
--- src/text.rt:35:16
 append-decimal-add-last : (t : ℕ) → append-decimal-lts.Need-add-last (
   append-byte-reads.Asked,
   append-byte-reads.Learnt,
@@ -51,7 +51,6 @@ append-decimal-add-last : (t : ℕ) → append-decimal-lts.Need-add-last (
 ) (append-decimal-at t) append-decimal.Post
 append-decimal-add-last t c = omega arith
 
--- src/text.rt:37:9
 append-decimal-append-byte-requires : (t : ℕ) → append-decimal-lts.Need-append-byte-requires (
   append-byte-reads.Asked,
   append-byte-reads.Learnt,
@@ -60,7 +59,6 @@ append-decimal-append-byte-requires : (t : ℕ) → append-decimal-lts.Need-appe
 ) (append-decimal-at t) append-decimal.Post
 append-decimal-append-byte-requires t c κs = record { free = omega (arith, ap length (decimal-digit (c .before .before .before .args .n) (c .before .if1 .taken))) }
 
--- src/text.rt:39:13
 append-decimal-append-decimal-requires : (t : ℕ) → append-decimal-lts.Need-append-decimal-requires (
   append-byte-reads.Asked,
   append-byte-reads.Learnt,
@@ -69,7 +67,6 @@ append-decimal-append-decimal-requires : (t : ℕ) → append-decimal-lts.Need-a
 ) (append-decimal-at t) append-decimal.Post
 append-decimal-append-decimal-requires t c κs = (omega arith, record { free = omega (arith, decimal-longer (c .before .before .before .args .n) (c .before .if1 .left)) })
 
--- src/text.rt:40:9
 append-decimal-append-byte-requires-2 : (t : ℕ) → append-decimal-lts.Need-append-byte-requires-2 (
   append-byte-reads.Asked,
   append-byte-reads.Learnt,
@@ -78,7 +75,6 @@ append-decimal-append-byte-requires-2 : (t : ℕ) → append-decimal-lts.Need-ap
 ) (append-decimal-at t) append-decimal.Post
 append-decimal-append-byte-requires-2 t c κs = record { free = omega (arith, decimal-longer (c .before .before .before .before .before .before .before .args .n) (c .before .before .before .before .before .if1 .left)) }
 
--- src/text.rt:31:1
 append-decimal-same-length : (t : ℕ) → append-decimal-lts.Need-same-length (
   append-byte-reads.Asked,
   append-byte-reads.Learnt,
@@ -87,7 +83,6 @@ append-decimal-same-length : (t : ℕ) → append-decimal-lts.Need-same-length (
 ) (append-decimal-at t) append-decimal.Post
 append-decimal-same-length t c = search needs
 
--- src/text.rt:31:1
 append-decimal-returns : (t : ℕ) → append-decimal-lts.Need-returns (
   append-byte-reads.Asked,
   append-byte-reads.Learnt,
@@ -96,7 +91,6 @@ append-decimal-returns : (t : ℕ) → append-decimal-lts.Need-returns (
 ) (append-decimal-at t) append-decimal.Post
 append-decimal-returns t c = exactly (sym (decimal-digit (c .before .before .before .before .before .before .args .n) (c .before .before .before .before .if1 .taken))) (c .before .before .append-byte .ensures)
 
--- src/text.rt:31:1
 append-decimal-same-length-2 : (t : ℕ) → append-decimal-lts.Need-same-length-2 (
   append-byte-reads.Asked,
   append-byte-reads.Learnt,
@@ -105,7 +99,6 @@ append-decimal-same-length-2 : (t : ℕ) → append-decimal-lts.Need-same-length
 ) (append-decimal-at t) append-decimal.Post
 append-decimal-same-length-2 t c = search needs
 
--- src/text.rt:31:1
 append-decimal-returns-2 : (t : ℕ) → append-decimal-lts.Need-returns-2 (
   append-byte-reads.Asked,
   append-byte-reads.Learnt,

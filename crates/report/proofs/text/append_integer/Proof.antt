@@ -1,69 +1,55 @@
-use mathlib.Core.Path.{_≡_, ap, sym, _∙_}
+-- `report::text::append_integer` meets its contract. The sign's test says which of the two spellings the number has; a magnitude has at most 19
+-- digits.
+use mathlib.Core.Path.{_≡_, ap, _∙_}
 use mathlib.Core.List.{List, [], _∷_, _++_}
 use Prim.Native.Nat.{ℕ}
+use native.Mathlib.Omega.{arith}
 use lib.IntN.{natAbs}
 use lib.ListN.{length}
 use mir.Syntax.{w64}
 use mir.Facts.{toZ-ofZ}
-use native.Mathlib.Omega.{arith}
+use borrow.Author.Needs.{needs}
 use Rattle.report.proofs.Put.{followed, roomier, spelt}
 use Rattle.report.specs.Line.{decimal}
 use Rattle.report.proofs.Integer.{digits-short, with-minus, without-sign}
-use borrow.Author.Needs.{needs}
 use Rattle.report.proofs.text.append_integer.Statement.{statement}
 use Rattle.report.proofs.text.append_integer.Tie as tie
-use Rattle.report.proofs.text.append_integer.Reads as reads
-use Rattle.report.proofs.text.append_integer.Lts as lts
-use Rattle.report.proofs.text.append_decimal.Reads as append-decimal-reads
-use Rattle.report.proofs.text.append_word.Reads as append-word-reads
-use Rattle.report.proofs.text.magnitude.Reads as magnitude-reads
 
--- src/text.rt:67:9
 magnitude-requires : tie.Need-magnitude-requires
 magnitude-requires c κs = search needs
 
--- src/text.rt:69:32
 slice-aggregate-append-word : tie.Need-slice-aggregate-append-word
 slice-aggregate-append-word c = search needs
 
--- src/text.rt:69:13
 append-word-requires : tie.Need-append-word-requires
 append-word-requires c κs = search needs
 
--- src/text.rt:70:9
 append-decimal-requires : tie.Need-append-decimal-requires
 append-decimal-requires c κs = record { free = omega (arith, digits-short (c .before .before .before .before .before .before .before .before .before .args .z) (c .before .before .before .before .before .before .before .before .before .fits .z), ap (λ (n : ℕ). length (decimal n)) (c .before .before .before .before .before .before .before .magnitude .ensures ∙ ap natAbs (toZ-ofZ {w = w64} (c .before .before .before .before .before .before .before .before .before .fits .z)))) }
 
--- src/text.rt:72:32
 slice-aggregate-append-word-2 : tie.Need-slice-aggregate-append-word-2
 slice-aggregate-append-word-2 c = search needs
 
--- src/text.rt:72:13
 append-word-requires-2 : tie.Need-append-word-requires-2
 append-word-requires-2 c κs = search needs
 
--- src/text.rt:73:9
 append-decimal-requires-2 : tie.Need-append-decimal-requires-2
 append-decimal-requires-2 c κs = record { free = omega (arith, digits-short (c .before .before .before .before .before .before .before .before .before .args .z) (c .before .before .before .before .before .before .before .before .before .fits .z), ap (λ (n : ℕ). length (decimal n)) (c .before .before .before .before .before .before .before .magnitude .ensures ∙ ap natAbs (toZ-ofZ {w = w64} (c .before .before .before .before .before .before .before .before .before .fits .z)))) }
 
--- src/text.rt:63:1
 same-length : tie.Need-same-length
 same-length c = search needs
 
--- src/text.rt:63:1
 returns : tie.Need-returns
-returns c = 
+returns c =
     let e : decimal (c .before .before .before .before .before .before .before .before .before .before .magnitude .result) ≡ decimal (natAbs (c .before .before .before .before .before .before .before .before .before .before .before .before .args .z)) = ap decimal (c .before .before .before .before .before .before .before .before .before .before .magnitude .ensures ∙ ap natAbs (toZ-ofZ {w = w64} (c .before .before .before .before .before .before .before .before .before .before .before .before .fits .z))) in
     spelt (ap (λ (l : List ℕ). (32 ∷ 45 ∷ []) ++ l) e ∙ with-minus (c .before .before .before .before .before .before .before .before .before .before .before .before .args .z) (c .before .before .before .before .before .before .before .before .before .before .before .before .fits .z) (c .before .before .before .before .before .before .before .before .before .if1 .taken))
     (roomier (omega (arith, digits-short (c .before .before .before .before .before .before .before .before .before .before .before .before .args .z) (c .before .before .before .before .before .before .before .before .before .before .before .before .fits .z), ap length e)) (followed (c .before .before .before .before .before .before .append-word .ensures) (c .before .before .append-decimal .ensures)))
 
--- src/text.rt:63:1
 same-length-2 : tie.Need-same-length-2
 same-length-2 c = search needs
 
--- src/text.rt:63:1
 returns-2 : tie.Need-returns-2
-returns-2 c = 
+returns-2 c =
     let e : decimal (c .before .before .before .before .before .before .before .before .before .before .magnitude .result) ≡ decimal (natAbs (c .before .before .before .before .before .before .before .before .before .before .before .before .args .z)) = ap decimal (c .before .before .before .before .before .before .before .before .before .before .magnitude .ensures ∙ ap natAbs (toZ-ofZ {w = w64} (c .before .before .before .before .before .before .before .before .before .before .before .before .fits .z))) in
     spelt (ap (λ (l : List ℕ). (32 ∷ []) ++ l) e ∙ without-sign (c .before .before .before .before .before .before .before .before .before .before .before .before .args .z) (c .before .before .before .before .before .before .before .before .before .before .before .before .fits .z) (c .before .before .before .before .before .before .before .before .before .if1 .left))
     (roomier (omega (arith, digits-short (c .before .before .before .before .before .before .before .before .before .before .before .before .args .z) (c .before .before .before .before .before .before .before .before .before .before .before .before .fits .z), ap length e)) (followed (c .before .before .before .before .before .before .append-word2 .ensures) (c .before .before .append-decimal2 .ensures)))

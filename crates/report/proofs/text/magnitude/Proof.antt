@@ -1,35 +1,27 @@
-use Rattle.report.proofs.Integer.{negative, counted}
+-- `report::text::magnitude` meets its contract. A negative number is raised by one, turned round, and counted one more.
 use borrow.Author.Needs.{needs}
+use Rattle.report.proofs.Integer.{negative, counted}
 use Rattle.report.proofs.text.magnitude.Statement.{statement}
 use Rattle.report.proofs.text.magnitude.Tie as tie
-use Rattle.report.proofs.text.magnitude.Reads as reads
-use Rattle.report.proofs.text.magnitude.Lts as lts
 
--- src/text.rt:57:15
 add-result : tie.Need-add-result
 add-result c = negative (c .before .args .z) (c .before .fits .z) (c .if1 .taken) .raised-fits
 
--- src/text.rt:57:10
 sub-result : tie.Need-sub-result
 sub-result c = negative (c .before .args .z) (c .before .fits .z) (c .if1 .taken) .turned-fits
 
--- src/text.rt:57:9
 cast-result : tie.Need-cast-result
 cast-result c = negative (c .before .args .z) (c .before .fits .z) (c .if1 .taken) .counts
 
--- src/text.rt:57:9
 add-result-2 : tie.Need-add-result-2
 add-result-2 c = negative (c .before .args .z) (c .before .fits .z) (c .if1 .taken) .one-more
 
--- src/text.rt:59:9
 cast-result-2 : tie.Need-cast-result-2
 cast-result-2 c = counted (c .before .args .z) (c .before .fits .z) (c .if1 .left)
 
--- src/text.rt:53:1
 returns : tie.Need-returns
 returns c = negative (c .before .args .z) (c .before .fits .z) (c .if1 .taken) .magnitude
 
--- src/text.rt:53:1
 returns-2 : tie.Need-returns-2
 returns-2 c = search needs
 
