@@ -1,20 +1,21 @@
 -- The machine's signed numbers. A signed local is its bits, so each operand is a number read back from them; a number that fits is read back whole.
 use mathlib.Core.Path.{_≡_, refl, ap, sym, _∙_, subst}
 use mathlib.Core.List.{List, [], _∷_, _++_}
-use mathlib.Core.Bool.{Bool, true, false}
+use mathlib.Core.Bool.{true, false}
 use Prim.Native.Nat.{ℕ, zero, suc, _+_, _^_, _≤_, _<_}
 use native.Mathlib.Nat.{lt-of-le-of-lt}
 use native.Mathlib.Omega.{arith}
-use borrow.Author.Tests.{ltb-true}
-use lib.Dec.{T, ltb, lit<}
+use lib.Dec.{T, lit<}
 use lib.ListN.{length}
 use lib.IntN.{ℤ, pos, negsuc, negℤ, sucℤ, natAbs, _+ℤ_, _-ℤ_, +ℤ-one, +ℤ-idl, negℤ-negℤ}
 use lib.Signed.{ltZ, mag, nonNeg, natAbs-le}
 use mir.Syntax.{w64}
 use mir.Val.{Fits, SFits, toZ, ofZ}
 use mir.Facts.{toZ-ofZ}
+use borrow.Author.Tests.{ltb-true}
+use Rattle.lp.specs.Certificate.{weighted}
+use Rattle.report.specs.Text.{text}
 use Rattle.report.specs.Line.{decimal, signed, integer}
-use Rattle.lp.specs.Certificate.{Weighted, weighted}
 use Rattle.report.specs.Append.{Appended}
 use Rattle.report.proofs.Decimal.{decimal-short}
 use Rattle.report.proofs.Put.{spelt}
@@ -90,18 +91,26 @@ counted z f t =
     let h : mag z < 2 ^ 63 = f .sfits in
     subst (λ (y : ℤ). T (nonNeg y) × Fits w64 (natAbs y)) (sym (toZ-ofZ {w = w64} f ∙ from-zero z f t)) (tt, record { fits = omega arith })
 
--- ---- its bytes
+-- ---- its bytes, where n is the magnitude of what was read back
 
-pub digits-short : (z : ℤ) → SFits w64 z → length (decimal (natAbs z)) ≤ 19
-digits-short z f = decimal-short 18 (natAbs z) (lt-of-le-of-lt (natAbs-le z (f .sfits)) (lit< tt))
+magnitude-is : (z : ℤ) (n : ℕ) → SFits w64 z → n ≡ natAbs (read z) → n ≡ natAbs z
+magnitude-is z n f e = e ∙ ap natAbs (toZ-ofZ {w = w64} f)
 
-pub with-minus : (z : ℤ) → SFits w64 z → ltZ (read z) (pos 0) ≡ true → (32 ∷ 45 ∷ []) ++ decimal (natAbs z) ≡ integer z
+pub digits-short : (z : ℤ) (n : ℕ) → SFits w64 z → n ≡ natAbs (read z) → length (decimal n) ≤ 19
+digits-short z n f e =
+    decimal-short 18 n (rw (magnitude-is z n f e) (lt-of-le-of-lt (natAbs-le z (f .sfits)) (lit< tt)))
+
+pub with-minus : (z : ℤ) (n : ℕ) → SFits w64 z → n ≡ natAbs (read z) → ltZ (read z) (pos 0) ≡ true → text " -" ++ decimal n ≡ integer z
 unfolding integer signed
-with-minus z f t = subst (λ (y : ℤ). (32 ∷ 45 ∷ []) ++ decimal (natAbs y) ≡ integer y) (sym (below-zero z f t)) refl
+with-minus z n f e t =
+    ap (λ (m : ℕ). text " -" ++ decimal m) (magnitude-is z n f e)
+    ∙ subst (λ (y : ℤ). text " -" ++ decimal (natAbs y) ≡ integer y) (sym (below-zero z f t)) refl
 
-pub without-sign : (z : ℤ) → SFits w64 z → ltZ (read z) (pos 0) ≡ false → (32 ∷ []) ++ decimal (natAbs z) ≡ integer z
+pub without-sign : (z : ℤ) (n : ℕ) → SFits w64 z → n ≡ natAbs (read z) → ltZ (read z) (pos 0) ≡ false → text " " ++ decimal n ≡ integer z
 unfolding integer signed
-without-sign z f t = subst (λ (y : ℤ). (32 ∷ []) ++ decimal (natAbs y) ≡ integer y) (sym (from-zero z f t)) refl
+without-sign z n f e t =
+    ap (λ (m : ℕ). text " " ++ decimal m) (magnitude-is z n f e)
+    ∙ subst (λ (y : ℤ). text " " ++ decimal (natAbs y) ≡ integer y) (sym (from-zero z f t)) refl
 
 -- ---- the test of a weight
 

@@ -1,13 +1,13 @@
 -- Bytes put after bytes: two runs of stores, the second where the first ended, are one.
 use mathlib.Core.Path.{_≡_, refl, ap, sym, _∙_, subst}
 use mathlib.Core.List.{List, [], _∷_, _++_}
-use Prim.Native.Nat.{ℕ, zero, suc, _+_, _≤_, _<_}
+use Prim.Native.Nat.{ℕ, suc, _+_, _≤_, _<_}
 use native.Mathlib.Nat.{le-refl, zero-add}
 use native.Mathlib.Omega.{arith}
+use native.Mathlib.Numerals.{add-one}
 use lib.ListN.{length, set, take, drop, getD, length-append}
 use lib.Seq.{sets, sets-eq, take-suc, take-all}
-use native.Mathlib.Numerals.{add-one}
-use Rattle.report.specs.Append.{Room, Appended, Written, lineRoom}
+use Rattle.report.specs.Append.{Appended, Written, lineRoom}
 use Rattle.report.specs.declared.Answer.{Answer}
 use Rattle.report.specs.Line.{lineOf}
 

@@ -11,8 +11,8 @@ use mir.Facts.{toZ-ofZ}
 use Rattle.lp.specs.declared.Certificate.{Certificate}
 use Rattle.lp.specs.Certificate.{Weighted, weighted, named}
 use Rattle.report.specs.Line.{number, integer, entry, entries, witness}
-use Rattle.report.proofs.Integer.{read, none-named, one-named}
 use Rattle.report.specs.Append.{Appended}
+use Rattle.report.proofs.Integer.{read, none-named, one-named}
 use Rattle.report.proofs.Put.{spelt}
 
 pub entry-record : (e : ℕ) → (e ≡ 0 → ⊥) → (e ≡ 1 → ⊥) → number (e - 1) ≡ entry e
@@ -56,15 +56,9 @@ counted-named k =
 used-is : (n : ℕ) (z : ℤ) → SFits w64 z → n ≡ length (weighted 0 (read z)) → n ≡ length (weighted 0 z)
 used-is n z f e = e ∙ ap (λ (y : ℤ). length (weighted 0 y)) (toZ-ofZ {w = w64} f)
 
--- the weights of a certificate that a function was handed
-pub record Weights (k : Certificate) : Type 0 where
-  pub first-fits : SFits w64 (k .«first_weight»)
-  pub second-fits : SFits w64 (k .«second_weight»)
-  pub third-fits : SFits w64 (k .«third_weight»)
-
-pub counted : (k : Certificate) → Weights k → (m n o : ℕ) → m ≡ length (weighted 0 (read (k .«first_weight»))) → n ≡ length (weighted 0 (read (k .«second_weight»))) → o ≡ length (weighted 0 (read (k .«third_weight»))) → m + n + o ≡ length (named k)
-counted k f m n o p q r =
-    omega (arith, counted-named k, used-is m (k .«first_weight») (f .first-fits) p, used-is n (k .«second_weight») (f .second-fits) q, used-is o (k .«third_weight») (f .third-fits) r)
+pub counted : (k : Certificate) (m n o : ℕ) → SFits w64 (k .«first_weight») → SFits w64 (k .«second_weight») → SFits w64 (k .«third_weight») → m ≡ length (weighted 0 (read (k .«first_weight»))) → n ≡ length (weighted 0 (read (k .«second_weight»))) → o ≡ length (weighted 0 (read (k .«third_weight»))) → m + n + o ≡ length (named k)
+counted k m n o f g h p q r =
+    omega (arith, counted-named k, used-is m (k .«first_weight») f p, used-is n (k .«second_weight») g q, used-is o (k .«third_weight») h r)
 
 pub whole-entry : {before after : List ℕ} {at next i : ℕ} (e : ℕ) (z : ℤ) → SFits w64 z → Appended before at (entries (weighted e (read z))) i after next → Appended before at (entries (weighted e z)) i after next
 whole-entry e z f = spelt (ap (λ (y : ℤ). entries (weighted e y)) (toZ-ofZ {w = w64} f))

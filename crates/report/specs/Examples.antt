@@ -3,13 +3,10 @@ use mathlib.Core.List.{List, [], _∷_}
 use Prim.Native.Nat.{ℕ}
 use Prim.Native.String.{String}
 use lib.IntN.{ℤ, pos, negsuc}
-use Rattle.lp.specs.declared.Point.{Point}
-use Rattle.lp.specs.declared.Ray.{Ray}
 use Rattle.lp.specs.declared.Outcome.{Outcome}
 use Rattle.lp.specs.declared.Outcome.the-variants.{Infeasible, Unbounded, Optimal}
 use Rattle.lp.specs.declared.Certificate.{Certificate}
 use Rattle.lp.specs.Program.{point, ray}
-use Rattle.report.specs.declared.Plan.{Plan}
 use Rattle.report.specs.declared.Answer.{Answer}
 use Rattle.report.specs.declared.Answer.the-variants.{Refused, Planned}
 

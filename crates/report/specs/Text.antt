@@ -1,8 +1,8 @@
 -- A text as the bytes of its characters, which are ASCII wherever it is used.
+use mathlib.Core.List as L
 use Prim.Native.Nat.{ℕ}
 use Prim.Native.Char.{code}
 use Prim.Native.String.{String, [], _∷_}
-use mathlib.Core.List as L
 
 abbrev pub text : String → L.List ℕ
 text [] = L.[]

@@ -89,12 +89,17 @@ fn used(weight: i64) -> usize
     if weight == 0 { 0 } else { 1 }
 }
 
+fn count_named(k: Certificate) -> usize
+    ensures { λ r. ⌜ r ≡ length (named k) ⌝ }
+{
+    used(k.first_weight) + used(k.second_weight) + used(k.third_weight)
+}
+
 fn append_witness(k: Certificate, out: &mut [u8], at: usize) -> usize
     requires { ⌜ Room (now out) at 147 ⌝ }
     ensures { λ r. ⌜ Appended (now (out .entry)) at (witness k) 147 (now (out .exit)) r ⌝ }
 {
-    let count = used(k.first_weight) + used(k.second_weight) + used(k.third_weight);
-    let first = append_number(count, out, at);
+    let first = append_number(count_named(k), out, at);
     let second = append_weighted(k.first, k.first_weight, out, first);
     let third = append_weighted(k.second, k.second_weight, out, second);
     append_weighted(k.third, k.third_weight, out, third)

@@ -1,7 +1,7 @@
 -- `report::append_best` meets its contract. Word, pair and counts in turn.
 use borrow.Author.Needs.{needs}
-use Rattle.report.proofs.Put.{followed}
 use Rattle.report.specs.Line.{fields}
+use Rattle.report.proofs.Put.{followed}
 use Rattle.report.proofs.append_best.Statement.{statement}
 use Rattle.report.proofs.append_best.Tie as tie
 
@@ -22,7 +22,11 @@ same-length c = search needs
 
 returns : tie.Need-returns
 unfolding fields
-returns c = followed (c .before .before .before .before .before .before .before .before .before .before .append-word .ensures) (followed (c .before .before .before .before .before .before .append-pair .ensures) (c .before .before .append-counts .ensures))
+returns c =
+    let counts = c .before .before in
+    let pair = counts .before .before .before .before in
+    let word = pair .before .before .before .before in
+    followed (word .append-word .ensures) (followed (pair .append-pair .ensures) (counts .append-counts .ensures))
 
 pub append-best-spec : {M : Type 1} → statement M
 append-best-spec =

@@ -1,7 +1,7 @@
 -- `report::append_counts` meets its contract. Two numbers in turn.
 use borrow.Author.Needs.{needs}
-use Rattle.report.proofs.Put.{followed}
 use Rattle.report.specs.Line.{counts}
+use Rattle.report.proofs.Put.{followed}
 use Rattle.report.proofs.append_counts.Statement.{statement}
 use Rattle.report.proofs.append_counts.Tie as tie
 
@@ -16,7 +16,10 @@ same-length c = search needs
 
 returns : tie.Need-returns
 unfolding counts
-returns c = followed (c .before .before .before .before .before .before .append-number .ensures) (c .before .before .append-number2 .ensures)
+returns c =
+    let opened = c .before .before in
+    let moves = opened .before .before .before .before in
+    followed (moves .append-number .ensures) (opened .append-number2 .ensures)
 
 pub append-counts-spec : {M : Type 1} → statement M
 append-counts-spec =

@@ -1,7 +1,7 @@
 -- `report::append_direction` meets its contract. Two numbers in turn, each read back whole from its bits.
 use borrow.Author.Needs.{needs}
-use Rattle.report.proofs.Put.{followed}
 use Rattle.report.specs.Line.{direction}
+use Rattle.report.proofs.Put.{followed}
 use Rattle.report.proofs.Integer.{whole}
 use Rattle.report.proofs.append_direction.Statement.{statement}
 use Rattle.report.proofs.append_direction.Tie as tie
@@ -17,7 +17,13 @@ same-length c = search needs
 
 returns : tie.Need-returns
 unfolding direction
-returns c = followed (whole (c .before .before .before .before .before .before .before .before .before .before .before .args .d .dx) (record { sfits = c .before .before .before .before .before .before .before .before .struct-told .given .0 .1 }) (c .before .before .before .before .before .before .before .append-integer .ensures)) (whole (c .before .before .before .before .before .before .before .before .before .before .before .args .d .dy) (record { sfits = c .before .before .before .struct-told2 .given .1 .0 .1 }) (c .before .before .append-integer2 .ensures))
+returns c =
+    let dy = c .before .before in
+    let dx = dy .before .before .before .before .before in
+    let start = dx .before .before .before .before in
+    followed
+    (whole (start .args .d .dx) (record { sfits = dx .before .struct-told .given .0 .1 }) (dx .append-integer .ensures))
+    (whole (start .args .d .dy) (record { sfits = dy .before .struct-told2 .given .1 .0 .1 }) (dy .append-integer2 .ensures))
 
 pub append-direction-spec : {M : Type 1} → statement M
 append-direction-spec =

@@ -2,8 +2,8 @@
 use mathlib.Core.Path.{ap, sym}
 use native.Mathlib.Omega.{arith}
 use borrow.Author.Needs.{needs}
-use Rattle.report.proofs.Put.{roomier, spelt}
 use Rattle.report.specs.Line.{entry}
+use Rattle.report.proofs.Put.{roomier, spelt}
 use Rattle.report.proofs.Witness.{entry-record}
 use Rattle.report.proofs.append_entry.Statement.{statement}
 use Rattle.report.proofs.append_entry.Tie as tie
@@ -31,20 +31,31 @@ same-length c = search needs
 
 returns : tie.Need-returns
 unfolding entry
-returns c = roomier (omega arith) (spelt (ap entry (sym (c .before .before .before .before .before .if1 .taken))) (c .before .before .append-word .ensures))
+returns c =
+    let word = c .before .before in
+    let test = word .before .before .before in
+    roomier (omega arith) (spelt (ap entry (sym (test .if1 .taken))) (word .append-word .ensures))
 
 same-length-2 : tie.Need-same-length-2
 same-length-2 c = search needs
 
 returns-2 : tie.Need-returns-2
 unfolding entry
-returns-2 c = roomier (omega arith) (spelt (ap entry (sym (c .before .before .before .before .before .if2 .taken))) (c .before .before .append-word2 .ensures))
+returns-2 c =
+    let word = c .before .before in
+    let test = word .before .before .before in
+    roomier (omega arith) (spelt (ap entry (sym (test .if2 .taken))) (word .append-word2 .ensures))
 
 same-length-3 : tie.Need-same-length-3
 same-length-3 c = search needs
 
 returns-3 : tie.Need-returns-3
-returns-3 c = spelt (entry-record (c .before .before .before .before .before .before .before .args .index) (c .before .before .before .before .before .if1 .left) (c .before .before .before .before .if2 .left)) (c .before .before .append-number .ensures)
+returns-3 c =
+    let number = c .before .before in
+    let second-test = number .before .before in
+    let first-test = second-test .before in
+    let start = first-test .before .before in
+    spelt (entry-record (start .args .index) (first-test .if1 .left) (second-test .if2 .left)) (number .append-number .ensures)
 
 pub append-entry-spec : {M : Type 1} → statement M
 append-entry-spec =

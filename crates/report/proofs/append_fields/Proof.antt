@@ -2,8 +2,8 @@
 use mathlib.Core.Path.{ap, sym}
 use native.Mathlib.Omega.{arith}
 use borrow.Author.Needs.{needs}
-use Rattle.report.proofs.Put.{spelt, roomier}
 use Rattle.report.specs.Line.{answerFields}
+use Rattle.report.proofs.Put.{spelt, roomier}
 use Rattle.report.proofs.append_fields.Statement.{statement}
 use Rattle.report.proofs.append_fields.Tie as tie
 
@@ -23,14 +23,20 @@ same-length : tie.Need-same-length
 same-length c = search needs
 
 returns : tie.Need-returns
-returns c = spelt (ap answerFields (sym (c .before .before .before .before .before .answer .given .1))) (roomier (omega arith) (c .before .before .append-refused .ensures))
+returns c =
+    let line = c .before .before in
+    let told = line .before .before .before in
+    spelt (ap answerFields (sym (told .answer .given .1))) (roomier (omega arith) (line .append-refused .ensures))
 
 same-length-2 : tie.Need-same-length-2
 same-length-2 c = search needs
 
 returns-2 : tie.Need-returns-2
 unfolding answerFields
-returns-2 c = spelt (ap answerFields (sym (c .before .before .before .before .before .answer2 .given .1))) (c .before .before .append-plan .ensures)
+returns-2 c =
+    let line = c .before .before in
+    let told = line .before .before .before in
+    spelt (ap answerFields (sym (told .answer2 .given .1))) (line .append-plan .ensures)
 
 pub append-fields-spec : {M : Type 1} → statement M
 append-fields-spec =

@@ -1,7 +1,7 @@
 -- `report::append_pair` meets its contract. Three numbers in turn, each read back whole from its bits.
 use borrow.Author.Needs.{needs}
-use Rattle.report.proofs.Put.{followed}
 use Rattle.report.specs.Line.{pair}
+use Rattle.report.proofs.Put.{followed}
 use Rattle.report.proofs.Integer.{whole}
 use Rattle.report.proofs.append_pair.Statement.{statement}
 use Rattle.report.proofs.append_pair.Tie as tie
@@ -20,7 +20,16 @@ same-length c = search needs
 
 returns : tie.Need-returns
 unfolding pair
-returns c = followed (whole (c .before .before .before .before .before .before .before .before .before .before .before .before .before .before .before .before .args .v .x) (record { sfits = c .before .before .before .before .before .before .before .before .before .before .before .before .before .struct-told .given .0 .1 }) (c .before .before .before .before .before .before .before .before .before .before .before .before .append-integer .ensures)) (followed (whole (c .before .before .before .before .before .before .before .before .before .before .before .before .before .before .before .before .args .v .y) (record { sfits = c .before .before .before .before .before .before .before .before .struct-told2 .given .1 .0 .1 }) (c .before .before .before .before .before .before .before .append-integer2 .ensures)) (whole (c .before .before .before .before .before .before .before .before .before .before .before .before .before .before .before .before .args .v .d) (record { sfits = c .before .before .before .struct-told3 .given .1 .1 .0 .1 }) (c .before .before .append-integer3 .ensures)))
+returns c =
+    let d = c .before .before in
+    let y = d .before .before .before .before .before in
+    let x = y .before .before .before .before .before in
+    let start = x .before .before .before .before in
+    followed
+    (whole (start .args .v .x) (record { sfits = x .before .struct-told .given .0 .1 }) (x .append-integer .ensures))
+    (followed
+    (whole (start .args .v .y) (record { sfits = y .before .struct-told2 .given .1 .0 .1 }) (y .append-integer2 .ensures))
+    (whole (start .args .v .d) (record { sfits = d .before .struct-told3 .given .1 .1 .0 .1 }) (d .append-integer3 .ensures)))
 
 pub append-pair-spec : {M : Type 1} → statement M
 append-pair-spec =

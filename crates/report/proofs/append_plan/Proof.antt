@@ -2,8 +2,8 @@
 use mathlib.Core.Path.{ap, sym}
 use native.Mathlib.Omega.{arith}
 use borrow.Author.Needs.{needs}
-use Rattle.report.proofs.Put.{spelt, roomier}
 use Rattle.report.specs.Line.{fields}
+use Rattle.report.proofs.Put.{spelt, roomier}
 use Rattle.report.proofs.append_plan.Statement.{statement}
 use Rattle.report.proofs.append_plan.Tie as tie
 
@@ -29,19 +29,31 @@ same-length : tie.Need-same-length
 same-length c = search needs
 
 returns : tie.Need-returns
-returns c = spelt (ap (fields (c .before .before .before .before .before .before .before .args .plan)) (sym (c .before .before .before .before .enum-told .given .1))) (roomier (omega arith) (c .before .before .append-impossible .ensures))
+returns c =
+    let line = c .before .before in
+    let told = line .before .before in
+    let start = told .before .before .before in
+    spelt (ap (fields (start .args .plan)) (sym (told .enum-told .given .1))) (roomier (omega arith) (line .append-impossible .ensures))
 
 same-length-2 : tie.Need-same-length-2
 same-length-2 c = search needs
 
 returns-2 : tie.Need-returns-2
-returns-2 c = spelt (ap (fields (c .before .before .before .before .before .before .before .before .args .plan)) (sym (c .before .before .before .before .before .outcome .given .1))) (roomier (omega arith) (c .before .before .append-unlimited .ensures))
+returns-2 c =
+    let line = c .before .before in
+    let told = line .before .before .before in
+    let start = told .before .before .before in
+    spelt (ap (fields (start .args .plan)) (sym (told .outcome .given .1))) (roomier (omega arith) (line .append-unlimited .ensures))
 
 same-length-3 : tie.Need-same-length-3
 same-length-3 c = search needs
 
 returns-3 : tie.Need-returns-3
-returns-3 c = spelt (ap (fields (c .before .before .before .before .before .before .before .before .args .plan)) (sym (c .before .before .before .before .before .outcome2 .given .1))) (roomier (omega arith) (c .before .before .append-best .ensures))
+returns-3 c =
+    let line = c .before .before in
+    let told = line .before .before .before in
+    let start = told .before .before .before in
+    spelt (ap (fields (start .args .plan)) (sym (told .outcome2 .given .1))) (roomier (omega arith) (line .append-best .ensures))
 
 pub append-plan-spec : {M : Type 1} → statement M
 append-plan-spec =

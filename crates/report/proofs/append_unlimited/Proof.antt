@@ -1,7 +1,7 @@
 -- `report::append_unlimited` meets its contract. Word, pair, direction and counts in turn.
 use borrow.Author.Needs.{needs}
-use Rattle.report.proofs.Put.{followed}
 use Rattle.report.specs.Line.{fields}
+use Rattle.report.proofs.Put.{followed}
 use Rattle.report.proofs.append_unlimited.Statement.{statement}
 use Rattle.report.proofs.append_unlimited.Tie as tie
 
@@ -25,7 +25,13 @@ same-length c = search needs
 
 returns : tie.Need-returns
 unfolding fields
-returns c = followed (c .before .before .before .before .before .before .before .before .before .before .before .before .before .before .append-word .ensures) (followed (c .before .before .before .before .before .before .before .before .before .before .append-pair .ensures) (followed (c .before .before .before .before .before .before .append-direction .ensures) (c .before .before .append-counts .ensures)))
+returns c =
+    let counts = c .before .before in
+    let direction = counts .before .before .before .before in
+    let pair = direction .before .before .before .before in
+    let word = pair .before .before .before .before in
+    followed (word .append-word .ensures)
+    (followed (pair .append-pair .ensures) (followed (direction .append-direction .ensures) (counts .append-counts .ensures)))
 
 pub append-unlimited-spec : {M : Type 1} → statement M
 append-unlimited-spec =

@@ -13,13 +13,22 @@ append-integer-requires : tie.Need-append-integer-requires
 append-integer-requires c κs = search needs
 
 returns : tie.Need-returns
-returns c = spelt (left-out (c .before .before .args .index) (c .before .before .args .weight) (c .before .before .fits .weight) (c .if1 .taken)) (nothing (c .before .before .args .out .now) (c .before .before .args .at) 42)
+returns c =
+    let start = c .before .before in
+    spelt (left-out (start .args .index) (start .args .weight) (start .fits .weight) (c .if1 .taken)) (nothing (start .args .out .now) (start .args .at) 42)
 
 same-length : tie.Need-same-length
 same-length c = search needs
 
 returns-2 : tie.Need-returns-2
-returns-2 c = spelt (printed (c .before .before .before .before .before .before .before .before .before .before .args .index) (c .before .before .before .before .before .before .before .before .before .before .args .weight) (c .before .before .before .before .before .before .before .before .if1 .left)) (followed (c .before .before .before .before .before .before .append-entry .ensures) (whole (c .before .before .before .before .before .before .before .before .before .before .args .weight) (c .before .before .before .before .before .before .before .before .before .before .fits .weight) (c .before .before .append-integer .ensures)))
+returns-2 c =
+    let weight = c .before .before in
+    let entry = weight .before .before .before .before in
+    let test = entry .before .before in
+    let start = test .before .before in
+    spelt
+    (printed (start .args .index) (start .args .weight) (test .if1 .left))
+    (followed (entry .append-entry .ensures) (whole (start .args .weight) (start .fits .weight) (weight .append-integer .ensures)))
 
 pub append-weighted-spec : {M : Type 1} → statement M
 append-weighted-spec =

@@ -1,13 +1,15 @@
 -- `report::write_line` meets its contract. A small buffer is left alone; else the fields and the line feed make up the line.
 use native.Mathlib.Omega.{arith}
 use borrow.Author.Needs.{needs}
-use Rattle.report.proofs.Put.{followed, too-small, line-stands}
 use Rattle.report.specs.Line.{lineOf}
+use Rattle.report.proofs.Put.{followed, too-small, line-stands}
 use Rattle.report.proofs.write_line.Statement.{statement}
 use Rattle.report.proofs.write_line.Tie as tie
 
 returns : tie.Need-returns
-returns c = too-small (c .before .before .args .answer) (c .before .before .args .out .now) (c .if1 .taken)
+returns c =
+    let start = c .before .before in
+    too-small (start .args .answer) (start .args .out .now) (c .if1 .taken)
 
 append-fields-requires : tie.Need-append-fields-requires
 append-fields-requires c κs = search needs
@@ -23,7 +25,12 @@ same-length c = search needs
 
 returns-2 : tie.Need-returns-2
 unfolding lineOf
-returns-2 c = line-stands (c .before .before .before .before .before .before .before .before .before .before .before .args .answer) (c .before .before .before .before .before .before .before .before .before .if1 .left) (omega arith) (followed (c .before .before .before .before .before .before .before .append-fields .ensures) (c .before .before .append-word .ensures))
+returns-2 c =
+    let line-feed = c .before .before in
+    let fields = line-feed .before .before .before .before .before in
+    let test = fields .before .before in
+    let start = test .before .before in
+    line-stands (start .args .answer) (test .if1 .left) (omega arith) (followed (fields .append-fields .ensures) (line-feed .append-word .ensures))
 
 pub write-line-spec : {M : Type 1} → statement M
 write-line-spec =

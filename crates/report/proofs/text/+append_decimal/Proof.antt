@@ -1,13 +1,12 @@
 -- `report::text::append_decimal` meets its contract. The measure is the number. Below 10 the one digit is all; else the digits of the tenth part come
 -- first, and the last digit after them.
-use mathlib.Core.Path.{ap, sym}
+use mathlib.Core.Path.{sym}
 use Prim.Native.Nat.{ℕ, _<_}
 use native.Mathlib.Omega.{arith}
-use lib.ListN.{length}
 use borrow.Author.Needs.{needs}
 use borrow.Fn.Kinds.{In}
 use borrow.Fn.PlainCycle.{Measures, is, falls, and}
-use Rattle.report.proofs.Decimal.{decimal-digit, decimal-more, decimal-longer}
+use Rattle.report.proofs.Decimal.{decimal-digit, decimal-one, decimal-more, decimal-longer}
 use Rattle.report.proofs.Put.{followed, exactly}
 use Rattle.report.proofs.text.append_decimal.Reads as append-decimal
 use Rattle.report.proofs.text.append_decimal.Kinds as append-decimal-kinds
@@ -57,7 +56,10 @@ append-decimal-append-byte-requires : (t : ℕ) → append-decimal-lts.Need-appe
   append-decimal-below t,
   append-decimal.Post,
 ) (append-decimal-at t) append-decimal.Post
-append-decimal-append-byte-requires t c κs = record { free = omega (arith, ap length (decimal-digit (c .before .before .before .args .n) (c .before .if1 .taken))) }
+append-decimal-append-byte-requires t c κs =
+    let test = c .before in
+    let start = test .before .before in
+    record { free = omega (arith, decimal-one (start .args .n) (test .if1 .taken)) }
 
 append-decimal-append-decimal-requires : (t : ℕ) → append-decimal-lts.Need-append-decimal-requires (
   append-byte-reads.Asked,
@@ -65,7 +67,10 @@ append-decimal-append-decimal-requires : (t : ℕ) → append-decimal-lts.Need-a
   append-decimal-below t,
   append-decimal.Post,
 ) (append-decimal-at t) append-decimal.Post
-append-decimal-append-decimal-requires t c κs = (omega arith, record { free = omega (arith, decimal-longer (c .before .before .before .args .n) (c .before .if1 .left)) })
+append-decimal-append-decimal-requires t c κs =
+    let test = c .before in
+    let start = test .before .before in
+    (omega arith, record { free = omega (arith, decimal-longer (start .args .n) (test .if1 .left)) })
 
 append-decimal-append-byte-requires-2 : (t : ℕ) → append-decimal-lts.Need-append-byte-requires-2 (
   append-byte-reads.Asked,
@@ -73,7 +78,10 @@ append-decimal-append-byte-requires-2 : (t : ℕ) → append-decimal-lts.Need-ap
   append-decimal-below t,
   append-decimal.Post,
 ) (append-decimal-at t) append-decimal.Post
-append-decimal-append-byte-requires-2 t c κs = record { free = omega (arith, decimal-longer (c .before .before .before .before .before .before .before .args .n) (c .before .before .before .before .before .if1 .left)) }
+append-decimal-append-byte-requires-2 t c κs =
+    let test = c .before .before .before .before .before in
+    let start = test .before .before in
+    record { free = omega (arith, decimal-longer (start .args .n) (test .if1 .left)) }
 
 append-decimal-same-length : (t : ℕ) → append-decimal-lts.Need-same-length (
   append-byte-reads.Asked,
@@ -89,7 +97,11 @@ append-decimal-returns : (t : ℕ) → append-decimal-lts.Need-returns (
   append-decimal-below t,
   append-decimal.Post,
 ) (append-decimal-at t) append-decimal.Post
-append-decimal-returns t c = exactly (sym (decimal-digit (c .before .before .before .before .before .before .args .n) (c .before .before .before .before .if1 .taken))) (c .before .before .append-byte .ensures)
+append-decimal-returns t c =
+    let last = c .before .before in
+    let test = last .before .before in
+    let start = test .before .before in
+    exactly (sym (decimal-digit (start .args .n) (test .if1 .taken))) (last .append-byte .ensures)
 
 append-decimal-same-length-2 : (t : ℕ) → append-decimal-lts.Need-same-length-2 (
   append-byte-reads.Asked,
@@ -105,7 +117,12 @@ append-decimal-returns-2 : (t : ℕ) → append-decimal-lts.Need-returns-2 (
   append-decimal-below t,
   append-decimal.Post,
 ) (append-decimal-at t) append-decimal.Post
-append-decimal-returns-2 t c = exactly (sym (decimal-more (c .before .before .before .before .before .before .before .before .before .before .args .n) (c .before .before .before .before .before .before .before .before .if1 .left))) (followed (c .before .before .before .before .before .before .append-decimal .ensures) (c .before .before .append-byte2 .ensures))
+append-decimal-returns-2 t c =
+    let last = c .before .before in
+    let digits = last .before .before .before .before in
+    let test = digits .before .before in
+    let start = test .before .before in
+    exactly (sym (decimal-more (start .args .n) (test .if1 .left))) (followed (digits .append-decimal .ensures) (last .append-byte2 .ensures))
 
 pub +append-decimal-spec : {M : Type 1} → statement M
 +append-decimal-spec = close μ-append-decimal λ t. append-decimal-lts.spec (

@@ -16,7 +16,9 @@ abbrev μ-loop : tie.MeasureT-loop
 μ-loop word out₀ at next₀ i₀ out next i = length word - i
 
 loop-holds : tie.Need-loop-holds Inv-loop μ-loop
-loop-holds c = (omega arith, none-yet (c .before .before .args .out .now) (c .before .before .args .word .now) (c .before .before .args .at), refl)
+loop-holds c =
+    let start = c .before .before in
+    (omega arith, none-yet (start .args .out .now) (start .args .word .now) (start .args .at), refl)
 
 shared-slice-read-append-byte : tie.Need-shared-slice-read-append-byte Inv-loop μ-loop
 shared-slice-read-append-byte c = omega arith
@@ -31,13 +33,24 @@ loop-less : tie.Need-loop-less Inv-loop μ-loop
 loop-less c = omega arith
 
 loop-again : tie.Need-loop-again Inv-loop μ-loop
-loop-again c = (omega arith, one-further (c .before .before .before .before .before .before .before .before .before .args .word .now) (c .before .before .before .before .before .before .loop .i) (c .before .before .before .before .before .loop-test .taken) (c .before .before .before .before .before .before .loop .inv .1) (c .before .before .append-byte .ensures), c .before .before .append-byte .kept .1 .0 ∙ c .before .before .before .before .before .before .loop .inv .2)
+loop-again c =
+    let byte = c .before .before in
+    let test = byte .before .before .before in
+    let turn = test .before in
+    let start = turn .before .before .before in (
+      omega arith,
+      one-further (start .args .word .now) (turn .loop .i) (test .loop-test .taken) (turn .loop .inv .1) (byte .append-byte .ensures),
+      byte .append-byte .kept .1 .0 ∙ turn .loop .inv .2,
+    )
 
 same-length : tie.Need-same-length Inv-loop μ-loop
 same-length c = c .before .loop .inv .2
 
 returns : tie.Need-returns Inv-loop μ-loop
-returns c = all-of (c .before .before .before .before .args .word .now) (c .before .loop .i) (c .loop-test .left) (c .before .loop .inv .1)
+returns c =
+    let turn = c .before in
+    let start = turn .before .before .before in
+    all-of (start .args .word .now) (turn .loop .i) (c .loop-test .left) (turn .loop .inv .1)
 
 pub append-word-spec : {M : Type 1} → statement M
 append-word-spec =
