@@ -7,9 +7,10 @@ use native.Mathlib.Omega.{arith}
 use native.Mathlib.Numerals.{add-one}
 use lib.ListN.{length, set, take, drop, getD, length-append}
 use lib.Seq.{sets, sets-eq, take-suc, take-all}
+use Rattle.report.specs.Text.{text}
 use Rattle.report.specs.Append.{Appended, Written, lineRoom}
 use Rattle.report.specs.declared.Answer.{Answer}
-use Rattle.report.specs.Line.{lineOf}
+use Rattle.report.specs.Line.{answerFields, lineOf}
 
 sets-append : (l : List ℕ) (i : ℕ) (u v : List ℕ) → sets l i (u ++ v) ≡ sets (sets l i u) (i + length u) v
 sets-append l i [] v = ap (λ (k : ℕ). sets l k v) (omega arith)
@@ -64,12 +65,18 @@ too-small answer out h =
       enough = omega arith;
     }
 
-pub line-stands : (answer : Answer) {before after : List ℕ} {count room : ℕ} → lineRoom ≤ length before → room ≤ lineRoom → Appended before 0 (lineOf answer) room after count → Written answer before after count
-line-stands answer {before} {after} {count} {room} h k f =
+-- the fields, the line feed after them, and one more than the fields' count
+pub line-stands : (answer : Answer) {before mid after : List ℕ} {end next room : ℕ} → lineRoom ≤ length before → room < lineRoom → Appended before 0 (answerFields answer) room mid end → Appended mid end (text "\n") 1 after next → Written answer before after (end + 1)
+unfolding lineOf
+line-stands answer {before} {mid} {after} {end} {next} {room} h k f g =
+    let whole : Appended before 0 (lineOf answer) (room + 1) after next = followed f g in
     record {
-      untouched = λ g. absurd (omega arith);
-      nothing = λ g. absurd (omega arith);
-      line = λ _. f .stored ∙ sets-eq (lineOf answer) before 0 (omega arith) ∙ ap (λ (n : ℕ). lineOf answer ++ drop n before) (zero-add (length (lineOf answer)));
-      counted = λ _. omega arith;
-      enough = omega arith;
+      untouched = λ p. absurd (omega arith);
+      nothing = λ p. absurd (omega arith);
+      line =
+          λ _. whole .stored
+          ∙ sets-eq (lineOf answer) before 0 (omega (arith, whole .small))
+          ∙ ap (λ (n : ℕ). lineOf answer ++ drop n before) (zero-add (length (lineOf answer)));
+      counted = λ _. omega (arith, whole .moved, g .moved);
+      enough = omega (arith, whole .moved, whole .small, g .moved);
     }

@@ -32,6 +32,7 @@ pub enum Answer {
     Planned(Plan),
 }
 
+// A pair: X, Y and D. Here and below a local is named after what stands at its place.
 fn append_pair(v: Point, out: &mut [u8], at: usize) -> usize
     requires { ⌜ Room (now out) at 63 ⌝ }
     ensures { λ r. ⌜ Appended (now (out .entry)) at (pair v) 63 (now (out .exit)) r ⌝ }
@@ -41,6 +42,7 @@ fn append_pair(v: Point, out: &mut [u8], at: usize) -> usize
     append_integer(v.d, out, d)
 }
 
+// A direction: dx and dy.
 fn append_direction(d: Ray, out: &mut [u8], at: usize) -> usize
     requires { ⌜ Room (now out) at 42 ⌝ }
     ensures { λ r. ⌜ Appended (now (out .entry)) at (direction d) 42 (now (out .exit)) r ⌝ }
@@ -49,6 +51,7 @@ fn append_direction(d: Ray, out: &mut [u8], at: usize) -> usize
     append_integer(d.dy, out, dy)
 }
 
+// The two counts: moves and open.
 fn append_counts(plan: Plan, out: &mut [u8], at: usize) -> usize
     requires { ⌜ Room (now out) at 42 ⌝ }
     ensures { λ r. ⌜ Appended (now (out .entry)) at (counts plan) 42 (now (out .exit)) r ⌝ }
@@ -57,6 +60,7 @@ fn append_counts(plan: Plan, out: &mut [u8], at: usize) -> usize
     append_number(plan.opened, out, opened)
 }
 
+// An entry of a witness: a floor's letter or a record's index.
 fn append_entry(index: usize, out: &mut [u8], at: usize) -> usize
     requires { ⌜ Room (now out) at 21 ⌝ }
     ensures { λ r. ⌜ Appended (now (out .entry)) at (entry index) 21 (now (out .exit)) r ⌝ }
@@ -70,6 +74,7 @@ fn append_entry(index: usize, out: &mut [u8], at: usize) -> usize
     }
 }
 
+// An entry and its weight, unless the weight is 0.
 fn append_weighted(index: usize, weight: i64, out: &mut [u8], at: usize) -> usize
     requires { ⌜ Room (now out) at 42 ⌝ }
     ensures { λ r. ⌜ Appended (now (out .entry)) at (entries (weighted index weight)) 42 (now (out .exit)) r ⌝ }
@@ -89,12 +94,14 @@ fn used(weight: i64) -> usize
     if weight == 0 { 0 } else { 1 }
 }
 
+// How many entries a witness names.
 fn count_named(k: Certificate) -> usize
     ensures { λ r. ⌜ r ≡ length (named k) ⌝ }
 {
     used(k.first_weight) + used(k.second_weight) + used(k.third_weight)
 }
 
+// A witness: the number of entries, then each with its weight.
 fn append_witness(k: Certificate, out: &mut [u8], at: usize) -> usize
     requires { ⌜ Room (now out) at 147 ⌝ }
     ensures { λ r. ⌜ Appended (now (out .entry)) at (witness k) 147 (now (out .exit)) r ⌝ }
@@ -105,6 +112,7 @@ fn append_witness(k: Certificate, out: &mut [u8], at: usize) -> usize
     append_weighted(k.third, k.third_weight, out, third)
 }
 
+// The line of a best pair, but for its line feed.
 fn append_best(plan: Plan, v: Point, out: &mut [u8]) -> usize
     requires { ⌜ Room (now out) 0 109 ⌝ }
     ensures { λ r. ⌜ Appended (now (out .entry)) 0 (fields plan (Outcome.Optimal v)) 109 (now (out .exit)) r ⌝ }
@@ -114,6 +122,7 @@ fn append_best(plan: Plan, v: Point, out: &mut [u8]) -> usize
     append_counts(plan, out, next)
 }
 
+// The line of an unlimited book, but for its line feed.
 fn append_unlimited(plan: Plan, v: Point, d: Ray, out: &mut [u8]) -> usize
     requires { ⌜ Room (now out) 0 156 ⌝ }
     ensures { λ r. ⌜ Appended (now (out .entry)) 0 (fields plan (Outcome.Unbounded v d)) 156 (now (out .exit)) r ⌝ }
@@ -124,6 +133,7 @@ fn append_unlimited(plan: Plan, v: Point, d: Ray, out: &mut [u8]) -> usize
     append_counts(plan, out, next)
 }
 
+// The line of an impossible book, but for its line feed.
 fn append_impossible(plan: Plan, out: &mut [u8]) -> usize
     requires { ⌜ Room (now out) 0 220 ⌝ }
     ensures { λ r. ⌜ Appended (now (out .entry)) 0 (fields plan Outcome.Infeasible) 220 (now (out .exit)) r ⌝ }
@@ -134,6 +144,7 @@ fn append_impossible(plan: Plan, out: &mut [u8]) -> usize
     append_witness(plan.witness, out, entries)
 }
 
+// The line of a refused book, but for its line feed.
 fn append_refused(number: usize, index: usize, out: &mut [u8]) -> usize
     requires { ⌜ Room (now out) 0 49 ⌝ }
     ensures { λ r. ⌜ Appended (now (out .entry)) 0 (answerFields (Answer.Refused number index)) 49 (now (out .exit)) r ⌝ }
@@ -143,16 +154,7 @@ fn append_refused(number: usize, index: usize, out: &mut [u8]) -> usize
     append_number(index, out, next)
 }
 
-fn append_fields(answer: Answer, out: &mut [u8]) -> usize
-    requires { ⌜ Room (now out) 0 220 ⌝ }
-    ensures { λ r. ⌜ Appended (now (out .entry)) 0 (answerFields answer) 220 (now (out .exit)) r ⌝ }
-{
-    match answer {
-        Answer::Refused(number, index) => append_refused(number, index, out),
-        Answer::Planned(plan) => append_plan(plan, out),
-    }
-}
-
+// The line of a plan, but for its line feed.
 fn append_plan(plan: Plan, out: &mut [u8]) -> usize
     requires { ⌜ Room (now out) 0 220 ⌝ }
     ensures { λ r. ⌜ Appended (now (out .entry)) 0 (fields plan (plan .outcome)) 220 (now (out .exit)) r ⌝ }
@@ -165,6 +167,17 @@ fn append_plan(plan: Plan, out: &mut [u8]) -> usize
     }
 }
 
+// The line of an answer, but for its line feed.
+fn append_fields(answer: Answer, out: &mut [u8]) -> usize
+    requires { ⌜ Room (now out) 0 220 ⌝ }
+    ensures { λ r. ⌜ Appended (now (out .entry)) 0 (answerFields answer) 220 (now (out .exit)) r ⌝ }
+{
+    match answer {
+        Answer::Refused(number, index) => append_refused(number, index, out),
+        Answer::Planned(plan) => append_plan(plan, out),
+    }
+}
+
 // The line of an answer, at the start of a buffer of at least 256 bytes, and its length. A smaller buffer is left as it is, and 0 handed back.
 pub fn write_line(answer: Answer, out: &mut [u8]) -> usize
     ensures { λ r. ⌜ Written answer (now (out .entry)) (now (out .exit)) r ⌝ }
@@ -173,5 +186,6 @@ pub fn write_line(answer: Answer, out: &mut [u8]) -> usize
         return 0;
     }
     let end = append_fields(answer, out);
-    append_word(b"\n", out, end)
+    append_word(b"\n", out, end);
+    end + 1
 }

@@ -6,6 +6,7 @@ ghost use lib.IntN.{natAbs};
 ghost use Rattle.report.specs.Line.{decimal, number, integer};
 ghost use Rattle.report.specs.Append.{Room, Appended};
 
+// One byte.
 pub fn append_byte(b: u8, out: &mut [u8], at: usize) -> usize
     requires { ⌜ Room (now out) at 1 ⌝ }
     ensures { λ r. ⌜ Appended (now (out .entry)) at (b ∷ []) 1 (now (out .exit)) r ⌝ }
@@ -14,6 +15,7 @@ pub fn append_byte(b: u8, out: &mut [u8], at: usize) -> usize
     at + 1
 }
 
+// A word, byte by byte.
 pub fn append_word(word: &[u8], out: &mut [u8], at: usize) -> usize
     requires { ⌜ Room (now out) at (length (now word)) ⌝ }
     ensures { λ r. ⌜ Appended (now (out .entry)) at (now (word .entry)) (length (now (word .entry))) (now (out .exit)) r ⌝ }
@@ -27,7 +29,7 @@ pub fn append_word(word: &[u8], out: &mut [u8], at: usize) -> usize
     next
 }
 
-// The digits before the last come first.
+// A number in decimal, with no space before it: the digits before the last come first.
 pub fn append_decimal(n: usize, out: &mut [u8], at: usize) -> usize
     requires { ⌜ Room (now out) at (length (decimal n)) ⌝ }
     ensures { λ r. ⌜ Appended (now (out .entry)) at (decimal n) (length (decimal n)) (now (out .exit)) r ⌝ }
@@ -41,6 +43,7 @@ pub fn append_decimal(n: usize, out: &mut [u8], at: usize) -> usize
     }
 }
 
+// A space and a number.
 pub fn append_number(n: usize, out: &mut [u8], at: usize) -> usize
     requires { ⌜ Room (now out) at 21 ⌝ }
     ensures { λ r. ⌜ Appended (now (out .entry)) at (number n) 21 (now (out .exit)) r ⌝ }
@@ -49,7 +52,7 @@ pub fn append_number(n: usize, out: &mut [u8], at: usize) -> usize
     append_decimal(n, out, digits)
 }
 
-// The least i64 has no opposite: one more than it has.
+// The least i64 has no opposite, but one more than it has.
 fn magnitude(z: i64) -> usize
     ensures { λ r. ⌜ r ≡ natAbs z ⌝ }
 {
@@ -60,6 +63,7 @@ fn magnitude(z: i64) -> usize
     }
 }
 
+// A space and a number with its sign.
 pub fn append_integer(z: i64, out: &mut [u8], at: usize) -> usize
     requires { ⌜ Room (now out) at 21 ⌝ }
     ensures { λ r. ⌜ Appended (now (out .entry)) at (integer z) 21 (now (out .exit)) r ⌝ }

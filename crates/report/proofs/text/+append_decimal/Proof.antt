@@ -57,9 +57,8 @@ append-decimal-append-byte-requires : (t : ℕ) → append-decimal-lts.Need-appe
   append-decimal.Post,
 ) (append-decimal-at t) append-decimal.Post
 append-decimal-append-byte-requires t c κs =
-    let test = c .before in
-    let start = test .before .before in
-    record { free = omega (arith, decimal-one (start .args .n) (test .if1 .taken)) }
+    let start = c .before .before .before in
+    record { free = omega (arith, decimal-one (start .args .n) (omega arith)) }
 
 append-decimal-append-decimal-requires : (t : ℕ) → append-decimal-lts.Need-append-decimal-requires (
   append-byte-reads.Asked,
@@ -68,9 +67,8 @@ append-decimal-append-decimal-requires : (t : ℕ) → append-decimal-lts.Need-a
   append-decimal.Post,
 ) (append-decimal-at t) append-decimal.Post
 append-decimal-append-decimal-requires t c κs =
-    let test = c .before in
-    let start = test .before .before in
-    (omega arith, record { free = omega (arith, decimal-longer (start .args .n) (test .if1 .left)) })
+    let start = c .before .before .before in
+    (omega arith, record { free = omega (arith, decimal-longer (start .args .n) (omega arith)) })
 
 append-decimal-append-byte-requires-2 : (t : ℕ) → append-decimal-lts.Need-append-byte-requires-2 (
   append-byte-reads.Asked,
@@ -79,9 +77,8 @@ append-decimal-append-byte-requires-2 : (t : ℕ) → append-decimal-lts.Need-ap
   append-decimal.Post,
 ) (append-decimal-at t) append-decimal.Post
 append-decimal-append-byte-requires-2 t c κs =
-    let test = c .before .before .before .before .before in
-    let start = test .before .before in
-    record { free = omega (arith, decimal-longer (start .args .n) (test .if1 .left)) }
+    let start = c .before .before .before .before .before .before .before in
+    record { free = omega (arith, decimal-longer (start .args .n) (omega arith)) }
 
 append-decimal-same-length : (t : ℕ) → append-decimal-lts.Need-same-length (
   append-byte-reads.Asked,
@@ -99,9 +96,8 @@ append-decimal-returns : (t : ℕ) → append-decimal-lts.Need-returns (
 ) (append-decimal-at t) append-decimal.Post
 append-decimal-returns t c =
     let last = c .before .before in
-    let test = last .before .before in
-    let start = test .before .before in
-    exactly (sym (decimal-digit (start .args .n) (test .if1 .taken))) (last .append-byte .ensures)
+    let start = last .before .before .before .before in
+    exactly (sym (decimal-digit (start .args .n) (omega arith))) (last .append-byte .ensures)
 
 append-decimal-same-length-2 : (t : ℕ) → append-decimal-lts.Need-same-length-2 (
   append-byte-reads.Asked,
@@ -120,9 +116,8 @@ append-decimal-returns-2 : (t : ℕ) → append-decimal-lts.Need-returns-2 (
 append-decimal-returns-2 t c =
     let last = c .before .before in
     let digits = last .before .before .before .before in
-    let test = digits .before .before in
-    let start = test .before .before in
-    exactly (sym (decimal-more (start .args .n) (test .if1 .left))) (followed (digits .append-decimal .ensures) (last .append-byte2 .ensures))
+    let start = digits .before .before .before .before in
+    exactly (sym (decimal-more (start .args .n) (omega arith))) (followed (digits .append-decimal .ensures) (last .append-byte2 .ensures))
 
 pub +append-decimal-spec : {M : Type 1} → statement M
 +append-decimal-spec = close μ-append-decimal λ t. append-decimal-lts.spec (
