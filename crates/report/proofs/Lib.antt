@@ -1,0 +1,8 @@
+-- Lemmas over the definitions: decimal numbers (Decimal) and what they read back as (Reading), bytes put after bytes (Put), the machine's signed
+-- numbers (Integer), a witness's entries (Witness), and the lines spelt out (Examples).
+pub mod Decimal
+pub mod Reading
+pub mod Put
+pub mod Integer
+pub mod Witness
+pub mod Examples

@@ -1,0 +1,82 @@
+-- Bytes put after bytes: two runs of stores, the second where the first ended, are one.
+use mathlib.Core.Path.{_≡_, refl, ap, sym, _∙_, subst}
+use mathlib.Core.List.{List, [], _∷_, _++_}
+use Prim.Native.Nat.{ℕ, suc, _+_, _≤_, _<_}
+use native.Mathlib.Nat.{le-refl, zero-add}
+use native.Mathlib.Omega.{arith}
+use native.Mathlib.Numerals.{add-one}
+use lib.ListN.{length, set, take, drop, getD, length-append}
+use lib.Seq.{sets, sets-eq, take-suc, take-all}
+use Rattle.report.specs.Text.{text}
+use Rattle.report.specs.Append.{Appended, Written, lineRoom}
+use Rattle.report.specs.declared.Answer.{Answer}
+use Rattle.report.specs.Line.{answerFields, lineOf}
+
+sets-append : (l : List ℕ) (i : ℕ) (u v : List ℕ) → sets l i (u ++ v) ≡ sets (sets l i u) (i + length u) v
+sets-append l i [] v = ap (λ (k : ℕ). sets l k v) (omega arith)
+sets-append l i (a ∷ u) v =
+    sets-append (set l i a) (suc i) u v ∙ ap (λ (k : ℕ). sets (sets (set l i a) (suc i) u) k v) (omega arith)
+
+-- what two functions append in turn
+pub followed : {before mid after : List ℕ} {at next end i j : ℕ} {u v : List ℕ} → Appended before at u i mid next → Appended mid next v j after end → Appended before at (u ++ v) (i + j) after end
+followed {before} {mid} {after} {at} {next} {end} {i} {j} {u} {v} f g =
+    record {
+      stored = g .stored ∙ ap (λ (l : List ℕ). sets l next v) (f .stored) ∙ ap (λ (k : ℕ). sets (sets before at u) k v) (f .moved) ∙ sym (sets-append before at u v);
+      moved = rw length-append (omega arith);
+      small = rw length-append (omega arith);
+    }
+
+-- in more room than was taken
+pub roomier : {before after bytes : List ℕ} {at next i j : ℕ} → i ≤ j → Appended before at bytes i after next → Appended before at bytes j after next
+roomier h f = record { stored = f .stored; moved = f .moved; small = omega arith }
+
+-- as other words for the same bytes
+pub spelt : {before after u v : List ℕ} {at next i : ℕ} → u ≡ v → Appended before at u i after next → Appended before at v i after next
+spelt {before} {after} {u} {v} {at} {next} {i} e f = subst (λ (l : List ℕ). Appended before at l i after next) e f
+
+-- with no room to spare
+pub exactly : {before after u : List ℕ} {v : List ℕ} {at next i : ℕ} → u ≡ v → Appended before at u i after next → Appended before at v (length v) after next
+exactly {before} {after} {u} {v} {at} {next} {i} e f = record { stored = spelt e f .stored; moved = spelt e f .moved; small = le-refl (length v) }
+
+-- ---- a word, byte by byte
+
+pub none-yet : (out word : List ℕ) (at : ℕ) → Appended out at (take 0 word) 0 out at
+none-yet out word at = record { stored = refl; moved = omega arith; small = le-refl 0 }
+
+pub one-further : (word : List ℕ) (i : ℕ) {before mid after : List ℕ} {at next end : ℕ} → i < length word → Appended before at (take i word) i mid next → Appended mid next (getD word i 0 ∷ []) 1 after end → Appended before at (take (i + 1) word) (i + 1) after end
+one-further word i h f g =
+    spelt (sym (take-suc word i 0 h) ∙ ap (λ (k : ℕ). take k word) (sym (add-one i))) (followed f g)
+
+pub all-of : (word : List ℕ) (i : ℕ) {before after : List ℕ} {at next j : ℕ} → length word ≤ i → Appended before at (take i word) j after next → Appended before at word (length word) after next
+all-of word i h f = exactly (take-all i word h) f
+
+pub nothing : (out : List ℕ) (at room : ℕ) → Appended out at [] room out at
+nothing out at room = record { stored = refl; moved = omega arith; small = omega arith }
+
+-- ---- the line
+
+pub too-small : (answer : Answer) (out : List ℕ) → length out < lineRoom → Written answer out out 0
+too-small answer out h =
+    record {
+      untouched = λ _. refl;
+      nothing = λ _. refl;
+      line = λ k. absurd (omega arith);
+      counted = λ k. absurd (omega arith);
+      enough = omega arith;
+    }
+
+-- the fields, the line feed after them, and one more than the fields' count
+pub line-stands : (answer : Answer) {before mid after : List ℕ} {end next room : ℕ} → lineRoom ≤ length before → room < lineRoom → Appended before 0 (answerFields answer) room mid end → Appended mid end (text "\n") 1 after next → Written answer before after (end + 1)
+unfolding lineOf
+line-stands answer {before} {mid} {after} {end} {next} {room} h k f g =
+    let whole : Appended before 0 (lineOf answer) (room + 1) after next = followed f g in
+    record {
+      untouched = λ p. absurd (omega arith);
+      nothing = λ p. absurd (omega arith);
+      line =
+          λ _. whole .stored
+          ∙ sets-eq (lineOf answer) before 0 (omega (arith, whole .small))
+          ∙ ap (λ (n : ℕ). lineOf answer ++ drop n before) (zero-add (length (lineOf answer)));
+      counted = λ _. omega (arith, whole .moved, g .moved);
+      enough = omega (arith, whole .moved, whole .small, g .moved);
+    }

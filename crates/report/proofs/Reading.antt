@@ -1,0 +1,45 @@
+-- A decimal number read back: its digits have the number's value, each byte is a digit's, and the first is "0" for 0 alone.
+use mathlib.Core.Path.{_≡_, refl, ap, _∙_}
+use mathlib.Core.List.{List, [], _∷_, _++_}
+use mathlib.Core.Logic.{_⊎_, ⊎-elim}
+use Prim.Native.Nat.{ℕ, zero, suc, _+_, _-_, _*_, _/_, _%_, _≤_, _<_}
+use native.Mathlib.Nat.{le-refl}
+use native.Mathlib.Omega.{arith}
+use lib.ListN.{length, getD, List·getD-append}
+use Rattle.report.specs.Line.{decimal}
+use Rattle.report.proofs.Decimal.{decimal-digit, decimal-more, decimal-longer, decimal-one, one-digit}
+
+-- the value of digits that follow those of n
+abbrev pub valueFrom : ℕ → List ℕ → ℕ
+valueFrom n [] = n
+valueFrom n (b ∷ l) = valueFrom (10 * n + (b - 48)) l
+
+value-last : (n : ℕ) (l : List ℕ) (b : ℕ) → valueFrom n (l ++ (b ∷ [])) ≡ 10 * valueFrom n l + (b - 48)
+value-last n [] b = refl
+value-last n (a ∷ l) b = value-last (10 * n + (a - 48)) l b
+
+value-below : (k n : ℕ) → n ≤ k → valueFrom 0 (decimal n) ≡ n
+value-below zero n h = ap (valueFrom 0) (decimal-digit n (omega arith)) ∙ omega arith
+value-below (suc k) n h =
+    ⊎-elim
+    (λ p. ap (valueFrom 0) (decimal-digit n p) ∙ omega arith)
+    (λ p. ap (valueFrom 0) (decimal-more n p) ∙ value-last 0 (decimal (n / 10)) (48 + n % 10) ∙ omega (arith, value-below k (n / 10) (omega arith)))
+    (one-digit n)
+
+pub decimal-value : (n : ℕ) → valueFrom 0 (decimal n) ≡ n
+decimal-value n = value-below n n (le-refl n)
+
+some-digit : (n : ℕ) → 0 < length (decimal n)
+some-digit n = ⊎-elim (λ p. omega (arith, decimal-one n p)) (λ p. omega (arith, decimal-longer n p)) (one-digit n)
+
+first-below : (k n : ℕ) → n ≤ k → 0 < n → 48 < getD (decimal n) 0 0
+first-below zero n h p = absurd (omega arith)
+first-below (suc k) n h p =
+    ⊎-elim
+    (λ q. rw (decimal-digit n q) (omega arith))
+    (λ q. rw (decimal-more n q) (rw (List·getD-append (decimal (n / 10)) ((48 + n % 10) ∷ []) 0 0 (some-digit (n / 10))) (first-below k (n / 10) (omega arith) (omega arith))))
+    (one-digit n)
+
+-- "0" is byte 48
+pub no-leading-zero : (n : ℕ) → 0 < n → 48 < getD (decimal n) 0 0
+no-leading-zero n = first-below n n (le-refl n)

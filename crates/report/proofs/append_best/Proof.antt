@@ -1,0 +1,40 @@
+-- `report::append_best` meets its contract. Word, pair and counts in turn.
+use borrow.Author.Needs.{needs}
+use Rattle.report.specs.Line.{fields}
+use Rattle.report.proofs.Put.{followed}
+use Rattle.report.proofs.append_best.Statement.{statement}
+use Rattle.report.proofs.append_best.Tie as tie
+
+slice-aggregate-append-word : tie.Need-slice-aggregate-append-word
+slice-aggregate-append-word c = search needs
+
+append-word-requires : tie.Need-append-word-requires
+append-word-requires c κs = search needs
+
+append-pair-requires : tie.Need-append-pair-requires
+append-pair-requires c κs = search needs
+
+append-counts-requires : tie.Need-append-counts-requires
+append-counts-requires c κs = search needs
+
+same-length : tie.Need-same-length
+same-length c = search needs
+
+returns : tie.Need-returns
+unfolding fields
+returns c =
+    let counts = c .before .before in
+    let pair = counts .before .before .before .before in
+    let word = pair .before .before .before .before in
+    followed (word .append-word .ensures) (followed (pair .append-pair .ensures) (counts .append-counts .ensures))
+
+pub append-best-spec : {M : Type 1} → statement M
+append-best-spec =
+    tie.close
+    (tie.spec
+    slice-aggregate-append-word
+    append-word-requires
+    append-pair-requires
+    append-counts-requires
+    same-length
+    returns)

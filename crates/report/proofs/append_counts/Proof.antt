@@ -1,0 +1,26 @@
+-- `report::append_counts` meets its contract. Two numbers in turn.
+use borrow.Author.Needs.{needs}
+use Rattle.report.specs.Line.{counts}
+use Rattle.report.proofs.Put.{followed}
+use Rattle.report.proofs.append_counts.Statement.{statement}
+use Rattle.report.proofs.append_counts.Tie as tie
+
+append-number-requires : tie.Need-append-number-requires
+append-number-requires c κs = search needs
+
+append-number-requires-2 : tie.Need-append-number-requires-2
+append-number-requires-2 c κs = search needs
+
+same-length : tie.Need-same-length
+same-length c = search needs
+
+returns : tie.Need-returns
+unfolding counts
+returns c =
+    let opened = c .before .before in
+    let moves = opened .before .before .before .before in
+    followed (moves .append-number .ensures) (opened .append-number2 .ensures)
+
+pub append-counts-spec : {M : Type 1} → statement M
+append-counts-spec =
+    tie.close (tie.spec append-number-requires append-number-requires-2 same-length returns)

@@ -1,0 +1,30 @@
+-- `report::append_direction` meets its contract. Two numbers in turn, each read back whole from its bits.
+use borrow.Author.Needs.{needs}
+use Rattle.report.specs.Line.{direction}
+use Rattle.report.proofs.Put.{followed}
+use Rattle.report.proofs.Integer.{whole}
+use Rattle.report.proofs.append_direction.Statement.{statement}
+use Rattle.report.proofs.append_direction.Tie as tie
+
+append-integer-requires : tie.Need-append-integer-requires
+append-integer-requires c κs = search needs
+
+append-integer-requires-2 : tie.Need-append-integer-requires-2
+append-integer-requires-2 c κs = search needs
+
+same-length : tie.Need-same-length
+same-length c = search needs
+
+returns : tie.Need-returns
+unfolding direction
+returns c =
+    let dy = c .before .before in
+    let dx = dy .before .before .before .before .before in
+    let start = dx .before .before .before .before in
+    followed
+    (whole (start .args .d .dx) (record { sfits = dx .before .struct-told .given .0 .1 }) (dx .append-integer .ensures))
+    (whole (start .args .d .dy) (record { sfits = dy .before .struct-told2 .given .1 .0 .1 }) (dy .append-integer2 .ensures))
+
+pub append-direction-spec : {M : Type 1} → statement M
+append-direction-spec =
+    tie.close (tie.spec append-integer-requires append-integer-requires-2 same-length returns)

@@ -1,0 +1,42 @@
+-- `report::append_pair` meets its contract. Three numbers in turn, each read back whole from its bits.
+use borrow.Author.Needs.{needs}
+use Rattle.report.specs.Line.{pair}
+use Rattle.report.proofs.Put.{followed}
+use Rattle.report.proofs.Integer.{whole}
+use Rattle.report.proofs.append_pair.Statement.{statement}
+use Rattle.report.proofs.append_pair.Tie as tie
+
+append-integer-requires : tie.Need-append-integer-requires
+append-integer-requires c κs = search needs
+
+append-integer-requires-2 : tie.Need-append-integer-requires-2
+append-integer-requires-2 c κs = search needs
+
+append-integer-requires-3 : tie.Need-append-integer-requires-3
+append-integer-requires-3 c κs = search needs
+
+same-length : tie.Need-same-length
+same-length c = search needs
+
+returns : tie.Need-returns
+unfolding pair
+returns c =
+    let d = c .before .before in
+    let y = d .before .before .before .before .before in
+    let x = y .before .before .before .before .before in
+    let start = x .before .before .before .before in
+    followed
+    (whole (start .args .v .x) (record { sfits = x .before .struct-told .given .0 .1 }) (x .append-integer .ensures))
+    (followed
+    (whole (start .args .v .y) (record { sfits = y .before .struct-told2 .given .1 .0 .1 }) (y .append-integer2 .ensures))
+    (whole (start .args .v .d) (record { sfits = d .before .struct-told3 .given .1 .1 .0 .1 }) (d .append-integer3 .ensures)))
+
+pub append-pair-spec : {M : Type 1} → statement M
+append-pair-spec =
+    tie.close
+    (tie.spec
+    append-integer-requires
+    append-integer-requires-2
+    append-integer-requires-3
+    same-length
+    returns)

@@ -1,0 +1,52 @@
+-- `report::append_witness` meets its contract. What each weight prints makes up what the list of named entries prints.
+use borrow.Author.Needs.{needs}
+use Rattle.report.proofs.Put.{followed, spelt}
+use Rattle.report.proofs.Witness.{whole-entry, witness-parts}
+use Rattle.report.proofs.append_witness.Statement.{statement}
+use Rattle.report.proofs.append_witness.Tie as tie
+
+count-named-requires : tie.Need-count-named-requires
+count-named-requires c κs = search needs
+
+append-number-requires : tie.Need-append-number-requires
+append-number-requires c κs = search needs
+
+append-weighted-requires : tie.Need-append-weighted-requires
+append-weighted-requires c κs = search needs
+
+append-weighted-requires-2 : tie.Need-append-weighted-requires-2
+append-weighted-requires-2 c κs = search needs
+
+append-weighted-requires-3 : tie.Need-append-weighted-requires-3
+append-weighted-requires-3 c κs = search needs
+
+same-length : tie.Need-same-length
+same-length c = search needs
+
+returns : tie.Need-returns
+returns c =
+    let third = c .before .before in
+    let second = third .before .before .before .before .before in
+    let first = second .before .before .before .before .before in
+    let number = first .before .before .before .before .before in
+    let count = number .before .before in
+    let start = count .before .before in
+    let k = start .args .k in
+    spelt
+    (witness-parts k (count .count-named .result) (count .count-named .ensures))
+    (followed (number .append-number .ensures)
+    (followed (whole-entry (k .first) (k .«first_weight») (record { sfits = first .before .struct-told .given .1 .0 .1 }) (first .append-weighted .ensures))
+    (followed (whole-entry (k .second) (k .«second_weight») (record { sfits = second .before .struct-told2 .given .1 .1 .1 .0 .1 }) (second .append-weighted2 .ensures))
+    (whole-entry (k .third) (k .«third_weight») (record { sfits = third .before .struct-told3 .given .1 .1 .1 .1 .1 .0 .1 }) (third .append-weighted3 .ensures)))))
+
+pub append-witness-spec : {M : Type 1} → statement M
+append-witness-spec =
+    tie.close
+    (tie.spec
+    count-named-requires
+    append-number-requires
+    append-weighted-requires
+    append-weighted-requires-2
+    append-weighted-requires-3
+    same-length
+    returns)

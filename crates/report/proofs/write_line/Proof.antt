@@ -1,0 +1,45 @@
+-- `report::write_line` meets its contract. A small buffer is left alone; else the fields and the line feed make up the line.
+use native.Mathlib.Omega.{arith}
+use borrow.Author.Needs.{needs}
+use Rattle.report.proofs.Put.{too-small, line-stands}
+use Rattle.report.proofs.write_line.Statement.{statement}
+use Rattle.report.proofs.write_line.Tie as tie
+
+returns : tie.Need-returns
+returns c =
+    let start = c .before .before in
+    too-small (start .args .answer) (start .args .out .now) (omega arith)
+
+append-fields-requires : tie.Need-append-fields-requires
+append-fields-requires c κs = search needs
+
+slice-aggregate-append-word : tie.Need-slice-aggregate-append-word
+slice-aggregate-append-word c = search needs
+
+append-word-requires : tie.Need-append-word-requires
+append-word-requires c κs = search needs
+
+add-result : tie.Need-add-result
+add-result c = search needs
+
+same-length : tie.Need-same-length
+same-length c = search needs
+
+returns-2 : tie.Need-returns-2
+returns-2 c =
+    let feed = c .before .before in
+    let fields = feed .before .before .before .before .before in
+    let start = fields .before .before .before .before in
+    line-stands (start .args .answer) (omega arith) (omega arith) (fields .append-fields .ensures) (feed .append-word .ensures)
+
+pub write-line-spec : {M : Type 1} → statement M
+write-line-spec =
+    tie.close
+    (tie.spec
+    returns
+    append-fields-requires
+    slice-aggregate-append-word
+    append-word-requires
+    add-result
+    same-length
+    returns-2)

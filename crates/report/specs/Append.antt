@@ -1,0 +1,30 @@
+-- What the functions that make a line promise: bytes are put into a lent buffer at a place, and nothing else of it changes.
+use mathlib.Core.Path.{_≡_}
+use mathlib.Core.List.{List, _++_}
+use Prim.Native.Nat.{ℕ, _+_, _≤_, _<_}
+use lib.ListN.{length, drop}
+use lib.Seq.{sets}
+use Rattle.report.specs.declared.Answer.{Answer}
+use Rattle.report.specs.Line.{lineOf}
+
+-- the buffer has room for so many bytes from a place on
+pub record Room (out : List ℕ) (at room : ℕ) : Type 0 where
+  pub free : at + room ≤ length out
+
+-- the bytes stand in the buffer from a place on, and what is handed back is the place after them; they took no more than the room
+pub record Appended (before : List ℕ) (at : ℕ) (bytes : List ℕ) (room : ℕ) (after : List ℕ) (next : ℕ) : Type 0 where
+  pub stored : after ≡ sets before at bytes
+  pub moved : next ≡ at + length bytes
+  pub small : length bytes ≤ room
+
+-- the buffer's least size, enough for the line of any answer
+abbrev pub lineRoom : ℕ
+lineRoom = 256
+
+-- a buffer below that size is left as it was; else the line stands at its start and every byte after it is as it was
+pub record Written (answer : Answer) (before after : List ℕ) (count : ℕ) : Type 0 where
+  pub untouched : length before < lineRoom → after ≡ before
+  pub nothing : length before < lineRoom → count ≡ 0
+  pub line : lineRoom ≤ length before → after ≡ lineOf answer ++ drop (length (lineOf answer)) before
+  pub counted : lineRoom ≤ length before → count ≡ length (lineOf answer)
+  pub enough : count ≤ lineRoom
