@@ -1,5 +1,4 @@
 use borrow.Author.Needs.{needs}
-use lib.Dec.{lit<}
 use native.Mathlib.Omega.{arith}
 use Prim.Native.Nat.{ℕ, _-_, _≤_, _<_}
 use mathlib.Core.Path.{_≡_, refl, sym, ap, _∙_}
@@ -43,9 +42,11 @@ fault Bound h e = omega arith
 count-requires : tie.Need-count-requires Inv-loop μ-loop
 count-requires c κs = tt
 
--- src/links.rt:35:5
-array-write-seen : tie.Need-array-write-seen Inv-loop μ-loop
-array-write-seen c = lit< tt
+only-header-requires : tie.Need-only-header-requires Inv-loop μ-loop
+only-header-requires c κs = tt
+
+no-records-requires : tie.Need-no-records-requires Inv-loop μ-loop
+no-records-requires c κs = tt
 
 -- src/links.rt:39:9
 link-at-requires : tie.Need-link-at-requires Inv-loop μ-loop
@@ -54,8 +55,9 @@ link-at-requires c κs = tt
 -- src/links.rt:40:5
 loop-holds : tie.Need-loop-holds Inv-loop μ-loop
 loop-holds c =
-    let e : c .before .count .result ≡ countOf v1 (c .before .before .before .args .book .now) = c .before .count .ensures in
-    (e, rw e (c .before .before .before .pre), walking-start (c .before .before .before .args .book .now) (c .link-at .result) (c .link-at .ensures))
+    let s = c .before .before .before .before .before .args .book .now in
+    let e : c .before .before .before .count .result ≡ countOf v1 s = c .before .before .before .count .ensures in
+    (e, rw e (c .before .before .before .before .before .pre), walking-start s (c .link-at .result) (c .before .before .only-header .ensures) (c .before .no-records .ensures) (c .link-at .ensures))
 
 -- src/links.rt:42:13
 refused-requires : tie.Need-refused-requires Inv-loop μ-loop
@@ -120,8 +122,8 @@ room c =
     walking-room (l .inv .2) (c .before .before .before .before .before .before .loop-test .taken) (rw (l .inv .0) at (c .before .before .before .before .before .if1 .left)) (omega arith) (c .before .before .before .before .if2 .left)
 
 -- src/links.rt:52:9
-array-write-seen-2 : tie.Need-array-write-seen-2 Inv-loop μ-loop
-array-write-seen-2 c = omega arith
+array-write-seen : tie.Need-array-write-seen Inv-loop μ-loop
+array-write-seen c = omega arith
 
 -- src/links.rt:53:9
 mul-records : tie.Need-mul-records Inv-loop μ-loop
@@ -163,7 +165,8 @@ walk-spec =
     Inv-loop
     μ-loop
     count-requires
-    array-write-seen
+    only-header-requires
+    no-records-requires
     link-at-requires
     loop-holds
     refused-requires
@@ -177,7 +180,7 @@ walk-spec =
     number-of-requires
     refused-requires-3
     returns-3
-    array-write-seen-2
+    array-write-seen
     mul-records
     array-write-records
     add-n
