@@ -1,11 +1,11 @@
 // The walk along the links, with the causes 6 to 10.
 use crate::Chain;
 use crate::Decoded;
-use crate::decode::decode;
 use crate::decode::link_at;
 use crate::decode::number_of;
 use crate::header::count;
 use crate::header::objective;
+use crate::visit;
 use lp::Functional;
 ghost use mathlib.Core.Path.{_≡_};
 ghost use mathlib.Core.Bool.{true, false};
@@ -65,7 +65,7 @@ pub fn walk(book: &[u8]) -> Chain
         if seen[index] {
             return refused(7, at);
         }
-        let decoded = decode(book, link);
+        let decoded = visit(book, link);
         let Decoded::Sound(_, next) = decoded else {
             return refused(number_of(decoded), link);
         };

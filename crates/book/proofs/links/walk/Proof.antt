@@ -18,7 +18,7 @@ use Rattle.book.proofs.links.walk.Statement.{statement}
 use Rattle.book.proofs.links.walk.Tie as tie
 use Rattle.book.proofs.links.walk.Reads as reads
 use Rattle.book.proofs.links.walk.Lts as lts
-use Rattle.book.proofs.decode.decode.Reads as decode-reads
+use Rattle.book.proofs.visit.Reads as visit-reads
 use Rattle.book.proofs.decode.link_at.Reads as link-at-reads
 use Rattle.book.proofs.decode.number_of.Reads as number-of-reads
 use Rattle.book.proofs.header.count.Reads as count-reads
@@ -89,8 +89,8 @@ returns-2 c =
     ∙ ap chainOf (sym (walking-again (l .inv .2) (c .before .before .before .loop-test .taken) (rw (l .inv .0) at (c .before .before .if1 .left)) (omega arith) (c .before .if2 .taken)))
 
 -- src/links.rt:48:13
-decode-requires : tie.Need-decode-requires Inv-loop μ-loop
-decode-requires c κs = tt
+visit-requires : tie.Need-visit-requires Inv-loop μ-loop
+visit-requires c κs = tt
 
 -- src/links.rt:49:31
 enum-known-decoded : tie.Need-enum-known-decoded Inv-loop μ-loop
@@ -108,7 +108,7 @@ refused-requires-3 c κs = tt
 returns-3 : tie.Need-returns-3 Inv-loop μ-loop
 returns-3 c =
     let l = c .before .before .before .before .before .before .before .loop in
-    let d = c .before .before .before .decode in
+    let d = c .before .before .before .visit in
     let f = fault (d .result) (c .before .before .match .keys2) in
     c .refused3 .ensures
     ∙ ap chainOf
@@ -145,7 +145,7 @@ loop-less c = omega (arith, room c)
 loop-again : tie.Need-loop-again Inv-loop μ-loop
 loop-again c =
     let l = c .before .before .before .before .before .before .before .loop in
-    let d = c .before .before .before .decode in
+    let d = c .before .before .before .visit in
     let e = c .before .decoded .given .1 in
     let held = sound-holds v1 _ _ _ (sym (d .ensures) ∙ e) .1 in
     (l .inv .0, l .inv .1, walking-step (l .inv .2) (c .before .before .before .before .before .before .loop-test .taken) (rw (l .inv .0) at (c .before .before .before .before .before .if1 .left)) (omega arith) (c .before .before .before .before .if2 .left) _ (ap numberOf (sym (d .ensures) ∙ e)) held)
@@ -175,7 +175,7 @@ walk-spec =
     array-read-if2
     refused-requires-2
     returns-2
-    decode-requires
+    visit-requires
     enum-known-decoded
     number-of-requires
     refused-requires-3
