@@ -1,18 +1,14 @@
+-- `book::links::refused` meets its contract: a refusal has no objective and no records.
 use borrow.Author.Needs.{needs}
 use mathlib.Core.Path.{refl}
 use lib.IntN.{pos}
 use Rattle.book.specs.Answers.{chainOf}
 use Rattle.book.proofs.links.refused.Statement.{statement}
 use Rattle.book.proofs.links.refused.Tie as tie
-use Rattle.book.proofs.links.refused.Reads as reads
-use Rattle.book.proofs.links.refused.Lts as lts
-use Rattle.book.proofs.links.no_records.Reads as no-records-reads
 
--- src/links.rt:45:18
 no-records-requires : tie.Need-no-records-requires
 no-records-requires c κs = search needs
 
--- src/links.rt:37:1
 returns : tie.Need-returns
 unfolding chainOf
 returns c =

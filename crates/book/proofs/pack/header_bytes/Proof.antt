@@ -1,3 +1,4 @@
+-- `book::pack::header_bytes` meets its contract: p and q as they stand, and the count of the rules.
 use borrow.Author.Needs.{needs}
 use mathlib.Core.Path.{_≡_, refl, sym, ap, _∙_}
 use Prim.Native.Nat.{ℕ, _*_}
@@ -9,24 +10,16 @@ use Rattle.book.specs.Repacking.{recordBytes}
 use Rattle.book.proofs.Fields.{kind-at, a-at, b-at, c-at, label-at}
 use Rattle.book.proofs.pack.header_bytes.Statement.{statement}
 use Rattle.book.proofs.pack.header_bytes.Tie as tie
-use Rattle.book.proofs.pack.header_bytes.Reads as reads
-use Rattle.book.proofs.pack.header_bytes.Lts as lts
-use Rattle.book.proofs.bytes.number2.Reads as number2-reads
-use Rattle.book.proofs.pack.record_bytes.Reads as record-bytes-reads
 
--- src/pack.rt:47:27
 number2-requires : tie.Need-number2-requires
 number2-requires c κs = search needs
 
--- src/pack.rt:47:45
 number2-requires-2 : tie.Need-number2-requires-2
 number2-requires-2 c κs = search needs
 
--- src/pack.rt:47:5
 record-bytes-requires : tie.Need-record-bytes-requires
 record-bytes-requires c κs = search needs
 
--- src/pack.rt:44:1
 returns : tie.Need-returns
 returns c =
     let s = c .before .before .before .before .args .book .now in

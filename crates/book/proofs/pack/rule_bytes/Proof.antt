@@ -1,3 +1,4 @@
+-- `book::pack::rule_bytes` meets its contract: the fields as they stand, with another link.
 use borrow.Author.Needs.{needs}
 use mathlib.Core.Path.{_≡_, refl, sym, ap, _∙_}
 use Prim.Native.Nat.{ℕ, _*_}
@@ -9,66 +10,46 @@ use Rattle.book.specs.Repacking.{recordBytes}
 use Rattle.book.proofs.Fields.{kind-at, a-at, b-at, c-at, label-at}
 use Rattle.book.proofs.pack.rule_bytes.Statement.{statement}
 use Rattle.book.proofs.pack.rule_bytes.Tie as tie
-use Rattle.book.proofs.pack.rule_bytes.Reads as reads
-use Rattle.book.proofs.pack.rule_bytes.Lts as lts
-use Rattle.book.proofs.bytes.byte_at.Reads as byte-at-reads
-use Rattle.book.proofs.bytes.number2.Reads as number2-reads
-use Rattle.book.proofs.bytes.number4.Reads as number4-reads
-use Rattle.book.proofs.pack.record_bytes.Reads as record-bytes-reads
 
--- src/pack.rt:54:14
 mul-at : tie.Need-mul-at
 mul-at c = search needs
 
--- src/pack.rt:55:30
 cast-byte-at : tie.Need-cast-byte-at
 cast-byte-at c = search needs
 
--- src/pack.rt:55:30
 add-byte-at : tie.Need-add-byte-at
 add-byte-at c = search needs
 
--- src/pack.rt:55:9
 byte-at-requires : tie.Need-byte-at-requires
 byte-at-requires c κs = search needs
 
--- src/pack.rt:59:23
 add-number2 : tie.Need-add-number2
 add-number2 c = search needs
 
--- src/pack.rt:59:9
 number2-requires : tie.Need-number2-requires
 number2-requires c κs = search needs
 
--- src/pack.rt:60:23
 add-number2-2 : tie.Need-add-number2-2
 add-number2-2 c = search needs
 
--- src/pack.rt:60:9
 number2-requires-2 : tie.Need-number2-requires-2
 number2-requires-2 c κs = search needs
 
--- src/pack.rt:61:23
 add-number2-3 : tie.Need-add-number2-3
 add-number2-3 c = search needs
 
--- src/pack.rt:61:9
 number2-requires-3 : tie.Need-number2-requires-3
 number2-requires-3 c κs = search needs
 
--- src/pack.rt:62:23
 add-number4 : tie.Need-add-number4
 add-number4 c = search needs
 
--- src/pack.rt:62:9
 number4-requires : tie.Need-number4-requires
 number4-requires c κs = search needs
 
--- src/pack.rt:56:5
 record-bytes-requires : tie.Need-record-bytes-requires
 record-bytes-requires c κs = search needs
 
--- src/pack.rt:51:1
 returns : tie.Need-returns
 returns c =
     let s = c .before .before .before .before .before .before .before .args .book .now in
