@@ -1,19 +1,19 @@
 -- The walk along the links, a link at a time, and the marks of the records visited. A mark is set for each record visited, and none is set twice:
 -- so the marks that are left count down, and the walk ends.
-use Prim.Native.Nat.{ℕ, zero, suc, _+_, _-_, _*_, _≤_, _<_, zero-le, suc-le-suc}
+use Prim.Native.Nat.{ℕ, zero, suc, _+_, _-_, _≤_, _<_}
 use mathlib.Core.Path.{_≡_, refl, sym, ap, _∙_, subst⁻¹}
-use mathlib.Core.Bool.{Bool, true, false, cond, _||_}
+use mathlib.Core.Bool.{Bool, true, false, _||_}
 use mathlib.Core.List.{List, [], _∷_, _++_, map, append-assoc}
 use native.Mathlib.Omega.{arith}
 use native.Mathlib.Nat.{le-of-suc-le-suc}
 use native.Mathlib.Decide.{ℕ-discrete}
-use borrow.Author.Tests.{lt-ltb, le-ltb, eq-eqb, ne-eqb, eqb-true}
+use borrow.Author.Tests.{lt-ltb, le-ltb, eq-eqb, ne-eqb}
 use lib.ListN.{length, getD, set, replicate, length-set, length-replicate, getD-replicate, length-append, length-map}
 use lib.Seq.{getD-set-same, getD-set-other, set-at}
-use lib.Dec.{eqb, ltb}
+use lib.Dec.{eqb}
 use Rattle.book.specs.Layout.{Layout, v1}
 use Rattle.book.specs.Record.{recordAt, linkOf, decodedOf, numberOf}
-use Rattle.book.specs.Reading.{Reading, refused, accepted, objectiveOf, countOf, entryAt, memb, follow, walk}
+use Rattle.book.specs.Reading.{refused, accepted, objectiveOf, countOf, entryAt, memb, follow, walk}
 use Rattle.lp.specs.declared.Functional.{Functional}
 use Rattle.book.specs.declared.Chain.{Chain}
 use Rattle.book.specs.Answers.{padded, chainOf, indexIn}

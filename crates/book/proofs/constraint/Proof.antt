@@ -1,7 +1,6 @@
 -- `book::constraint` meets its contract: kind 2 turned round number by number, any other kind as written.
 use borrow.Author.Needs.{needs}
 use mathlib.Core.Path.{_≡_, _∙_, ap}
-use lib.IntN.{ℤ}
 use mir.Syntax.{w64}
 use mir.Val.{toZ, ofZ}
 use Rattle.book.specs.Answers.{turned}

@@ -1,11 +1,7 @@
 -- `book::repack` meets its contract: refused as read; without room; or the header and then the rules (`packs-packed`).
 use borrow.Author.Needs.{needs}
 use native.Mathlib.Omega.{arith}
-use Prim.Native.Nat.{ℕ, _+_, _*_, _≤_}
-use mathlib.Core.Path.{_≡_, refl, sym, ap, _∙_}
-use lib.ListN.{length}
-use Rattle.book.specs.Layout.{v1}
-use Rattle.book.specs.Answers.{Room}
+use Prim.Native.Nat.{_≤_}
 use Rattle.book.proofs.Output.{Chained, chain-refused, chain-accepted, packs-refused, packs-declined, packs-packed}
 use Rattle.book.proofs.Packed.{next-small}
 use Rattle.book.proofs.repack.Statement.{statement}

@@ -1,6 +1,5 @@
 -- `book::rule_at` meets its contract: each field, at its offset.
 use borrow.Author.Needs.{needs}
-use Prim.Native.Nat.{_*_, _+_}
 use mathlib.Core.Path.{_≡_, _∙_, ap}
 use mir.Syntax.{w16, w32, w64}
 use mir.Val.{toZ, ofZ}

@@ -1,7 +1,6 @@
 -- `book_vectors::print_bytes` meets its contract.
 use borrow.Author.Needs.{needs}
-use native.Mathlib.Omega.{arith}
-use Prim.Native.Nat.{_-_, _≤_, _+_}
+use Prim.Native.Nat.{_-_, _≤_}
 use lib.ListN.{length}
 use Rattle.book_vectors.proofs.print_bytes.Statement.{statement}
 use Rattle.book_vectors.proofs.print_bytes.Tie as tie

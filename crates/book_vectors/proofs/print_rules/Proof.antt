@@ -1,8 +1,6 @@
 -- `book_vectors::print_rules` meets its contract.
 use borrow.Author.Needs.{needs}
-use native.Mathlib.Omega.{arith}
-use Prim.Native.Nat.{_-_, _≤_, _+_}
-use lib.ListN.{length}
+use Prim.Native.Nat.{_-_, _≤_}
 use Rattle.book_vectors.proofs.print_rules.Statement.{statement}
 use Rattle.book_vectors.proofs.print_rules.Tie as tie
 

@@ -4,7 +4,7 @@ use native.Mathlib.Omega.{arith}
 use mathlib.Core.Path.{_≡_, refl, _∙_}
 use lib.IntN.{pos, _-ℤ_}
 use lib.Dec.{lit≤}
-use mir.Syntax.{w16, w32, w64}
+use mir.Syntax.{w32, w64}
 use mir.Val.{toZ}
 use mir.Facts.{toZ-ofZ}
 use Rattle.book.proofs.Numbers.{signed-low, signed-high, signed-wide}

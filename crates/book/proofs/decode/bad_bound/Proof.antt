@@ -1,9 +1,9 @@
 -- `book::decode::bad_bound` meets its contract: the test of c, of the field itself.
 use borrow.Author.Needs.{needs}
-use mathlib.Core.Path.{_≡_, sym, ap, _∙_}
+use mathlib.Core.Path.{_≡_, ap, _∙_}
 use mir.Syntax.{w64}
 use mir.Val.{toZ, ofZ}
-use Rattle.book.specs.Record.{lowest, beyond}
+use Rattle.book.specs.Record.{beyond}
 use Rattle.book.proofs.decode.bad_bound.Statement.{statement}
 use Rattle.book.proofs.decode.bad_bound.Tie as tie
 

@@ -1,6 +1,4 @@
 -- `book::decode::bad_kind` meets its contract: kind 1 is good, and any other is good if it is 2.
-use mathlib.Core.Path.{_≡_, sym}
-use borrow.Author.Tests.{eq-eqb, ne-eqb}
 use Rattle.book.proofs.Checks.{kind-one, kind-other}
 use Rattle.book.proofs.decode.bad_kind.Statement.{statement}
 use Rattle.book.proofs.decode.bad_kind.Tie as tie

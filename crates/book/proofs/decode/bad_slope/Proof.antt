@@ -4,7 +4,7 @@ use mathlib.Core.Path.{_≡_, sym, ap, _∙_}
 use mathlib.Core.Bool.{true, false}
 use mir.Syntax.{w64}
 use mir.Val.{toZ, ofZ}
-use Rattle.book.specs.Record.{lowest, beyond}
+use Rattle.book.specs.Record.{lowest}
 use Rattle.book.proofs.decode.bad_slope.Statement.{statement}
 use Rattle.book.proofs.decode.bad_slope.Tie as tie
 

@@ -1,10 +1,10 @@
 -- `book::decode::beyond` meets its contract: below the range, or above it.
-use mathlib.Core.Path.{_≡_, refl, sym, ap, _∙_}
+use mathlib.Core.Path.{_≡_, sym, ap, _∙_}
 use mathlib.Core.Bool.{true, false}
-use lib.IntN.{ℤ, pos, negsuc}
+use lib.IntN.{negsuc}
 use lib.Signed.{ltZ}
 use mir.Syntax.{w64}
-use mir.Val.{toZ, ofZ, SFits}
+use mir.Val.{toZ, ofZ}
 use mir.Facts.{toZ-ofZ}
 use Rattle.book.proofs.decode.beyond.Statement.{statement}
 use Rattle.book.proofs.decode.beyond.Tie as tie

@@ -1,6 +1,6 @@
 -- `book::decode::decode` meets its contract: the check of the fields that are read is the definition.
 use borrow.Author.Needs.{needs}
-use mathlib.Core.Path.{_≡_, _∙_, ap₂}
+use mathlib.Core.Path.{_∙_, ap₂}
 use mathlib.Core.Bool.{true}
 use Rattle.book.specs.Number.{number}
 use Rattle.book.specs.Record.{decodedOf, checked}

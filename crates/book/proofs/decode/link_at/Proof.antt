@@ -1,7 +1,6 @@
 -- `book::decode::link_at` meets its contract: a version 1 link is the record's first byte.
 use borrow.Author.Needs.{needs}
-use Prim.Native.Nat.{_*_}
-use mathlib.Core.Path.{sym, _∙_}
+use mathlib.Core.Path.{_∙_}
 use Rattle.book.proofs.Fields.{link-at}
 use Rattle.book.proofs.decode.link_at.Statement.{statement}
 use Rattle.book.proofs.decode.link_at.Tie as tie

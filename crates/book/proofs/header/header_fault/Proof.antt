@@ -1,16 +1,12 @@
 -- `book::header::header_fault` meets its contract: each way out is one case of `headerFault`, in the order of the table.
 use borrow.Author.Needs.{needs}
-use Prim.Native.Nat.{_-_, _/_}
 use mathlib.Core.Path.{_≡_, sym, _∙_, ap}
-use mathlib.Core.Bool.{Bool}
-use lib.ListN.{length}
-use lib.IntN.{ℤ}
 use mir.Syntax.{w64}
 use mir.Val.{toZ, ofZ}
 use Rattle.lp.specs.declared.Functional.{Functional}
 use Rattle.book.specs.Layout.{v1}
 use Rattle.book.specs.Record.{recordAt, kindOf, cOf, lowest}
-use Rattle.book.specs.Reading.{countOf, objectiveOf}
+use Rattle.book.specs.Reading.{objectiveOf}
 use Rattle.book.proofs.Fields.{kind-at, c-at}
 use Rattle.book.proofs.HeaderTests.{too-short, too-long, no-multiple, other-version, other-count, lowest-p, lowest-q, tail-set, tail-clear}
 use Rattle.book.proofs.header.header_fault.Statement.{statement}

@@ -1,6 +1,5 @@
 -- `book::links::refused` meets its contract: a refusal has no objective and no records.
 use borrow.Author.Needs.{needs}
-use mathlib.Core.Path.{refl}
 use lib.IntN.{pos}
 use Rattle.book.specs.Answers.{chainOf}
 use Rattle.book.proofs.links.refused.Statement.{statement}

@@ -1,8 +1,8 @@
 -- `book::links::walk` meets its contract: the loop's invariant is `Walking`: what is left to walk comes to what the whole does. The measure is the records that are not visited.
 use borrow.Author.Needs.{needs}
 use native.Mathlib.Omega.{arith}
-use Prim.Native.Nat.{ℕ, _-_, _≤_, _<_}
-use mathlib.Core.Path.{_≡_, refl, sym, ap, _∙_}
+use Prim.Native.Nat.{_-_, _≤_, _<_}
+use mathlib.Core.Path.{_≡_, sym, ap, _∙_}
 use mathlib.Core.List.{[], _∷_}
 use types.Run.{OneOf, miss}
 use denote.Enum.Declared.{tagOf}
@@ -13,7 +13,7 @@ use Rattle.book.specs.Record.{numberOf}
 use Rattle.book.specs.Layout.{v1}
 use Rattle.book.specs.Reading.{countOf, refused}
 use Rattle.book.specs.Answers.{chainOf}
-use Rattle.book.proofs.Walking.{Walking, walking-start, walking-ends, walking-over, walking-again, walking-fault, walking-room, walking-step, walked}
+use Rattle.book.proofs.Walking.{Walking, walking-start, walking-over, walking-again, walking-fault, walking-room, walking-step, walked}
 use Rattle.book.proofs.Checks.{sound-holds}
 use Rattle.book.proofs.links.walk.Statement.{statement}
 use Rattle.book.proofs.links.walk.Tie as tie

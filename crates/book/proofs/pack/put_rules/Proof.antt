@@ -1,8 +1,8 @@
 -- `book::pack::put_rules` meets its contract: after k turns the first k rules are copied; each turn copies one record more (`paste-next`).
 use borrow.Author.Needs.{needs}
 use native.Mathlib.Omega.{arith}
-use Prim.Native.Nat.{ℕ, _+_, _-_, _*_, _≤_, _<_}
-use mathlib.Core.Path.{_≡_, refl, sym, ap, _∙_}
+use Prim.Native.Nat.{_+_, _-_, _*_, _≤_}
+use mathlib.Core.Path.{_≡_, refl, ap, _∙_}
 use lib.ListN.{length, take}
 use lib.Seq.{paste, paste-zero}
 use Rattle.book.specs.Layout.{v1}
