@@ -50,6 +50,10 @@ constraintOf r =
     (record { a = turned (r .a); b = turned (r .b); c = turned (r .c) })
     (record { a = r .a; b = r .b; c = r .c })
 
+-- the rules of a chain as they are planned, in order
+abbrev pub constraintsIn : List Entry → List Constraint
+constraintsIn es = map (λ (e : Entry). constraintOf (e .rule)) es
+
 -- the rules of some records
 abbrev pub rulesAt : List ℕ → List ℕ → List Rule
 rulesAt s is = map (λ (i : ℕ). ruleOf v1 (recordAt v1 s i)) is
