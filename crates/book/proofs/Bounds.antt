@@ -1,27 +1,26 @@
 -- What holds of every accepted book: its chain has no more entries than the header counts, each of them a record after the header, none twice,
 -- and its numbers are within document 01's ranges.
-use Prim.Native.Nat.{ℕ, zero, suc, _+_, _-_, _≤_, _<_}
+use Prim.Native.Nat.{ℕ, zero, suc, _-_, _≤_, _<_}
 use mathlib.Core.Path.{_≡_, refl, sym, ap, _∙_, subst, subst⁻¹}
 use mathlib.Core.Bool.{Bool, true, false, _||_}
 use mathlib.Core.List.{List, [], _∷_, _++_, map}
-use mathlib.Core.Logic.{_⊎_, inl, inr, ⊎-elim}
+use mathlib.Core.Logic.{_⊎_, inl, inr}
 use native.Mathlib.Omega.{arith}
 use native.Mathlib.Decide.{ℕ-discrete, decLt}
-use borrow.Author.Tests.{lt-ltb, le-ltb, ltb-true, ltb-false, eq-eqb}
-use lib.ListN.{length, getD, length-append, length-map, List·getD-append, List·getD-map}
+use borrow.Author.Tests.{ltb-true, ltb-false, eq-eqb}
+use lib.ListN.{length, getD, length-append, length-map, List·getD-append}
 use lib.Seq.{getD-at}
-use lib.Dec.{eqb, ltb, T, lt→ltb}
+use lib.Dec.{eqb, ltb, lt→ltb}
 use lib.IntN.{ℤ, pos, negsuc, natAbs}
 use lib.Signed.{_<ℤ_}
 use mir.Syntax.{w16}
 use mir.Val.{toZ, sel}
 use Rattle.lp.specs.declared.Functional.{Functional}
-use Rattle.book.specs.declared.Rule.{Rule}
-use Rattle.book.specs.Layout.{Layout, width}
-use Rattle.book.specs.Record.{recordAt, linkOf, kindOf, padOf, aOf, bOf, cOf, ruleOf}
-use Rattle.book.specs.Reading.{Reading, refused, accepted, Entry, objectiveOf, countOf, entryAt, memb, readOf}
+use Rattle.book.specs.Layout.{Layout}
+use Rattle.book.specs.Record.{recordAt, kindOf, aOf, bOf, ruleOf}
+use Rattle.book.specs.Reading.{accepted, Entry, objectiveOf, countOf, entryAt, memb, readOf}
 use Rattle.book.specs.Answers.{indexIn}
-use Rattle.book.specs.Causes.{WrongObjective, WrongKind, WrongSlope, WrongBound, p-lowest, q-lowest, neither, a-lowest, b-lowest, low, high, Walked, header, visit, Accepts}
+use Rattle.book.specs.Causes.{WrongKind, WrongSlope, WrongBound, p-lowest, q-lowest, neither, a-lowest, b-lowest, low, high, Walked, header, visit, Accepts}
 use Rattle.book.specs.Lawful.{LawfulObjective, LawfulRule}
 use Rattle.book.proofs.Walking.{indices}
 use Rattle.book.proofs.Causes.{acceptance-means, walked-length, walked-count}

@@ -1,10 +1,9 @@
 -- Both directions of reading: what `readOf` says is what document 01's table says. A refusal's cause applies and none before it does; an accepted
 -- book's chain ends with no cause on the way; and where a cause applies first, the book is refused with its number and record.
-use Prim.Native.Nat.{ℕ, zero, suc, _+_, _-_, _*_, _/_, _%_, _≤_, _<_}
+use Prim.Native.Nat.{ℕ, zero, suc, _+_, _-_, _*_, _/_, _≤_, _<_}
 use mathlib.Core.Path.{_≡_, refl, sym, ap, _∙_, subst, ap₂}
 use mathlib.Core.Bool.{Bool, true, false, cond}
-use mathlib.Core.List.{List, [], _∷_, _++_, map}
-use mathlib.Core.Logic.{⊎-elim}
+use mathlib.Core.List.{List, [], _∷_, _++_}
 use native.Mathlib.Omega.{arith}
 use native.Mathlib.Decide.{ℕ-discrete}
 use native.Mathlib.Nat.{div-le-of-le-mul, le-div-iff-mul-le, one-mul}
@@ -12,11 +11,10 @@ use borrow.Author.Tests.{eq-eqb, ne-eqb, ltb-true, ltb-false, eqb-true, eqb-fals
 use lib.ListN.{length, set, replicate, length-append}
 use lib.Dec.{eqb, ltb}
 use Rattle.lp.specs.declared.Functional.{Functional}
-use Rattle.book.specs.declared.Decoded.{Decoded}
 use Rattle.book.specs.declared.Decoded.the-variants.{Sound, Kind, Slope, Bound}
 use Rattle.book.specs.Layout.{Layout, width}
 use Rattle.book.specs.Record.{recordAt, linkOf, padOf, ruleOf, badKind, badSlope, badBound, checked, decodedOf, numberOf}
-use Rattle.book.specs.Reading.{Reading, refused, accepted, Entry, objectiveOf, countOf, entryAt, memb, headerFault, badLength, badVersion, badCount, badObjective, badTail, walk, readOf}
+use Rattle.book.specs.Reading.{refused, accepted, Entry, countOf, memb, headerFault, badLength, badVersion, badCount, badObjective, badTail, walk, readOf}
 use Rattle.book.specs.Causes.{WrongLength, WrongVersion, WrongCount, WrongObjective, WrongTail, WrongKind, WrongSlope, WrongBound, short, long, differs, Walked, header, visit, Reached, Applies, cause-1, cause-2, cause-3, cause-4, cause-5, cause-6, cause-7, cause-8, cause-9, cause-10, Accepts, Meets}
 use Rattle.book.proofs.Decided.{refutes, refuted, length-test, version-test, count-test, objective-test, tail-test, kind-test, slope-test, bound-test}
 use Rattle.book.proofs.Walking.{walk-ends, walk-over, walk-again, walk-fault, walk-on, Marked, marked-start, marked-step}

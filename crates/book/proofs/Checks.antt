@@ -1,7 +1,7 @@
 -- The check of a rule, test by test, as the code goes through them.
-use Prim.Native.Nat.{ℕ, zero, suc, _≤_, _<_}
-use mathlib.Core.Path.{_≡_, refl, sym, ap, _∙_}
-use mathlib.Core.Bool.{Bool, true, false, cond, not, _||_, _&&_}
+use Prim.Native.Nat.{ℕ}
+use mathlib.Core.Path.{_≡_, refl, sym, ap}
+use mathlib.Core.Bool.{Bool, true, false, cond, not, _&&_}
 use mathlib.Core.List.{List}
 use native.Mathlib.Omega.{arith}
 use borrow.Author.Tests.{eq-eqb, ne-eqb}
@@ -11,7 +11,7 @@ use Rattle.lp.specs.declared.Constraint.{Constraint}
 use Rattle.book.specs.declared.Rule.{Rule}
 use Rattle.book.specs.declared.Decoded.the-variants.{Sound, Kind, Slope, Bound}
 use Rattle.book.specs.Layout.{Layout}
-use Rattle.book.specs.Record.{checked, decodedOf, ruleOf, linkOf, padOf, badKind, badSlope, badBound, lowest, beyond}
+use Rattle.book.specs.Record.{checked, decodedOf, ruleOf, linkOf, padOf, badKind, badSlope, badBound}
 use Rattle.book.specs.Answers.{constraintOf, turned}
 
 module _ (r : Rule) where

@@ -1,21 +1,20 @@
 -- The computed tests decide document 01's causes: a test is true exactly where its cause applies.
-use Prim.Native.Nat.{ℕ, zero, suc, _+_, _-_, _*_, _/_, _%_, _^_, _≤_, _<_}
-use mathlib.Core.Path.{_≡_, refl, sym, ap, _∙_, subst⁻¹}
-use mathlib.Core.Bool.{Bool, true, false, cond, not, _||_, _&&_}
+use Prim.Native.Nat.{ℕ, suc, _-_, _*_, _/_, _%_, _<_}
+use mathlib.Core.Path.{_≡_, refl, ap, subst⁻¹}
+use mathlib.Core.Bool.{Bool, true, false, not, _||_, _&&_}
 use mathlib.Core.List.{List}
 use mathlib.Core.Logic.{_⊎_, inl, inr, ⊎-elim}
 use native.Mathlib.Decide.{ℕ-discrete}
 use native.Mathlib.Omega.{arith}
-use borrow.Author.Tests.{lt-ltb, ltb-true, ltb-false, le-ltb, eq-eqb, ne-eqb, eqb-true, eqb-false, not-true}
+use borrow.Author.Tests.{lt-ltb, ltb-true, ltb-false, eq-eqb, eqb-true}
 use lib.ListN.{length}
-use lib.Dec.{eqb, ltb, T, T-prop}
+use lib.Dec.{eqb, ltb, T}
 use lib.IntN.{ℤ, pos, negsuc}
 use lib.Signed.{ltZ, _<ℤ_}
 use mir.Syntax.{w16}
 use mir.Val.{toZ, sel}
-use Rattle.book.specs.declared.Rule.{Rule}
 use Rattle.book.specs.Layout.{Layout, width}
-use Rattle.book.specs.Record.{recordAt, kindOf, padOf, aOf, bOf, cOf, ruleOf, lowest, beyond, badKind, badSlope, badBound}
+use Rattle.book.specs.Record.{recordAt, kindOf, padOf, aOf, bOf, cOf, ruleOf, lowest, badKind, badSlope, badBound}
 use Rattle.book.specs.Reading.{objectiveOf, countOf, badLength, badVersion, badCount, badObjective, badTail}
 use Rattle.book.specs.Causes.{WrongLength, WrongVersion, WrongCount, WrongObjective, WrongTail, WrongKind, WrongSlope, WrongBound, short, long, uneven, other, differs, p-lowest, q-lowest, set, neither, a-lowest, b-lowest, low, high}
 

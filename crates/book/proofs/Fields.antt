@@ -1,10 +1,9 @@
 -- The fields of a version 1 record, at their offsets in the book: what the code reads is what the definitions say.
 use Prim.Native.Nat.{ℕ, _+_, _*_, _≤_}
-use mathlib.Core.Path.{_≡_, refl, sym, ap, _∙_}
+use mathlib.Core.Path.{_≡_, sym, ap, _∙_}
 use mathlib.Core.List.{List}
-use native.Mathlib.Omega.{arith}
 use native.Mathlib.Nat.{add-zero}
-use lib.ListN.{getD, drop, take}
+use lib.ListN.{getD, drop}
 use lib.Dec.{lit≤}
 use Rattle.book.specs.Layout.{v1}
 use Rattle.book.specs.Number.{number}

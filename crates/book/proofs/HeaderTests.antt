@@ -1,7 +1,7 @@
 -- The causes 1 to 5 for version 1, test by test, as the code goes through them.
 use Prim.Native.Nat.{ℕ, _-_, _/_, _%_, _≤_, _<_}
-use mathlib.Core.Path.{_≡_, refl, sym, _∙_}
-use mathlib.Core.Bool.{Bool, true, false}
+use mathlib.Core.Path.{_≡_, refl}
+use mathlib.Core.Bool.{true, false}
 use mathlib.Core.List.{List}
 use borrow.Author.Tests.{lt-ltb, le-ltb, eq-eqb, ne-eqb}
 use lib.ListN.{length}
@@ -9,7 +9,7 @@ use lib.Dec.{eqb}
 use Rattle.book.specs.Layout.{v1}
 use Rattle.book.specs.Number.{number}
 use Rattle.book.specs.Record.{recordAt, kindOf, padOf, cOf, lowest}
-use Rattle.book.specs.Reading.{objectiveOf, countOf, headerFault, badLength, badVersion, badCount, badObjective}
+use Rattle.book.specs.Reading.{objectiveOf, countOf, headerFault, badLength, badVersion, badCount}
 
 no-padding : (r : List ℕ) → eqb (padOf v1 r) 0 ≡ true
 unfolding number

@@ -13,3 +13,5 @@ pub mod Bounds
 pub mod Readback
 pub mod RepackLaws
 pub mod Planned
+pub mod Said
+pub mod Examples

@@ -1,21 +1,21 @@
 -- Numbers as bytes: what stands at an offset, bounds, and that writing and reading undo one another.
-use Prim.Native.Nat.{ℕ, zero, suc, _+_, _-_, _*_, _/_, _%_, _^_, _≤_, _<_, suc-le-suc}
+use Prim.Native.Nat.{ℕ, zero, suc, _+_, _*_, _^_, _≤_, _<_, suc-le-suc}
 use mathlib.Core.Path.{_≡_, refl, sym, ap, _∙_}
-use mathlib.Core.Bool.{true, false}
-use mathlib.Core.List.{List, [], _∷_, _++_}
+use mathlib.Core.Bool.{false}
+use mathlib.Core.List.{List, [], _∷_}
 use native.Mathlib.Omega.{arith}
 use native.Mathlib.Numerals.{add-one, add-two, add-three}
 use borrow.Author.Tests.{lt-ltb, le-ltb, ltb-false}
-use lib.ListN.{getD, drop, take, length}
+use lib.ListN.{getD, drop, take}
 use lib.Dec.{lit<}
 use lib.Seq.{drop-drop}
 use native.Mathlib.Nat.{lt-of-lt-of-le, lt-of-le-of-lt, le-suc, not-suc-le-zero, le-of-suc-le-suc}
 use lib.IntN.{ℤ, pos, negsuc, negℤ, _-ℤ_, +ℤ-idl}
-use lib.Signed.{mag, ltZ}
-use mir.Syntax.{Width, w16, w32, w64}
+use lib.Signed.{ltZ}
+use mir.Syntax.{Width, w64}
 use mir.Val.{toZ, SFits, bits, hbits, Fits}
 use mir.ValLaws.{toZ-pos, toZ-fits}
-use Rattle.book.specs.Number.{number, bytesOf}
+use Rattle.book.specs.Number.{number}
 
 -- ---- reading
 

@@ -1,22 +1,19 @@
 -- What repacking hands back and leaves in the output, from what the book reads as.
-use Prim.Native.Nat.{ℕ, zero, suc, _+_, _-_, _*_, _≤_, _<_}
-use mathlib.Core.Path.{_≡_, refl, sym, ap, _∙_, subst}
-use mathlib.Core.Bool.{Bool, true, false, cond}
+use Prim.Native.Nat.{ℕ, _+_, _-_, _*_, _≤_, _<_}
+use mathlib.Core.Path.{_≡_, refl, sym, ap, _∙_}
+use mathlib.Core.Bool.{true, false, cond}
 use mathlib.Core.List.{List, [], _∷_, _++_, map}
 use native.Mathlib.Omega.{arith}
 use borrow.Author.Tests.{lt-ltb, le-ltb}
 use lib.ListN.{length, take, drop, replicate, length-append, length-map}
 use lib.Seq.{take-at, take-all, drop-drop, paste, take-paste, drop-paste}
 use lib.Dec.{ltb}
-use Rattle.lp.specs.declared.Functional.{Functional}
-use Rattle.book.specs.declared.Rule.{Rule}
 use Rattle.book.specs.declared.Chain.{Chain}
-use Rattle.book.specs.declared.Repacked.{Repacked}
-use Rattle.book.specs.Layout.{Layout, v1, width}
+use Rattle.book.specs.Layout.{Layout, v1}
 use Rattle.book.specs.Record.{recordAt, ruleOf}
-use Rattle.book.specs.Reading.{Reading, refused, accepted, Entry, objectiveOf, countOf, entryAt, readOf}
-use Rattle.book.specs.Repacking.{headerBytes, nextOf, chainBytes, bookOf, Packing, declined, packed, ruleIn, packOf, repackOf}
-use Rattle.book.specs.Answers.{padded, indexIn, chainOf, repackedOf, outputOf, rulesAt, Repacks}
+use Rattle.book.specs.Reading.{Reading, refused, accepted, objectiveOf, entryAt, readOf}
+use Rattle.book.specs.Repacking.{headerBytes, nextOf, chainBytes, bookOf, Packing, packed, ruleIn, packOf}
+use Rattle.book.specs.Answers.{padded, chainOf, repackedOf, outputOf, rulesAt, Repacks}
 use Rattle.book.specs.Causes.{Applies, cause-1, cause-2, cause-3, cause-4, cause-5, cause-6, cause-7, cause-8, cause-9, cause-10}
 use Rattle.book.proofs.Causes.{refusal-applies, acceptance-means, walked-length, walked-count}
 use Rattle.book.proofs.Walking.{indices}

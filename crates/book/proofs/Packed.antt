@@ -1,22 +1,26 @@
 -- Records as bytes: what the code writes is what the definitions say, and what was written reads back.
-use Prim.Native.Nat.{ℕ, zero, suc, _+_, _-_, _*_, _/_, _%_, _^_, _≤_, _<_}
+use Prim.Native.Nat.{ℕ, zero, suc, _+_, _*_, _/_, _%_, _≤_, _<_}
 use mathlib.Core.Path.{_≡_, refl, sym, ap, _∙_}
 use mathlib.Core.List.{List, [], _∷_, _++_}
 use native.Mathlib.Omega.{arith}
 use native.Mathlib.Nat.{zero-mul, suc-mul, add-zero, add-comm, mul-comm, mul-suc}
 use native.Mathlib.Numerals.{add-one, one-add}
 use mathlib.Core.Bool.{Bool, true, false, cond}
-use mathlib.Core.List.{append-assoc, map}
+use mathlib.Core.List.{append-assoc}
 use borrow.Author.Tests.{lt-ltb, le-ltb, ltb-true}
 use lib.Dec.{ltb, leb·suc-suc}
-use lib.ListN.{length, take, drop, getD, length-append, length-map, length-take, List·getD-map}
-use lib.Seq.{take-at, drop-at, drop-drop, drop-append-add, take-add, take-take, take-paste, drop-paste, paste, getD-take, length-take-le}
+use lib.ListN.{length, take, drop, getD, length-append, length-map, List·getD-map}
+use lib.Seq.{take-at, drop-drop, drop-append-add, take-add, take-take, take-paste, drop-paste, paste, getD-take, length-take-le}
 use Rattle.lp.specs.declared.Functional.{Functional}
 use Rattle.book.specs.declared.Rule.{Rule}
-use Rattle.book.specs.Record.{recordAt, ruleOf}
+use mir.Syntax.{Width, w16, w32}
+use mir.Val.{toZ, ofZ, Fits}
+use mir.ValLaws.{ofZ-toZ}
+use Rattle.book.specs.Record.{recordAt, ruleOf, kindOf, aOf, bOf, labelOf, cOf}
+use Rattle.book.specs.Reading.{objectiveOf}
 use Rattle.book.specs.Answers.{rulesAt}
 use Rattle.book.specs.Layout.{Layout, v1, width}
-use Rattle.book.specs.Number.{number, bytesOf}
+use Rattle.book.specs.Number.{bytesOf}
 use Rattle.book.specs.Repacking.{recordBytes, headerBytes, ruleBytes, nextOf, chainBytes, bookOf}
 
 -- ---- version 1, byte by byte
@@ -32,6 +36,19 @@ twelve l k a b m c hl hk ha hb hm hc =
     let pc : c / 65536 % 256 ≡ c / 256 / 256 % 256 = omega arith in
     let pd : c / 16777216 ≡ c / 256 / 256 / 256 % 256 = omega arith in
     λ i. pl i ∷ pk i ∷ (a % 256) ∷ pa i ∷ (b % 256) ∷ pb i ∷ (m % 256) ∷ pm i ∷ (c % 256) ∷ (c / 256 % 256) ∷ pc i ∷ pd i ∷ []
+
+-- sixteen and thirty-two bits, read as signed and written again, are as they were
+kept : (w : Width) (x y : ℕ) → Fits w x → x ≡ y → x ≡ ofZ w (toZ w y)
+kept w x y f e = sym (ofZ-toZ w x f) ∙ ap (λ (z : ℕ). ofZ w (toZ w z)) e
+
+-- a record of the fields that another has, but for the link, is that record's rule; and so for the header, but for the count too
+pub rule-written : (x t : List ℕ) (l k a b m c : ℕ) → x ≡ recordBytes v1 l k a b m c → k ≡ kindOf v1 t → Fits w16 a → a ≡ aOf v1 t → Fits w16 b → b ≡ bOf v1 t → m ≡ labelOf v1 t → Fits w32 c → c ≡ cOf v1 t → x ≡ ruleBytes v1 l (ruleOf v1 t)
+rule-written x t l k a b m c ex ek fa ea fb eb em fc ec =
+    ex ∙ (λ i. recordBytes v1 l (ek i) (kept w16 a (aOf v1 t) fa ea i) (kept w16 b (bOf v1 t) fb eb i) (em i) (kept w32 c (cOf v1 t) fc ec i))
+
+pub header-written : (x s : List ℕ) (l a b n : ℕ) → x ≡ recordBytes v1 l 1 a b n 0 → Fits w16 a → a ≡ aOf v1 (recordAt v1 s 0) → Fits w16 b → b ≡ bOf v1 (recordAt v1 s 0) → x ≡ headerBytes v1 l (objectiveOf v1 s) n
+header-written x s l a b n ex fa ea fb eb =
+    ex ∙ (λ i. recordBytes v1 l 1 (kept w16 a (aOf v1 (recordAt v1 s 0)) fa ea i) (kept w16 b (bOf v1 (recordAt v1 s 0)) fb eb i) n 0)
 
 -- ---- lengths
 

@@ -1,11 +1,10 @@
 -- A lawful rule as it is planned: kind 1 as written, kind 2 with every sign turned round, and within the same ranges.
-use Prim.Native.Nat.{ℕ, zero, suc, _≤_}
-use mathlib.Core.Path.{_≡_, refl, sym, ap, _∙_, subst⁻¹}
+use Prim.Native.Nat.{zero, suc, _≤_}
+use mathlib.Core.Path.{_≡_, refl, subst⁻¹}
 use mathlib.Core.Logic.{⊎-elim}
 use native.Mathlib.Omega.{arith}
 use borrow.Author.Tests.{le-ltb, eq-eqb, ne-eqb}
 use lib.IntN.{ℤ, pos, negsuc, negℤ, natAbs}
-use Rattle.lp.specs.declared.Constraint.{Constraint}
 use Rattle.book.specs.declared.Rule.{Rule}
 use Rattle.book.specs.Answers.{constraintOf, turned}
 use Rattle.book.specs.Lawful.{LawfulRule, LawfulConstraint}

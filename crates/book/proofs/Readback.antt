@@ -1,17 +1,17 @@
 -- The repacked form reads back: each record's fields are those that were written, and the chain goes from record to record in order.
-use Prim.Native.Nat.{ℕ, zero, suc, _+_, _-_, _*_, _/_, _%_, _^_, _≤_, _<_}
-use mathlib.Core.Path.{_≡_, refl, sym, ap, _∙_, subst, subst⁻¹}
-use mathlib.Core.Bool.{Bool, true, false, cond, _||_}
+use Prim.Native.Nat.{ℕ, zero, suc, _+_, _*_, _/_, _%_, _^_, _≤_, _<_}
+use mathlib.Core.Path.{_≡_, refl, sym, ap, _∙_, subst}
+use mathlib.Core.Bool.{Bool, true, false, cond}
 use mathlib.Core.List.{List, [], _∷_, _++_, map, append-nil}
-use mathlib.Core.Logic.{_⊎_, ⊎-elim}
+use mathlib.Core.Logic.{⊎-elim}
 use native.Mathlib.Omega.{arith}
 use native.Mathlib.Numerals.{add-one, one-add}
-use native.Mathlib.Nat.{pow-suc, div-lt-iff-lt-mul, zero-mul, suc-mul, add-zero, add-comm, mul-mod-right, mul-div-right, mul-le-mul-left, lt-of-lt-of-le}
+use native.Mathlib.Nat.{pow-suc, div-lt-iff-lt-mul, zero-mul, suc-mul, add-zero, add-comm, mul-mod-right, mul-div-right, mul-le-mul-left}
 use native.Mathlib.Decide.{decLt}
 use borrow.Author.Tests.{lt-ltb, le-ltb, ne-eqb, ltb-true}
 use lib.ListN.{length, take, drop, getD, length-append, length-map, List·getD-map, List·getD-append}
 use lib.Seq.{take-at, drop-at, drop-drop, drop-append-add, ext-getD, getD-at}
-use lib.Dec.{ltb, eqb, ltb→lt, lit<, lit≤}
+use lib.Dec.{ltb, ltb→lt, lit<}
 use lib.IntN.{ℤ, pos, negsuc, natAbs}
 use lib.Signed.{_<ℤ_}
 use mir.Syntax.{w16, w32}
@@ -24,7 +24,7 @@ use Rattle.book.specs.Number.{number, bytesOf}
 use Rattle.book.specs.Record.{recordAt, linkOf, kindOf, padOf, aOf, bOf, labelOf, cOf, ruleOf}
 use Rattle.book.specs.Reading.{Entry, objectiveOf, countOf, entryAt, memb, readOf, accepted}
 use Rattle.book.specs.Repacking.{recordBytes, headerBytes, ruleBytes, nextOf, chainBytes, bookOf, numbered, ruleIn}
-use Rattle.book.specs.Causes.{WrongLength, WrongVersion, WrongCount, WrongObjective, WrongTail, WrongKind, WrongSlope, WrongBound, short, long, uneven, other, differs, p-lowest, q-lowest, set, neither, a-lowest, b-lowest, low, high, Walked, header, visit, Accepts}
+use Rattle.book.specs.Causes.{WrongLength, WrongVersion, WrongCount, WrongObjective, WrongTail, WrongKind, WrongSlope, WrongBound, short, long, uneven, other, differs, p-lowest, q-lowest, set, neither, a-lowest, b-lowest, low, high, Walked, header, visit}
 use Rattle.book.specs.Lawful.{LawfulObjective, LawfulRule}
 use Rattle.book.proofs.Packed.{length-bytesOf, length-recordBytes, length-bookOf, chain-record, next-is}
 use Rattle.book.proofs.Walking.{memb-snoc}

@@ -1,12 +1,10 @@
 -- The laws of repacking: the repacked form of an accepted book is accepted and reads as the same objective and rules; it is its own repacked form; and
 -- books that read alike have one repacked form.
-use Prim.Native.Nat.{ℕ, zero, suc, _+_, _*_, _^_, _≤_, _<_}
-use mathlib.Core.Path.{_≡_, refl, sym, ap, _∙_, subst, subst⁻¹}
+use Prim.Native.Nat.{ℕ, zero, suc, _+_, _*_, _≤_, _<_}
+use mathlib.Core.Path.{_≡_, refl, sym, ap, _∙_}
 use mathlib.Core.Bool.{Bool, true, false, cond}
-use mathlib.Core.List.{List, [], _∷_, _++_, map}
+use mathlib.Core.List.{List, [], _∷_, map}
 use native.Mathlib.Omega.{arith}
-use native.Mathlib.Nat.{mul-comm, mul-suc, add-comm}
-use native.Mathlib.Numerals.{add-one}
 use native.Mathlib.Decide.{decLt}
 use borrow.Author.Tests.{lt-ltb, le-ltb, ltb-false, ltb-true}
 use lib.ListN.{length, take, drop, getD, length-map, List·getD-eq-default, length-take}
@@ -16,9 +14,9 @@ use Rattle.lp.specs.declared.Functional.{Functional}
 use Rattle.book.specs.declared.Rule.{Rule}
 use Rattle.book.specs.Layout.{Layout, width, atLabel, v1, Usable}
 use Rattle.book.specs.Number.{number, Bytes}
-use Rattle.book.specs.Record.{recordAt, ruleOf, labelOf}
-use Rattle.book.specs.Reading.{Reading, refused, accepted, Entry, countOf, entryAt, readOf}
-use Rattle.book.specs.Repacking.{bookOf, Packing, declined, packed, ruleIn, numbered, packOf, repackOf, ReadAlike}
+use Rattle.book.specs.Record.{recordAt, ruleOf}
+use Rattle.book.specs.Reading.{Reading, refused, accepted, Entry, readOf}
+use Rattle.book.specs.Repacking.{bookOf, declined, packed, ruleIn, numbered, packOf, repackOf, ReadAlike}
 use Rattle.book.specs.Answers.{indexIn}
 use Rattle.book.specs.Lawful.{LawfulRule}
 use Rattle.book.specs.Causes.{Applies, cause-1, cause-2, cause-3, cause-4, cause-5, cause-6, cause-7, cause-8, cause-9, cause-10}

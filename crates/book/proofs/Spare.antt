@@ -1,13 +1,11 @@
 -- Spare records do not matter: two books of one length that agree on the header and on the records of the chain read alike.
 use Prim.Native.Nat.{ℕ, zero, suc}
 use mathlib.Core.Path.{_≡_, refl, sym, ap, _∙_}
-use mathlib.Core.Bool.{cond}
 use mathlib.Core.List.{List, [], _∷_, _++_, map}
 use lib.ListN.{length}
-use lib.Dec.{eqb, ltb}
-use Rattle.book.specs.Layout.{Layout, width}
-use Rattle.book.specs.Record.{recordAt, linkOf, ruleOf, decodedOf, numberOf}
-use Rattle.book.specs.Reading.{Reading, refused, accepted, Entry, objectiveOf, countOf, entryAt, memb, headerFault, follow, walk, readOf}
+use Rattle.book.specs.Layout.{Layout}
+use Rattle.book.specs.Record.{recordAt, linkOf, ruleOf}
+use Rattle.book.specs.Reading.{Reading, Entry, entryAt, headerFault, follow, walk, readOf}
 use Rattle.book.specs.Spare.{OnChain, header, link}
 use Rattle.book.proofs.Walking.{walk-once}
 

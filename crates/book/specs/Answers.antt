@@ -2,13 +2,12 @@
 use Prim.Native.Nat.{ℕ, _+_, _-_, _*_, _≤_}
 use mathlib.Core.Path.{_≡_}
 use mathlib.Core.Bool.{cond}
-use mathlib.Core.List.{List, [], _∷_, _++_, map}
+use mathlib.Core.List.{List, [], _++_, map}
 use lib.ListN.{length, drop, replicate}
 use lib.Dec.{eqb}
 use lib.IntN.{ℤ, pos, negsuc, negℤ}
 use lib.Signed.{ltZ}
 use Rattle.lp.specs.declared.Constraint.{Constraint}
-use Rattle.lp.specs.declared.Functional.{Functional}
 use Rattle.book.specs.declared.Rule.{Rule}
 use Rattle.book.specs.declared.Chain.{Chain}
 use Rattle.book.specs.declared.Repacked.{Repacked}
@@ -50,6 +49,10 @@ constraintOf r =
     cond (eqb (r .kind) 2)
     (record { a = turned (r .a); b = turned (r .b); c = turned (r .c) })
     (record { a = r .a; b = r .b; c = r .c })
+
+-- the rules of a chain as they are planned, in order
+abbrev pub constraintsIn : List Entry → List Constraint
+constraintsIn es = map (λ (e : Entry). constraintOf (e .rule)) es
 
 -- the rules of some records
 abbrev pub rulesAt : List ℕ → List ℕ → List Rule

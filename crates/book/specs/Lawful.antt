@@ -1,5 +1,5 @@
 -- Document 01's ranges: what every accepted book's objective and rules are within, whatever its bytes.
-use Prim.Native.Nat.{ℕ, _≤_, _<_}
+use Prim.Native.Nat.{_≤_}
 use mathlib.Core.Path.{_≡_}
 use mathlib.Core.Logic.{_⊎_}
 use lib.IntN.{natAbs}

@@ -1,7 +1,7 @@
 -- What a book reads as: refused, with document 01's number and record, or accepted, with the objective and the chain.
 -- The causes are tested in document 01's order: 1 to 5 in the header; then, along the chain, 6 and 7 for a link and 8, 9, 10 for the record reached.
-use Prim.Native.Nat.{ℕ, zero, suc, _+_, _-_, _*_, _/_, _%_}
-use mathlib.Core.Bool.{Bool, true, false, cond, not, _||_, _&&_}
+use Prim.Native.Nat.{ℕ, zero, suc, _-_, _*_, _/_, _%_}
+use mathlib.Core.Bool.{Bool, false, cond, not, _||_}
 use mathlib.Core.List.{List, [], _∷_, _++_, map}
 use lib.ListN.{length}
 use lib.Dec.{eqb, ltb}

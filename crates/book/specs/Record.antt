@@ -1,15 +1,14 @@
 -- A record of the book, from its bytes to its fields, and the causes 8, 9 and 10 by which a rule record is refused.
 -- Signed numbers are in two's complement: `toZ w16` and `toZ w32` are the machine's own readings of 16 and of 32 bits.
-use Prim.Native.Nat.{ℕ, _+_, _*_}
+use Prim.Native.Nat.{ℕ, _*_}
 use mathlib.Core.Bool.{Bool, cond, not, _||_, _&&_}
 use mathlib.Core.List.{List}
-use lib.ListN.{take, drop, getD}
+use lib.ListN.{take, drop}
 use lib.Dec.{eqb}
-use lib.IntN.{ℤ, pos, negsuc, negℤ}
+use lib.IntN.{ℤ, pos, negsuc}
 use lib.Signed.{ltZ}
 use mir.Syntax.{w16, w32}
 use mir.Val.{toZ}
-use Rattle.lp.specs.declared.Constraint.{Constraint}
 use Rattle.book.specs.declared.Rule.{Rule}
 use Rattle.book.specs.declared.Decoded.{Decoded}
 use Rattle.book.specs.declared.Decoded.the-variants.{Sound, Kind, Slope, Bound}

@@ -1,10 +1,10 @@
 -- The repacked form of document 01: n rules in records 1 to n in chain order, each link one higher, the last 0.
 -- The bytes are a function of the objective and the rules alone, so that there is one form for each.
-use Prim.Native.Nat.{ℕ, zero, suc, _+_, _*_}
+use Prim.Native.Nat.{ℕ, suc, _+_, _*_}
 use mathlib.Core.Path.{_≡_}
 use mathlib.Core.Bool.{cond}
 use mathlib.Core.List.{List, [], _∷_, _++_, map}
-use lib.ListN.{length, drop}
+use lib.ListN.{length}
 use lib.Dec.{ltb}
 use mir.Syntax.{w16, w32}
 use mir.Val.{ofZ}

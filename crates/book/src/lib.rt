@@ -21,6 +21,8 @@ use pack::next_of;
 use pack::put_rules;
 use pack::store;
 ghost use mathlib.Core.Path.{_≡_};
+ghost use Rattle.book.specs.Layout.{v1};
+ghost use Rattle.book.specs.Record.{recordAt, decodedOf};
 ghost use Rattle.book.specs.Answers.{Reads, Repacks, RuleAt, constraintOf};
 
 // A rule as its record has it, kind 2 not turned round.
@@ -135,4 +137,30 @@ pub fn repack(book: &[u8], out: &mut [u8]) -> Repacked
         at: 0,
         filled,
     }
+}
+
+// A book that is held on to while it is walked from record to record, and the record that the walk has come to. What is found there is
+// worked out by a function of the slice and the index.
+pub struct Reader<'a> {
+    pub book: &'a [u8],
+    pub at: u16,
+}
+
+pub fn stand<'a>(book: &'a [u8], at: u16) -> Reader<'a>
+    ensures { λ r. ⌜ (r .book ≡ book .entry) × (r .at ≡ at) ⌝ }
+{
+    Reader { book, at }
+}
+
+pub fn current<'a>(r: Reader<'a>) -> Decoded
+    ensures { λ d. ⌜ d ≡ decodedOf v1 (recordAt v1 (now (r .entry .book)) (r .entry .at)) ⌝ }
+{
+    decode::decode(r.book, r.at)
+}
+
+// The record at an index, through a reader: for callers that hold none.
+pub fn visit(book: &[u8], at: u16) -> Decoded
+    ensures { λ d. ⌜ d ≡ decodedOf v1 (recordAt v1 (now (book .entry)) at) ⌝ }
+{
+    current(stand(book, at))
 }

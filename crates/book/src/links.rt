@@ -1,19 +1,37 @@
 // The walk along the links, with the causes 6 to 10.
 use crate::Chain;
 use crate::Decoded;
-use crate::decode::decode;
 use crate::decode::link_at;
 use crate::decode::number_of;
 use crate::header::count;
 use crate::header::objective;
+use crate::visit;
 use lp::Functional;
 ghost use mathlib.Core.Path.{_≡_};
-ghost use mathlib.Core.List.{[]};
+ghost use mathlib.Core.Bool.{true, false};
+ghost use mathlib.Core.List.{[], _∷_};
+ghost use lib.ListN.{replicate};
 ghost use Prim.Native.Nat.{_≤_};
 ghost use Rattle.book.specs.Layout.{v1};
 ghost use Rattle.book.specs.Reading.{Reading, countOf};
 ghost use Rattle.book.specs.Reading as spec;
 ghost use Rattle.book.specs.Answers.{chainOf};
+
+// The marks of the records visited: the header's alone.
+fn only_header() -> [bool; 256]
+    ensures { λ r. ⌜ r ≡ true ∷ replicate 255 false ⌝ }
+{
+    let mut seen = [false; 256];
+    seen[0] = true;
+    seen
+}
+
+// Record indices, all zero.
+fn no_records() -> [u16; 255]
+    ensures { λ r. ⌜ r ≡ replicate 255 0 ⌝ }
+{
+    [0u16; 255]
+}
 
 // A book that is turned back.
 pub fn refused(number: u8, at: u16) -> Chain
@@ -24,7 +42,7 @@ pub fn refused(number: u8, at: u16) -> Chain
         at,
         objective: Functional { p: 0, q: 0 },
         n: 0,
-        records: [0u16; 255],
+        records: no_records(),
     }
 }
 
@@ -34,9 +52,8 @@ pub fn walk(book: &[u8]) -> Chain
     ensures { λ r. ⌜ r ≡ chainOf (spec.walk v1 (now (book .entry)) 256 [] 0) ⌝ }
 {
     let last = count(book);
-    let mut seen = [false; 256];
-    seen[0] = true;
-    let mut records = [0u16; 255];
+    let mut seen = only_header();
+    let mut records = no_records();
     let mut n: usize = 0;
     let mut at: u16 = 0;
     let mut link = link_at(book, 0);
@@ -48,7 +65,7 @@ pub fn walk(book: &[u8]) -> Chain
         if seen[index] {
             return refused(7, at);
         }
-        let decoded = decode(book, link);
+        let decoded = visit(book, link);
         let Decoded::Sound(_, next) = decoded else {
             return refused(number_of(decoded), link);
         };

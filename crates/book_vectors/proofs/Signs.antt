@@ -1,6 +1,6 @@
 -- A signed number's magnitude, as the program prints it.
 use Prim.Native.Nat.{ℕ, zero, suc, suc-le-suc}
-use mathlib.Core.Path.{_≡_, refl, sym, ap, _∙_}
+use mathlib.Core.Path.{_≡_, sym, ap, _∙_}
 use mathlib.Core.Bool.{true, false}
 use native.Mathlib.Omega.{arith}
 use native.Mathlib.Nat.{le-suc, lt-of-le-of-lt}

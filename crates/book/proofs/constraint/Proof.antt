@@ -1,29 +1,22 @@
+-- `book::constraint` meets its contract: kind 2 turned round number by number, any other kind as written.
 use borrow.Author.Needs.{needs}
 use mathlib.Core.Path.{_≡_, _∙_, ap}
-use lib.IntN.{ℤ}
 use mir.Syntax.{w64}
 use mir.Val.{toZ, ofZ}
 use Rattle.book.specs.Answers.{turned}
 use Rattle.book.proofs.Checks.{at-least, at-most}
 use Rattle.book.proofs.constraint.Statement.{statement}
 use Rattle.book.proofs.constraint.Tie as tie
-use Rattle.book.proofs.constraint.Reads as reads
-use Rattle.book.proofs.constraint.Lts as lts
-use Rattle.book.proofs.decode.turned.Reads as turned-reads
 
--- src/lib.rt:67:16
 turned-requires : tie.Need-turned-requires
 turned-requires c κs = search needs
 
--- src/lib.rt:68:16
 turned-requires-2 : tie.Need-turned-requires-2
 turned-requires-2 c κs = search needs
 
--- src/lib.rt:69:16
 turned-requires-3 : tie.Need-turned-requires-3
 turned-requires-3 c κs = search needs
 
--- src/lib.rt:61:1
 returns : tie.Need-returns
 returns c =
     let va : toZ w64 (ofZ w64 (c .before .before .before .before .before .before .before .args .rule .a)) ≡ c .before .before .before .before .before .before .before .args .rule .a = search needs in
@@ -37,7 +30,6 @@ returns c =
     (rb ∙ c .before .before .turned2 .ensures ∙ ap turned vb)
     (rc ∙ c .turned3 .ensures ∙ ap turned vc)
 
--- src/lib.rt:61:1
 returns-2 : tie.Need-returns-2
 returns-2 c =
     let va : toZ w64 (ofZ w64 (c .before .before .args .rule .a)) ≡ c .before .before .args .rule .a = search needs in

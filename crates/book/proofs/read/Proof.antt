@@ -1,32 +1,24 @@
+-- `book::read` meets its contract: the header's cause, or the walk.
 use borrow.Author.Needs.{needs}
 use native.Mathlib.Omega.{arith}
 use Prim.Native.Nat.{ℕ}
-use mathlib.Core.Path.{_≡_, sym, ap, _∙_}
+use mathlib.Core.Path.{sym, ap, _∙_}
 use Rattle.book.specs.Layout.{v1}
 use Rattle.book.specs.Reading.{refused}
 use Rattle.book.specs.Answers.{chainOf}
 use Rattle.book.proofs.Causes.{reads-clear, reads-faulty, count-small}
 use Rattle.book.proofs.read.Statement.{statement}
 use Rattle.book.proofs.read.Tie as tie
-use Rattle.book.proofs.read.Reads as reads
-use Rattle.book.proofs.read.Lts as lts
-use Rattle.book.proofs.header.header_fault.Reads as header-fault-reads
-use Rattle.book.proofs.links.refused.Reads as refused-reads
-use Rattle.book.proofs.links.walk.Reads as walk-reads
 
--- src/lib.rt:59:9
 header-fault-requires : tie.Need-header-fault-requires
 header-fault-requires c κs = search needs
 
--- src/lib.rt:61:9
 walk-requires : tie.Need-walk-requires
 walk-requires c κs = omega (arith, count-small v1 (c .before .before .before .args .book .now) (sym (c .before .header-fault .ensures) ∙ c .if1 .taken))
 
--- src/lib.rt:63:9
 refused-requires : tie.Need-refused-requires
 refused-requires c κs = search needs
 
--- src/lib.rt:56:1
 returns : tie.Need-returns
 returns c =
     record {
@@ -35,7 +27,6 @@ returns c =
           ∙ ap chainOf (sym (reads-clear v1 (c .before .before .before .before .args .book .now) (sym (c .before .before .header-fault .ensures) ∙ c .before .if1 .taken)));
     }
 
--- src/lib.rt:56:1
 returns-2 : tie.Need-returns-2
 returns-2 c =
     let f = c .before .before .header-fault .ensures in

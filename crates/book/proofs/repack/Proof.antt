@@ -1,21 +1,11 @@
+-- `book::repack` meets its contract: refused as read; without room; or the header and then the rules (`packs-packed`).
 use borrow.Author.Needs.{needs}
 use native.Mathlib.Omega.{arith}
-use Prim.Native.Nat.{ℕ, _+_, _*_, _≤_}
-use mathlib.Core.Path.{_≡_, refl, sym, ap, _∙_}
-use lib.ListN.{length}
-use Rattle.book.specs.Layout.{v1}
-use Rattle.book.specs.Answers.{Room}
+use Prim.Native.Nat.{_≤_}
 use Rattle.book.proofs.Output.{Chained, chain-refused, chain-accepted, packs-refused, packs-declined, packs-packed}
 use Rattle.book.proofs.Packed.{next-small}
 use Rattle.book.proofs.repack.Statement.{statement}
 use Rattle.book.proofs.repack.Tie as tie
-use Rattle.book.proofs.repack.Reads as reads
-use Rattle.book.proofs.repack.Lts as lts
-use Rattle.book.proofs.pack.header_bytes.Reads as header-bytes-reads
-use Rattle.book.proofs.pack.next_of.Reads as next-of-reads
-use Rattle.book.proofs.pack.put_rules.Reads as put-rules-reads
-use Rattle.book.proofs.pack.store.Reads as store-reads
-use Rattle.book.proofs.read.Reads as read-reads
 
 -- the chain of an accepted book
 chained : (c : tie.Else1) → Chained (c .before .before .before .before .args .book .now) (c .before .read .result)
@@ -24,57 +14,44 @@ chained c = chain-accepted (c .before .before .before .before .args .book .now) 
 few : (c : tie.Else1) → c .before .read .result .n ≤ 255
 few c = omega (arith, chained c .count, chained c .few)
 
--- src/lib.rt:110:9
 read-requires : tie.Need-read-requires
 read-requires c κs = search needs
 
--- src/lib.rt:113:9
 returns : tie.Need-returns
 returns c =
     packs-refused (c .before .before .before .before .args .book .now) (c .before .before .before .before .args .out .now) (c .before .read .result .number) (c .before .read .result .at)
     (chain-refused (c .before .before .before .before .args .book .now) (c .before .read .result) (c .before .read .ensures .answer) (c .if1 .taken))
 
--- src/lib.rt:120:24
 add-filled : tie.Need-add-filled
 add-filled c = omega (arith, few c)
 
--- src/lib.rt:120:18
 mul-filled : tie.Need-mul-filled
 mul-filled c = omega (arith, few c)
 
--- src/lib.rt:122:9
 returns-2 : tie.Need-returns-2
 returns-2 c = packs-declined (c .before .before .before .before .before .args .book .now) (c .before .before .before .before .before .args .out .now) (chained (c .before)) (c .if2 .taken)
 
--- src/lib.rt:128:17
 cast-rules : tie.Need-cast-rules
 cast-rules c = omega (arith, few (c .before))
 
--- src/lib.rt:129:37
 next-of-requires : tie.Need-next-of-requires
 next-of-requires c κs = search needs
 
--- src/lib.rt:129:37
 cast-header-bytes : tie.Need-cast-header-bytes
 cast-header-bytes c = omega (arith, c .next-of .ensures, next-small 0 (c .before .before .before .read .result .n), few (c .before .before))
 
--- src/lib.rt:129:9
 header-bytes-requires : tie.Need-header-bytes-requires
 header-bytes-requires c κs = search needs
 
--- src/lib.rt:130:5
 store-requires : tie.Need-store-requires
 store-requires c κs = search needs
 
--- src/lib.rt:132:5
 put-rules-requires : tie.Need-put-rules-requires
 put-rules-requires c κs = record { few = few (c .before .before .before .before .before .before .before .before .before); room = omega (arith, c .before .before .before .before .store .kept .0, c .before .before .before .before .before .before .before .before .if2 .left) }
 
--- src/lib.rt:107:1
 same-length : tie.Need-same-length
 same-length c = search needs
 
--- src/lib.rt:107:1
 returns-3 : tie.Need-returns-3
 returns-3 c =
     packs-packed (c .before .before .before .before .before .before .before .before .before .before .before .before .before .before .before .before .args .book .now) (c .before .before .before .before .before .before .before .before .before .before .before .before .before .before .before .before .args .out .now) (chained (c .before .before .before .before .before .before .before .before .before .before .before .before)) (c .before .before .before .before .before .before .before .before .before .before .before .if2 .left)

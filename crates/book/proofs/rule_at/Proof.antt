@@ -1,80 +1,57 @@
+-- `book::rule_at` meets its contract: each field, at its offset.
 use borrow.Author.Needs.{needs}
-use Prim.Native.Nat.{_*_, _+_}
 use mathlib.Core.Path.{_≡_, _∙_, ap}
 use mir.Syntax.{w16, w32, w64}
 use mir.Val.{toZ, ofZ}
 use Rattle.book.proofs.Fields.{kind-at, a-at, b-at, c-at, label-at}
 use Rattle.book.proofs.rule_at.Statement.{statement}
 use Rattle.book.proofs.rule_at.Tie as tie
-use Rattle.book.proofs.rule_at.Reads as reads
-use Rattle.book.proofs.rule_at.Lts as lts
-use Rattle.book.proofs.bytes.byte_at.Reads as byte-at-reads
-use Rattle.book.proofs.bytes.number2.Reads as number2-reads
-use Rattle.book.proofs.bytes.number4.Reads as number4-reads
-use Rattle.book.proofs.bytes.signed16.Reads as signed16-reads
-use Rattle.book.proofs.bytes.signed32.Reads as signed32-reads
 
--- src/lib.rt:50:14
 mul-at : tie.Need-mul-at
 mul-at c = search needs
 
--- src/lib.rt:52:29
 cast-byte-at : tie.Need-cast-byte-at
 cast-byte-at c = search needs
 
--- src/lib.rt:52:29
 add-byte-at : tie.Need-add-byte-at
 add-byte-at c = search needs
 
--- src/lib.rt:52:15
 byte-at-requires : tie.Need-byte-at-requires
 byte-at-requires c κs = search needs
 
--- src/lib.rt:53:35
 add-number2 : tie.Need-add-number2
 add-number2 c = search needs
 
--- src/lib.rt:53:21
 number2-requires : tie.Need-number2-requires
 number2-requires c κs = search needs
 
--- src/lib.rt:53:12
 signed16-requires : tie.Need-signed16-requires
 signed16-requires c κs = search needs
 
--- src/lib.rt:54:35
 add-number2-2 : tie.Need-add-number2-2
 add-number2-2 c = search needs
 
--- src/lib.rt:54:21
 number2-requires-2 : tie.Need-number2-requires-2
 number2-requires-2 c κs = search needs
 
--- src/lib.rt:54:12
 signed16-requires-2 : tie.Need-signed16-requires-2
 signed16-requires-2 c κs = search needs
 
--- src/lib.rt:55:35
 add-number4 : tie.Need-add-number4
 add-number4 c = search needs
 
--- src/lib.rt:55:21
 number4-requires : tie.Need-number4-requires
 number4-requires c κs = search needs
 
--- src/lib.rt:55:12
 signed32-requires : tie.Need-signed32-requires
 signed32-requires c κs = search needs
 
--- src/lib.rt:56:30
 add-number2-3 : tie.Need-add-number2-3
 add-number2-3 c = search needs
 
--- src/lib.rt:56:16
 number2-requires-3 : tie.Need-number2-requires-3
 number2-requires-3 c κs = search needs
 
--- src/lib.rt:47:1
 returns : tie.Need-returns
 returns c =
     let s = c .before .before .before .before .before .before .before .before .before .args .book .now in

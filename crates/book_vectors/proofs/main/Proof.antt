@@ -1,16 +1,11 @@
+-- `book_vectors::main` meets its contract.
 use borrow.Author.Needs.{needs}
-use native.Mathlib.Omega.{arith}
-use mathlib.Core.Path.{sym, _∙_}
+use mathlib.Core.Path.{sym}
 use Prim.Native.Nat.{_-_, _≤_}
 use lib.ListN.{length}
 use lib.Seq.{length-take-le}
 use Rattle.book_vectors.proofs.main.Statement.{statement}
 use Rattle.book_vectors.proofs.main.Tie as tie
-use Rattle.book_vectors.proofs.main.Reads as reads
-use Rattle.book_vectors.proofs.main.Lts as lts
-use Rattle.book_vectors.proofs.run.Reads as run-reads
-use Rattle.io.proofs.large_buffer.Reads as large-buffer-reads
-use Rattle.io.proofs.read_full.Reads as read-full-reads
 
 abbrev Inv-loop : tie.InvT-loop
 Inv-loop input n at₀ at = (n ≤ 65536) × (n ≤ length input)
@@ -18,43 +13,33 @@ Inv-loop input n at₀ at = (n ≤ 65536) × (n ≤ length input)
 abbrev μ-loop : tie.MeasureT-loop
 μ-loop input n at₀ at = n - at
 
--- src/main.rt:169:21
 large-buffer-requires : tie.Need-large-buffer-requires Inv-loop μ-loop
 large-buffer-requires c κs = search needs
 
--- src/main.rt:170:30
 slice-aggregate-read-full : tie.Need-slice-aggregate-read-full Inv-loop μ-loop
 slice-aggregate-read-full c = search needs
 
--- src/main.rt:170:9
 read-full-requires : tie.Need-read-full-requires Inv-loop μ-loop
 read-full-requires c κs = search needs
 
--- src/main.rt:172:5
 loop-holds : tie.Need-loop-holds Inv-loop μ-loop
 loop-holds c = search needs
 
--- src/main.rt:173:18
 array-share-prefix-input : tie.Need-array-share-prefix-input Inv-loop μ-loop
 array-share-prefix-input c = search needs
 
--- src/main.rt:173:18
 slice-aggregate-run : tie.Need-slice-aggregate-run Inv-loop μ-loop
 slice-aggregate-run c = sym (length-take-le (c .before .before .before .before .read-full .result) (c .before .before .before .before .read-full .last .1 .0) (c .before .before .loop .inv .1))
 
--- src/main.rt:173:9
 run-requires : tie.Need-run-requires Inv-loop μ-loop
 run-requires c κs = search needs
 
--- src/main.rt:172:5
 loop-less : tie.Need-loop-less Inv-loop μ-loop
 loop-less c = search needs
 
--- src/main.rt:172:5
 loop-again : tie.Need-loop-again Inv-loop μ-loop
 loop-again c = search needs
 
--- src/main.rt:168:1
 returns : tie.Need-returns Inv-loop μ-loop
 returns c = search needs
 

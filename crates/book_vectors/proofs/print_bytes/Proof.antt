@@ -1,13 +1,9 @@
+-- `book_vectors::print_bytes` meets its contract.
 use borrow.Author.Needs.{needs}
-use native.Mathlib.Omega.{arith}
-use Prim.Native.Nat.{_-_, _≤_, _+_}
+use Prim.Native.Nat.{_-_, _≤_}
 use lib.ListN.{length}
 use Rattle.book_vectors.proofs.print_bytes.Statement.{statement}
 use Rattle.book_vectors.proofs.print_bytes.Tie as tie
-use Rattle.book_vectors.proofs.print_bytes.Reads as reads
-use Rattle.book_vectors.proofs.print_bytes.Lts as lts
-use Rattle.book_vectors.proofs.wide.Reads as wide-reads
-use Rattle.io.proofs.print_hex.Reads as print-hex-reads
 
 abbrev Inv-loop : tie.InvT-loop
 Inv-loop s i₀ i = i ≤ i
@@ -15,35 +11,27 @@ Inv-loop s i₀ i = i ≤ i
 abbrev μ-loop : tie.MeasureT-loop
 μ-loop s i₀ i = length s - i
 
--- src/main.rt:104:5
 loop-holds : tie.Need-loop-holds Inv-loop μ-loop
 loop-holds c = search needs
 
--- src/main.rt:105:27
 shared-slice-read-wide : tie.Need-shared-slice-read-wide Inv-loop μ-loop
 shared-slice-read-wide c = search needs
 
--- src/main.rt:105:22
 wide-requires : tie.Need-wide-requires Inv-loop μ-loop
 wide-requires c κs = search needs
 
--- src/main.rt:105:9
 print-hex-requires : tie.Need-print-hex-requires Inv-loop μ-loop
 print-hex-requires c κs = search needs
 
--- src/main.rt:106:9
 add-i : tie.Need-add-i Inv-loop μ-loop
 add-i c = search needs
 
--- src/main.rt:104:5
 loop-less : tie.Need-loop-less Inv-loop μ-loop
 loop-less c = search needs
 
--- src/main.rt:104:5
 loop-again : tie.Need-loop-again Inv-loop μ-loop
 loop-again c = search needs
 
--- src/main.rt:102:1
 returns : tie.Need-returns Inv-loop μ-loop
 returns c = search needs
 

@@ -1,12 +1,8 @@
+-- `book_vectors::print_rules` meets its contract.
 use borrow.Author.Needs.{needs}
-use native.Mathlib.Omega.{arith}
-use Prim.Native.Nat.{_-_, _≤_, _+_}
-use lib.ListN.{length}
+use Prim.Native.Nat.{_-_, _≤_}
 use Rattle.book_vectors.proofs.print_rules.Statement.{statement}
 use Rattle.book_vectors.proofs.print_rules.Tie as tie
-use Rattle.book_vectors.proofs.print_rules.Reads as reads
-use Rattle.book_vectors.proofs.print_rules.Lts as lts
-use Rattle.book_vectors.proofs.print_rule.Reads as print-rule-reads
 
 abbrev Inv-loop : tie.InvT-loop
 Inv-loop bytes n records k₀ k = k ≤ 255
@@ -14,35 +10,27 @@ Inv-loop bytes n records k₀ k = k ≤ 255
 abbrev μ-loop : tie.MeasureT-loop
 μ-loop bytes n records k₀ k = 255 - k
 
--- src/main.rt:80:5
 loop-holds : tie.Need-loop-holds Inv-loop μ-loop
 loop-holds c = search needs
 
--- src/main.rt:82:31
 mul-print-rule : tie.Need-mul-print-rule Inv-loop μ-loop
 mul-print-rule c = search needs
 
--- src/main.rt:82:31
 array-read-print-rule : tie.Need-array-read-print-rule Inv-loop μ-loop
 array-read-print-rule c = search needs
 
--- src/main.rt:82:13
 print-rule-requires : tie.Need-print-rule-requires Inv-loop μ-loop
 print-rule-requires c κs = search needs
 
--- src/main.rt:84:9
 add-k : tie.Need-add-k Inv-loop μ-loop
 add-k c = search needs
 
--- src/main.rt:80:5
 loop-less : tie.Need-loop-less Inv-loop μ-loop
 loop-less c = search needs
 
--- src/main.rt:80:5
 loop-again : tie.Need-loop-again Inv-loop μ-loop
 loop-again c = search needs
 
--- src/main.rt:78:1
 returns : tie.Need-returns Inv-loop μ-loop
 returns c = search needs
 

@@ -1,58 +1,42 @@
+-- `book_vectors::signed` meets its contract.
 use borrow.Author.Needs.{needs}
 use Rattle.book_vectors.proofs.Signs.{minus-fits, minus-cast, plain-cast}
 use Rattle.book_vectors.proofs.signed.Statement.{statement}
 use Rattle.book_vectors.proofs.signed.Tie as tie
-use Rattle.book_vectors.proofs.signed.Reads as reads
-use Rattle.book_vectors.proofs.signed.Lts as lts
-use Rattle.book_vectors.proofs.number.Reads as number-reads
-use Rattle.io.proofs.print_decimal.Reads as print-decimal-reads
-use Rattle.io.proofs.write_all.Reads as write-all-reads
 
--- src/main.rt:19:26
 slice-aggregate-write-all : tie.Need-slice-aggregate-write-all
 slice-aggregate-write-all c = search needs
 
--- src/main.rt:19:9
 write-all-requires : tie.Need-write-all-requires
 write-all-requires c κs = search needs
 
--- src/main.rt:20:9
 returns : tie.Need-returns
 returns c = search needs
 
--- src/main.rt:23:26
 slice-aggregate-write-all-2 : tie.Need-slice-aggregate-write-all-2
 slice-aggregate-write-all-2 c = search needs
 
--- src/main.rt:23:9
 write-all-requires-2 : tie.Need-write-all-requires-2
 write-all-requires-2 c κs = search needs
 
--- src/main.rt:24:27
 sub-print-decimal : tie.Need-sub-print-decimal
 sub-print-decimal c = minus-fits (c .before .before .before .before .args .z) (c .before .before .before .before .fits .z) (c .before .before .before .if1 .left)
 
--- src/main.rt:24:26
 cast-print-decimal : tie.Need-cast-print-decimal
 cast-print-decimal c = minus-cast (c .before .before .before .before .args .z) (c .before .before .before .before .fits .z) (c .before .before .before .if1 .left) (c .before .before .if2 .taken)
 
--- src/main.rt:24:9
 print-decimal-requires : tie.Need-print-decimal-requires
 print-decimal-requires c κs = search needs
 
--- src/main.rt:26:16
 cast-number : tie.Need-cast-number
 cast-number c = plain-cast (c .before .before .args .z) (c .before .before .fits .z) (c .if2 .left)
 
--- src/main.rt:26:9
 number-requires : tie.Need-number-requires
 number-requires c κs = search needs
 
--- src/main.rt:17:1
 returns-2 : tie.Need-returns-2
 returns-2 c = search needs
 
--- src/main.rt:17:1
 returns-3 : tie.Need-returns-3
 returns-3 c = search needs
 

@@ -1,3 +1,4 @@
+-- `book::bytes::byte_at` meets its contract: past the end the list gives zero, as the code does.
 use borrow.Author.Needs.{needs}
 use mathlib.Core.Path.{sym}
 use lib.ListN.{List·getD-eq-default}

@@ -1,37 +1,31 @@
+-- `book::bytes::signed16` meets its contract: below half the bits are the number; from half on, 65,536 less (`signed-high`).
 use borrow.Author.Needs.{needs}
 use native.Mathlib.Omega.{arith}
 use mathlib.Core.Path.{_≡_, refl, _∙_}
 use lib.IntN.{pos, _-ℤ_}
 use lib.Dec.{lit≤}
-use mir.Syntax.{w16, w32, w64}
+use mir.Syntax.{w16, w64}
 use mir.Val.{toZ}
 use mir.Facts.{toZ-ofZ}
 use Rattle.book.proofs.Numbers.{signed-low, signed-high, signed-wide}
 use Rattle.book.proofs.bytes.signed16.Statement.{statement}
 use Rattle.book.proofs.bytes.signed16.Tie as tie
-use Rattle.book.proofs.bytes.signed16.Reads as reads
-use Rattle.book.proofs.bytes.signed16.Lts as lts
 
--- src/bytes.rt:42:23
 cast-result : tie.Need-cast-result
 cast-result c = search needs
 
--- src/bytes.rt:42:44
 cast-result-2 : tie.Need-cast-result-2
 cast-result-2 c = search needs
 
--- src/bytes.rt:42:44
 high : (c : tie.Else1) → toZ w64 (c .before .args .bits) -ℤ pos 65536 ≡ toZ w16 (c .before .args .bits)
 high c = signed-high w16 65535 (c .before .args .bits) refl (c .if1 .left) (omega arith) (omega arith)
 
 sub-result : tie.Need-sub-result
 sub-result c = rw (high c) (signed-wide w16 (c .before .args .bits) (c .before .fits .bits) (lit≤ tt))
 
--- src/bytes.rt:39:1
 returns : tie.Need-returns
 returns c = signed-low w16 (c .before .args .bits) (c .if1 .taken) (omega arith)
 
--- src/bytes.rt:39:1
 returns-2 : tie.Need-returns-2
 returns-2 c = toZ-ofZ (sub-result c) ∙ high c
 

@@ -1,19 +1,15 @@
+-- `book::decode::bad_bound` meets its contract: the test of c, of the field itself.
 use borrow.Author.Needs.{needs}
-use mathlib.Core.Path.{_≡_, sym, ap, _∙_}
+use mathlib.Core.Path.{_≡_, ap, _∙_}
 use mir.Syntax.{w64}
 use mir.Val.{toZ, ofZ}
-use Rattle.book.specs.Record.{lowest, beyond}
+use Rattle.book.specs.Record.{beyond}
 use Rattle.book.proofs.decode.bad_bound.Statement.{statement}
 use Rattle.book.proofs.decode.bad_bound.Tie as tie
-use Rattle.book.proofs.decode.bad_bound.Reads as reads
-use Rattle.book.proofs.decode.bad_bound.Lts as lts
-use Rattle.book.proofs.decode.beyond.Reads as beyond-reads
 
--- src/decode.rt:59:5
 beyond-requires : tie.Need-beyond-requires
 beyond-requires c κs = search needs
 
--- src/decode.rt:56:1
 returns : tie.Need-returns
 returns c =
     let e : toZ w64 (ofZ w64 (c .before .before .args .rule .c)) ≡ c .before .before .args .rule .c = search needs in

@@ -1,31 +1,25 @@
+-- `book::decode::bad_slope` meets its contract: the tests of a and of b, of the fields themselves.
 use borrow.Author.Needs.{needs}
 use mathlib.Core.Path.{_≡_, sym, ap, _∙_}
 use mathlib.Core.Bool.{true, false}
 use mir.Syntax.{w64}
 use mir.Val.{toZ, ofZ}
-use Rattle.book.specs.Record.{lowest, beyond}
+use Rattle.book.specs.Record.{lowest}
 use Rattle.book.proofs.decode.bad_slope.Statement.{statement}
 use Rattle.book.proofs.decode.bad_slope.Tie as tie
-use Rattle.book.proofs.decode.bad_slope.Reads as reads
-use Rattle.book.proofs.decode.bad_slope.Lts as lts
-use Rattle.book.proofs.decode.lowest.Reads as lowest-reads
 
--- src/decode.rt:49:8
 lowest-requires : tie.Need-lowest-requires
 lowest-requires c κs = search needs
 
--- src/decode.rt:50:9
 returns : tie.Need-returns
 returns c =
     let e : toZ w64 (ofZ w64 (c .before .before .before .args .rule .a)) ≡ c .before .before .before .args .rule .a = search needs in
     let h : lowest (c .before .before .before .args .rule .a) ≡ true = sym (c .before .lowest .ensures ∙ ap lowest e) ∙ c .if1 .taken in
     rw h
 
--- src/decode.rt:52:5
 lowest-requires-2 : tie.Need-lowest-requires-2
 lowest-requires-2 c κs = search needs
 
--- src/decode.rt:46:1
 returns-2 : tie.Need-returns-2
 returns-2 c =
     let d : toZ w64 (ofZ w64 (c .before .before .before .before .before .args .rule .a)) ≡ c .before .before .before .before .before .args .rule .a = search needs in

@@ -1,23 +1,20 @@
-use mathlib.Core.Path.{_≡_, refl, sym, ap, _∙_}
+-- `book::decode::beyond` meets its contract: below the range, or above it.
+use mathlib.Core.Path.{_≡_, sym, ap, _∙_}
 use mathlib.Core.Bool.{true, false}
-use lib.IntN.{ℤ, pos, negsuc}
+use lib.IntN.{negsuc}
 use lib.Signed.{ltZ}
 use mir.Syntax.{w64}
-use mir.Val.{toZ, ofZ, SFits}
+use mir.Val.{toZ, ofZ}
 use mir.Facts.{toZ-ofZ}
 use Rattle.book.proofs.decode.beyond.Statement.{statement}
 use Rattle.book.proofs.decode.beyond.Tie as tie
-use Rattle.book.proofs.decode.beyond.Reads as reads
-use Rattle.book.proofs.decode.beyond.Lts as lts
 
--- src/decode.rt:28:1
 returns : tie.Need-returns
 returns c =
     let v : toZ w64 (ofZ w64 (c .before .args .x)) ≡ c .before .args .x = toZ-ofZ (c .before .fits .x) in
     let h : ltZ (c .before .args .x) (negsuc 999999999) ≡ true = ap (λ z. ltZ z (negsuc 999999999)) (sym v) ∙ c .if1 .taken in
     c .if1 .taken ∙ rw h
 
--- src/decode.rt:28:1
 returns-2 : tie.Need-returns-2
 returns-2 c =
     let v : toZ w64 (ofZ w64 (c .before .args .x)) ≡ c .before .args .x = toZ-ofZ (c .before .fits .x) in

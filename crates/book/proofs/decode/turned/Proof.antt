@@ -1,15 +1,14 @@
-use mathlib.Core.Path.{_≡_, refl, sym, ap, _∙_}
+-- `book::decode::turned` meets its contract: 0 less x, where that fits.
+use mathlib.Core.Path.{_≡_, sym, ap, _∙_}
 use mathlib.Core.Bool.{true, false}
-use lib.IntN.{ℤ, pos, negsuc, negℤ, _-ℤ_, +ℤ-idl}
+use lib.IntN.{negsuc, +ℤ-idl}
 use lib.Signed.{ltZ}
 use mir.Syntax.{w64}
-use mir.Val.{toZ, ofZ, SFits}
+use mir.Val.{toZ, ofZ}
 use mir.Facts.{toZ-ofZ}
 use Rattle.book.proofs.Numbers.{neg-fits}
 use Rattle.book.proofs.decode.turned.Statement.{statement}
 use Rattle.book.proofs.decode.turned.Tie as tie
-use Rattle.book.proofs.decode.turned.Reads as reads
-use Rattle.book.proofs.decode.turned.Lts as lts
 
 -- the bits of x are x
 value : (c : tie.Else1) → toZ w64 (ofZ w64 (c .before .args .x)) ≡ c .before .args .x
@@ -18,17 +17,14 @@ value c = toZ-ofZ (c .before .fits .x)
 low : (c : tie.Else1) → ltZ (c .before .args .x) (negsuc 999999999) ≡ false
 low c = ap (λ z. ltZ z (negsuc 999999999)) (sym (value c)) ∙ c .if1 .left
 
--- src/decode.rt:80:37
 sub-result : tie.Need-sub-result
 sub-result c = rw (value c) (neg-fits (c .before .args .x) (c .before .fits .x) (low c))
 
--- src/decode.rt:77:1
 returns : tie.Need-returns
 returns c =
     let h : ltZ (c .before .args .x) (negsuc 999999999) ≡ true = ap (λ z. ltZ z (negsuc 999999999)) (sym (toZ-ofZ (c .before .fits .x))) ∙ c .if1 .taken in
     rw h
 
--- src/decode.rt:77:1
 returns-2 : tie.Need-returns-2
 returns-2 c = toZ-ofZ (sub-result c) ∙ (rw (value c, low c) (+ℤ-idl _))
 

@@ -1,17 +1,13 @@
+-- `book::header::count` meets its contract: the count stands where a rule has its label.
 use borrow.Author.Needs.{needs}
 use mathlib.Core.Path.{_∙_}
 use Rattle.book.proofs.Fields.{label-at}
 use Rattle.book.proofs.header.count.Statement.{statement}
 use Rattle.book.proofs.header.count.Tie as tie
-use Rattle.book.proofs.header.count.Reads as reads
-use Rattle.book.proofs.header.count.Lts as lts
-use Rattle.book.proofs.bytes.number2.Reads as number2-reads
 
--- src/header.rt:24:5
 number2-requires : tie.Need-number2-requires
 number2-requires c κs = search needs
 
--- src/header.rt:21:1
 returns : tie.Need-returns
 returns c = c .number2 .ensures ∙ label-at (c .before .before .args .book .now) 0
 

@@ -1,26 +1,16 @@
+-- `book::header::header_fault` meets its contract: each way out is one case of `headerFault`, in the order of the table.
 use borrow.Author.Needs.{needs}
-use Prim.Native.Nat.{_-_, _/_}
 use mathlib.Core.Path.{_≡_, sym, _∙_, ap}
-use mathlib.Core.Bool.{Bool}
-use lib.ListN.{length}
-use lib.IntN.{ℤ}
 use mir.Syntax.{w64}
 use mir.Val.{toZ, ofZ}
 use Rattle.lp.specs.declared.Functional.{Functional}
 use Rattle.book.specs.Layout.{v1}
 use Rattle.book.specs.Record.{recordAt, kindOf, cOf, lowest}
-use Rattle.book.specs.Reading.{countOf, objectiveOf}
+use Rattle.book.specs.Reading.{objectiveOf}
 use Rattle.book.proofs.Fields.{kind-at, c-at}
 use Rattle.book.proofs.HeaderTests.{too-short, too-long, no-multiple, other-version, other-count, lowest-p, lowest-q, tail-set, tail-clear}
 use Rattle.book.proofs.header.header_fault.Statement.{statement}
 use Rattle.book.proofs.header.header_fault.Tie as tie
-use Rattle.book.proofs.header.header_fault.Reads as reads
-use Rattle.book.proofs.header.header_fault.Lts as lts
-use Rattle.book.proofs.bytes.byte_at.Reads as byte-at-reads
-use Rattle.book.proofs.bytes.number4.Reads as number4-reads
-use Rattle.book.proofs.decode.lowest.Reads as lowest-reads
-use Rattle.book.proofs.header.count.Reads as count-reads
-use Rattle.book.proofs.header.objective.Reads as objective-reads
 
 -- what each call found, in the definitions' words
 version : (c : tie.After-byte-at) → c .byte-at .result ≡ kindOf v1 (recordAt v1 (c .before .before .before .before .before .args .book .now) 0)
@@ -39,71 +29,54 @@ goal-q c =
 rest : (c : tie.After-number4) → c .number4 .result ≡ cOf v1 (recordAt v1 (c .before .before .before .before .before .before .before .before .before .before .before .before .before .before .before .before .args .book .now) 0)
 rest c = c .number4 .ensures ∙ c-at (c .before .before .before .before .before .before .before .before .before .before .before .before .before .before .before .before .args .book .now) 0
 
--- src/header.rt:33:9
 returns : tie.Need-returns
 returns c = too-short (c .before .before .args .book .now) (c .if1 .taken)
 
--- src/header.rt:36:9
 returns-2 : tie.Need-returns-2
 returns-2 c = too-long (c .before .before .before .args .book .now) (c .before .if1 .left) (c .if2 .taken)
 
--- src/header.rt:39:9
 returns-3 : tie.Need-returns-3
 returns-3 c = no-multiple (c .before .before .before .before .args .book .now) (c .before .before .if1 .left) (c .before .if2 .left) (c .if3 .taken)
 
--- src/header.rt:41:8
 byte-at-requires : tie.Need-byte-at-requires
 byte-at-requires c κs = search needs
 
--- src/header.rt:42:9
 returns-4 : tie.Need-returns-4
 returns-4 c = other-version (c .before .before .before .before .before .before .args .book .now) (c .before .before .before .before .if1 .left) (c .before .before .before .if2 .left) (c .before .before .if3 .left) (λ e. c .if4 .taken (version (c .before) ∙ e))
 
--- src/header.rt:44:8
 count-requires : tie.Need-count-requires
 count-requires c κs = search needs
 
--- src/header.rt:44:8
 cast-if5 : tie.Need-cast-if5
 cast-if5 c = search needs
 
--- src/header.rt:44:32
 sub-if5 : tie.Need-sub-if5
 sub-if5 c = search needs
 
--- src/header.rt:45:9
 returns-5 : tie.Need-returns-5
 returns-5 c = other-count (c .before .before .before .before .before .before .before .before .args .book .now) (c .before .before .before .before .before .before .if1 .left) (c .before .before .before .before .before .if2 .left) (c .before .before .before .before .if3 .left) (sym (version (c .before .before .before)) ∙ c .before .before .if4 .left) (λ e. c .if5 .taken (c .before .count .ensures ∙ e))
 
--- src/header.rt:47:9
 objective-requires : tie.Need-objective-requires
 objective-requires c κs = search needs
 
--- src/header.rt:48:8
 lowest-requires : tie.Need-lowest-requires
 lowest-requires c κs = search needs
 
--- src/header.rt:49:9
 returns-6 : tie.Need-returns-6
 returns-6 c = lowest-p (c .before .before .before .before .before .before .before .before .before .before .before .before .args .book .now) (c .before .before .before .before .before .before .before .before .before .before .if1 .left) (c .before .before .before .before .before .before .before .before .before .if2 .left) (c .before .before .before .before .before .before .before .before .if3 .left) (sym (version (c .before .before .before .before .before .before .before)) ∙ c .before .before .before .before .before .before .if4 .left) (sym (c .before .before .before .before .before .count .ensures) ∙ c .before .before .before .before .if5 .left) (sym (goal-p (c .before)) ∙ c .if6 .taken)
 
--- src/header.rt:51:8
 lowest-requires-2 : tie.Need-lowest-requires-2
 lowest-requires-2 c κs = search needs
 
--- src/header.rt:52:9
 returns-7 : tie.Need-returns-7
 returns-7 c = lowest-q (c .before .before .before .before .before .before .before .before .before .before .before .before .before .before .before .args .book .now) (c .before .before .before .before .before .before .before .before .before .before .before .before .before .if1 .left) (c .before .before .before .before .before .before .before .before .before .before .before .before .if2 .left) (c .before .before .before .before .before .before .before .before .before .before .before .if3 .left) (sym (version (c .before .before .before .before .before .before .before .before .before .before)) ∙ c .before .before .before .before .before .before .before .before .before .if4 .left) (sym (c .before .before .before .before .before .before .before .before .count .ensures) ∙ c .before .before .before .before .before .before .before .if5 .left) (sym (goal-p (c .before .before .before .before)) ∙ c .before .before .before .if6 .left) (sym (goal-q (c .before)) ∙ c .if7 .taken)
 
--- src/header.rt:54:8
 number4-requires : tie.Need-number4-requires
 number4-requires c κs = search needs
 
--- src/header.rt:55:9
 returns-8 : tie.Need-returns-8
 returns-8 c = tail-set (c .before .before .before .before .before .before .before .before .before .before .before .before .before .before .before .before .before .args .book .now) (c .before .before .before .before .before .before .before .before .before .before .before .before .before .before .before .if1 .left) (c .before .before .before .before .before .before .before .before .before .before .before .before .before .before .if2 .left) (c .before .before .before .before .before .before .before .before .before .before .before .before .before .if3 .left) (sym (version (c .before .before .before .before .before .before .before .before .before .before .before .before)) ∙ c .before .before .before .before .before .before .before .before .before .before .before .if4 .left) (sym (c .before .before .before .before .before .before .before .before .before .before .count .ensures) ∙ c .before .before .before .before .before .before .before .before .before .if5 .left) (sym (goal-p (c .before .before .before .before .before .before)) ∙ c .before .before .before .before .before .if6 .left) (sym (goal-q (c .before .before .before)) ∙ c .before .before .if7 .left) (λ e. c .if8 .taken (rest (c .before) ∙ e))
 
--- src/header.rt:28:1
 returns-9 : tie.Need-returns-9
 returns-9 c = tail-clear (c .before .before .before .before .before .before .before .before .before .before .before .before .before .before .before .before .before .args .book .now) (c .before .before .before .before .before .before .before .before .before .before .before .before .before .before .before .if1 .left) (c .before .before .before .before .before .before .before .before .before .before .before .before .before .before .if2 .left) (c .before .before .before .before .before .before .before .before .before .before .before .before .before .if3 .left) (sym (version (c .before .before .before .before .before .before .before .before .before .before .before .before)) ∙ c .before .before .before .before .before .before .before .before .before .before .before .if4 .left) (sym (c .before .before .before .before .before .before .before .before .before .before .count .ensures) ∙ c .before .before .before .before .before .before .before .before .before .if5 .left) (sym (goal-p (c .before .before .before .before .before .before)) ∙ c .before .before .before .before .before .if6 .left) (sym (goal-q (c .before .before .before)) ∙ c .before .before .if7 .left) (sym (rest (c .before)) ∙ c .if8 .left)
 

@@ -1,3 +1,4 @@
+-- `book::header::objective` meets its contract: p and q stand where a rule has a and b.
 use borrow.Author.Needs.{needs}
 use mathlib.Core.Path.{_≡_, _∙_, ap}
 use mir.Syntax.{w16, w64}
@@ -5,28 +6,19 @@ use mir.Val.{toZ, ofZ}
 use Rattle.book.proofs.Fields.{a-at, b-at}
 use Rattle.book.proofs.header.objective.Statement.{statement}
 use Rattle.book.proofs.header.objective.Tie as tie
-use Rattle.book.proofs.header.objective.Reads as reads
-use Rattle.book.proofs.header.objective.Lts as lts
-use Rattle.book.proofs.bytes.number2.Reads as number2-reads
-use Rattle.book.proofs.bytes.signed16.Reads as signed16-reads
 
--- src/header.rt:15:21
 number2-requires : tie.Need-number2-requires
 number2-requires c κs = search needs
 
--- src/header.rt:15:12
 signed16-requires : tie.Need-signed16-requires
 signed16-requires c κs = search needs
 
--- src/header.rt:16:21
 number2-requires-2 : tie.Need-number2-requires-2
 number2-requires-2 c κs = search needs
 
--- src/header.rt:16:12
 signed16-requires-2 : tie.Need-signed16-requires-2
 signed16-requires-2 c κs = search needs
 
--- src/header.rt:11:1
 returns : tie.Need-returns
 returns c =
     let s = c .before .before .before .before .before .args .book .now in

@@ -1,8 +1,8 @@
+-- `book::links::walk` meets its contract: the loop's invariant is `Walking`: what is left to walk comes to what the whole does. The measure is the records that are not visited.
 use borrow.Author.Needs.{needs}
-use lib.Dec.{lit<}
 use native.Mathlib.Omega.{arith}
-use Prim.Native.Nat.{ℕ, _-_, _≤_, _<_}
-use mathlib.Core.Path.{_≡_, refl, sym, ap, _∙_}
+use Prim.Native.Nat.{_-_, _≤_, _<_}
+use mathlib.Core.Path.{_≡_, sym, ap, _∙_}
 use mathlib.Core.List.{[], _∷_}
 use types.Run.{OneOf, miss}
 use denote.Enum.Declared.{tagOf}
@@ -13,18 +13,10 @@ use Rattle.book.specs.Record.{numberOf}
 use Rattle.book.specs.Layout.{v1}
 use Rattle.book.specs.Reading.{countOf, refused}
 use Rattle.book.specs.Answers.{chainOf}
-use Rattle.book.proofs.Walking.{Walking, walking-start, walking-ends, walking-over, walking-again, walking-fault, walking-room, walking-step, walked}
+use Rattle.book.proofs.Walking.{Walking, walking-start, walking-over, walking-again, walking-fault, walking-room, walking-step, walked}
 use Rattle.book.proofs.Checks.{sound-holds}
 use Rattle.book.proofs.links.walk.Statement.{statement}
 use Rattle.book.proofs.links.walk.Tie as tie
-use Rattle.book.proofs.links.walk.Reads as reads
-use Rattle.book.proofs.links.walk.Lts as lts
-use Rattle.book.proofs.decode.decode.Reads as decode-reads
-use Rattle.book.proofs.decode.link_at.Reads as link-at-reads
-use Rattle.book.proofs.decode.number_of.Reads as number-of-reads
-use Rattle.book.proofs.header.count.Reads as count-reads
-use Rattle.book.proofs.header.objective.Reads as objective-reads
-use Rattle.book.proofs.links.refused.Reads as refused-reads
 
 abbrev Inv-loop : tie.InvT-loop
 Inv-loop book last seen₀ records₀ n₀ at₀ link₀ seen records n at link = (last ≡ countOf v1 book) × (last ≤ 255) × Walking book seen records n at link
@@ -39,74 +31,63 @@ fault Kind h e = omega arith
 fault Slope h e = omega arith
 fault Bound h e = omega arith
 
--- src/links.rt:33:9
 count-requires : tie.Need-count-requires Inv-loop μ-loop
 count-requires c κs = tt
 
--- src/links.rt:35:5
-array-write-seen : tie.Need-array-write-seen Inv-loop μ-loop
-array-write-seen c = lit< tt
+only-header-requires : tie.Need-only-header-requires Inv-loop μ-loop
+only-header-requires c κs = tt
 
--- src/links.rt:39:9
+no-records-requires : tie.Need-no-records-requires Inv-loop μ-loop
+no-records-requires c κs = tt
+
 link-at-requires : tie.Need-link-at-requires Inv-loop μ-loop
 link-at-requires c κs = tt
 
--- src/links.rt:40:5
 loop-holds : tie.Need-loop-holds Inv-loop μ-loop
 loop-holds c =
-    let e : c .before .count .result ≡ countOf v1 (c .before .before .before .args .book .now) = c .before .count .ensures in
-    (e, rw e (c .before .before .before .pre), walking-start (c .before .before .before .args .book .now) (c .link-at .result) (c .link-at .ensures))
+    let s = c .before .before .before .before .before .args .book .now in
+    let e : c .before .before .before .count .result ≡ countOf v1 s = c .before .before .before .count .ensures in
+    (e, rw e (c .before .before .before .before .before .pre), walking-start s (c .link-at .result) (c .before .before .only-header .ensures) (c .before .no-records .ensures) (c .link-at .ensures))
 
--- src/links.rt:42:13
 refused-requires : tie.Need-refused-requires Inv-loop μ-loop
 refused-requires c κs = tt
 
--- src/links.rt:42:13
 returns : tie.Need-returns Inv-loop μ-loop
 returns c =
     let l = c .before .before .before .loop in
     c .refused .ensures ∙ ap chainOf (sym (walking-over (l .inv .2) (c .before .before .loop-test .taken) (rw (l .inv .0) at (c .before .if1 .taken))))
 
--- src/links.rt:44:21
 cast-index : tie.Need-cast-index Inv-loop μ-loop
 cast-index c = search needs
 
--- src/links.rt:45:12
 array-read-if2 : tie.Need-array-read-if2 Inv-loop μ-loop
 array-read-if2 c = omega arith
 
--- src/links.rt:46:13
 refused-requires-2 : tie.Need-refused-requires-2 Inv-loop μ-loop
 refused-requires-2 c κs = tt
 
--- src/links.rt:46:13
 returns-2 : tie.Need-returns-2 Inv-loop μ-loop
 returns-2 c =
     let l = c .before .before .before .before .loop in
     c .refused2 .ensures
     ∙ ap chainOf (sym (walking-again (l .inv .2) (c .before .before .before .loop-test .taken) (rw (l .inv .0) at (c .before .before .if1 .left)) (omega arith) (c .before .if2 .taken)))
 
--- src/links.rt:48:13
-decode-requires : tie.Need-decode-requires Inv-loop μ-loop
-decode-requires c κs = tt
+visit-requires : tie.Need-visit-requires Inv-loop μ-loop
+visit-requires c κs = tt
 
--- src/links.rt:49:31
 enum-known-decoded : tie.Need-enum-known-decoded Inv-loop μ-loop
 enum-known-decoded c = c .match .keys1
 
--- src/links.rt:50:28
 number-of-requires : tie.Need-number-of-requires Inv-loop μ-loop
 number-of-requires c κs = tt
 
--- src/links.rt:50:13
 refused-requires-3 : tie.Need-refused-requires-3 Inv-loop μ-loop
 refused-requires-3 c κs = tt
 
--- src/links.rt:50:13
 returns-3 : tie.Need-returns-3 Inv-loop μ-loop
 returns-3 c =
     let l = c .before .before .before .before .before .before .before .loop in
-    let d = c .before .before .before .decode in
+    let d = c .before .before .before .visit in
     let f = fault (d .result) (c .before .before .match .keys2) in
     c .refused3 .ensures
     ∙ ap chainOf
@@ -119,40 +100,32 @@ room c =
     let l = c .before .before .before .before .before .before .before .loop in
     walking-room (l .inv .2) (c .before .before .before .before .before .before .loop-test .taken) (rw (l .inv .0) at (c .before .before .before .before .before .if1 .left)) (omega arith) (c .before .before .before .before .if2 .left)
 
--- src/links.rt:52:9
-array-write-seen-2 : tie.Need-array-write-seen-2 Inv-loop μ-loop
-array-write-seen-2 c = omega arith
+array-write-seen : tie.Need-array-write-seen Inv-loop μ-loop
+array-write-seen c = omega arith
 
--- src/links.rt:53:9
 mul-records : tie.Need-mul-records Inv-loop μ-loop
 mul-records c = omega (arith, room c)
 
--- src/links.rt:53:9
 array-write-records : tie.Need-array-write-records Inv-loop μ-loop
 array-write-records c = room c
 
--- src/links.rt:54:9
 add-n : tie.Need-add-n Inv-loop μ-loop
 add-n c = omega (arith, room c)
 
--- src/links.rt:40:5
 loop-less : tie.Need-loop-less Inv-loop μ-loop
 loop-less c = omega (arith, room c)
 
--- src/links.rt:40:5
 loop-again : tie.Need-loop-again Inv-loop μ-loop
 loop-again c =
     let l = c .before .before .before .before .before .before .before .loop in
-    let d = c .before .before .before .decode in
+    let d = c .before .before .before .visit in
     let e = c .before .decoded .given .1 in
     let held = sound-holds v1 _ _ _ (sym (d .ensures) ∙ e) .1 in
     (l .inv .0, l .inv .1, walking-step (l .inv .2) (c .before .before .before .before .before .before .loop-test .taken) (rw (l .inv .0) at (c .before .before .before .before .before .if1 .left)) (omega arith) (c .before .before .before .before .if2 .left) _ (ap numberOf (sym (d .ensures) ∙ e)) held)
 
--- src/links.rt:58:9
 objective-requires : tie.Need-objective-requires Inv-loop μ-loop
 objective-requires c κs = tt
 
--- src/links.rt:29:1
 returns-4 : tie.Need-returns-4 Inv-loop μ-loop
 returns-4 c = walked (c .before .before .loop .inv .2) (c .before .loop-test .left) (c .objective .ensures)
 
@@ -163,7 +136,8 @@ walk-spec =
     Inv-loop
     μ-loop
     count-requires
-    array-write-seen
+    only-header-requires
+    no-records-requires
     link-at-requires
     loop-holds
     refused-requires
@@ -172,12 +146,12 @@ walk-spec =
     array-read-if2
     refused-requires-2
     returns-2
-    decode-requires
+    visit-requires
     enum-known-decoded
     number-of-requires
     refused-requires-3
     returns-3
-    array-write-seen-2
+    array-write-seen
     mul-records
     array-write-records
     add-n

@@ -1,19 +1,15 @@
+-- `book::pack::next_of` meets its contract: the last record's link is 0.
 use borrow.Author.Needs.{needs}
 use borrow.Author.Tests.{lt-ltb, le-ltb}
 use Rattle.book.proofs.pack.next_of.Statement.{statement}
 use Rattle.book.proofs.pack.next_of.Tie as tie
-use Rattle.book.proofs.pack.next_of.Reads as reads
-use Rattle.book.proofs.pack.next_of.Lts as lts
 
--- src/pack.rt:20:16
 add-result : tie.Need-add-result
 add-result c = search needs
 
--- src/pack.rt:17:1
 returns : tie.Need-returns
 returns c = rw (lt-ltb (c .before .args .k) (c .before .args .n) (c .if1 .taken))
 
--- src/pack.rt:17:1
 returns-2 : tie.Need-returns-2
 returns-2 c = rw (le-ltb (c .before .args .k) (c .before .args .n) (c .if1 .left))
 

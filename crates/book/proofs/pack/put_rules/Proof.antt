@@ -1,7 +1,8 @@
+-- `book::pack::put_rules` meets its contract: after k turns the first k rules are copied; each turn copies one record more (`paste-next`).
 use borrow.Author.Needs.{needs}
 use native.Mathlib.Omega.{arith}
-use Prim.Native.Nat.{ℕ, _+_, _-_, _*_, _≤_, _<_}
-use mathlib.Core.Path.{_≡_, refl, sym, ap, _∙_}
+use Prim.Native.Nat.{_+_, _-_, _*_, _≤_}
+use mathlib.Core.Path.{_≡_, refl, ap, _∙_}
 use lib.ListN.{length, take}
 use lib.Seq.{paste, paste-zero}
 use Rattle.book.specs.Layout.{v1}
@@ -10,11 +11,6 @@ use Rattle.book.specs.Answers.{rulesAt, Room}
 use Rattle.book.proofs.Packed.{paste-next, rule-copied, next-small, length-chainBytes, length-rules}
 use Rattle.book.proofs.pack.put_rules.Statement.{statement}
 use Rattle.book.proofs.pack.put_rules.Tie as tie
-use Rattle.book.proofs.pack.put_rules.Reads as reads
-use Rattle.book.proofs.pack.put_rules.Lts as lts
-use Rattle.book.proofs.pack.next_of.Reads as next-of-reads
-use Rattle.book.proofs.pack.rule_bytes.Reads as rule-bytes-reads
-use Rattle.book.proofs.pack.store.Reads as store-reads
 
 abbrev Inv-loop : tie.InvT-loop
 Inv-loop book out₀ n records k₀ out k =
@@ -27,55 +23,42 @@ Inv-loop book out₀ n records k₀ out k =
 abbrev μ-loop : tie.MeasureT-loop
 μ-loop book out₀ n records k₀ out k = n - k
 
--- src/pack.rt:86:5
 loop-holds : tie.Need-loop-holds Inv-loop μ-loop
 loop-holds c = (omega arith, paste-zero (c .before .before .args .out .now) 12 (chainBytes v1 1 (rulesAt (c .before .before .args .book .now) (take (c .before .before .args .n) (c .before .before .args .t3)))), refl, c .before .before .pre, (search needs))
 
--- src/pack.rt:87:17
 cast-i : tie.Need-cast-i Inv-loop μ-loop
 cast-i c = omega arith
 
--- src/pack.rt:88:21
 mul-index : tie.Need-mul-index Inv-loop μ-loop
 mul-index c = omega arith
 
--- src/pack.rt:88:21
 array-read-index : tie.Need-array-read-index Inv-loop μ-loop
 array-read-index c = omega arith
 
--- src/pack.rt:89:21
 add-place : tie.Need-add-place Inv-loop μ-loop
 add-place c = omega arith
 
--- src/pack.rt:90:20
 next-of-requires : tie.Need-next-of-requires Inv-loop μ-loop
 next-of-requires c κs = tt
 
--- src/pack.rt:90:20
 cast-link : tie.Need-cast-link Inv-loop μ-loop
 cast-link c = omega (arith, c .next-of .ensures, next-small (c .before .before .loop .k + 1) (c .before .before .before .before .before .args .n))
 
--- src/pack.rt:91:13
 rule-bytes-requires : tie.Need-rule-bytes-requires Inv-loop μ-loop
 rule-bytes-requires c κs = tt
 
--- src/pack.rt:92:32
 cast-store : tie.Need-cast-store Inv-loop μ-loop
 cast-store c = omega arith
 
--- src/pack.rt:92:26
 mul-store : tie.Need-mul-store Inv-loop μ-loop
 mul-store c = omega arith
 
--- src/pack.rt:92:9
 store-requires : tie.Need-store-requires Inv-loop μ-loop
 store-requires c κs = omega arith
 
--- src/pack.rt:86:5
 loop-less : tie.Need-loop-less Inv-loop μ-loop
 loop-less c = omega arith
 
--- src/pack.rt:86:5
 loop-again : tie.Need-loop-again Inv-loop μ-loop
 loop-again c =
     let l = c .before .before .before .before .before .before .before .loop in
@@ -97,11 +80,9 @@ loop-again c =
       l .inv .4,
     )
 
--- src/pack.rt:81:1
 same-length : tie.Need-same-length Inv-loop μ-loop
 same-length c = c .before .loop .inv .2
 
--- src/pack.rt:81:1
 returns : tie.Need-returns Inv-loop μ-loop
 returns c =
     let l = c .before .loop in

@@ -1,74 +1,54 @@
+-- `book::pack::rule_bytes` meets its contract: the fields as they stand, with another link.
 use borrow.Author.Needs.{needs}
-use mathlib.Core.Path.{_≡_, refl, sym, ap, _∙_}
-use Prim.Native.Nat.{ℕ, _*_}
+use mathlib.Core.Path.{_∙_}
 use mir.Syntax.{w16, w32}
-use mir.Val.{toZ, ofZ, Fits}
-use mir.ValLaws.{ofZ-toZ}
+use mir.Val.{Fits}
 use Rattle.book.specs.Layout.{v1}
-use Rattle.book.specs.Repacking.{recordBytes}
+use Rattle.book.specs.Record.{recordAt}
+use Rattle.book.proofs.Packed.{rule-written}
 use Rattle.book.proofs.Fields.{kind-at, a-at, b-at, c-at, label-at}
 use Rattle.book.proofs.pack.rule_bytes.Statement.{statement}
 use Rattle.book.proofs.pack.rule_bytes.Tie as tie
-use Rattle.book.proofs.pack.rule_bytes.Reads as reads
-use Rattle.book.proofs.pack.rule_bytes.Lts as lts
-use Rattle.book.proofs.bytes.byte_at.Reads as byte-at-reads
-use Rattle.book.proofs.bytes.number2.Reads as number2-reads
-use Rattle.book.proofs.bytes.number4.Reads as number4-reads
-use Rattle.book.proofs.pack.record_bytes.Reads as record-bytes-reads
 
--- src/pack.rt:54:14
 mul-at : tie.Need-mul-at
 mul-at c = search needs
 
--- src/pack.rt:55:30
 cast-byte-at : tie.Need-cast-byte-at
 cast-byte-at c = search needs
 
--- src/pack.rt:55:30
 add-byte-at : tie.Need-add-byte-at
 add-byte-at c = search needs
 
--- src/pack.rt:55:9
 byte-at-requires : tie.Need-byte-at-requires
 byte-at-requires c κs = search needs
 
--- src/pack.rt:59:23
 add-number2 : tie.Need-add-number2
 add-number2 c = search needs
 
--- src/pack.rt:59:9
 number2-requires : tie.Need-number2-requires
 number2-requires c κs = search needs
 
--- src/pack.rt:60:23
 add-number2-2 : tie.Need-add-number2-2
 add-number2-2 c = search needs
 
--- src/pack.rt:60:9
 number2-requires-2 : tie.Need-number2-requires-2
 number2-requires-2 c κs = search needs
 
--- src/pack.rt:61:23
 add-number2-3 : tie.Need-add-number2-3
 add-number2-3 c = search needs
 
--- src/pack.rt:61:9
 number2-requires-3 : tie.Need-number2-requires-3
 number2-requires-3 c κs = search needs
 
--- src/pack.rt:62:23
 add-number4 : tie.Need-add-number4
 add-number4 c = search needs
 
--- src/pack.rt:62:9
 number4-requires : tie.Need-number4-requires
 number4-requires c κs = search needs
 
--- src/pack.rt:56:5
 record-bytes-requires : tie.Need-record-bytes-requires
 record-bytes-requires c κs = search needs
 
--- src/pack.rt:51:1
 returns : tie.Need-returns
 returns c =
     let s = c .before .before .before .before .before .before .before .args .book .now in
@@ -76,12 +56,13 @@ returns c =
     let fa : Fits w16 (c .before .before .before .before .number2 .result) = search needs in
     let fb : Fits w16 (c .before .before .before .number22 .result) = search needs in
     let fc : Fits w32 (c .before .number4 .result) = search needs in
-    let pk = c .before .before .before .before .before .byte-at .ensures ∙ kind-at s i in
-    let pa = sym (ofZ-toZ w16 (c .before .before .before .before .number2 .result) fa) ∙ ap (λ (x : ℕ). ofZ w16 (toZ w16 x)) (c .before .before .before .before .number2 .ensures ∙ a-at s i) in
-    let pb = sym (ofZ-toZ w16 (c .before .before .before .number22 .result) fb) ∙ ap (λ (x : ℕ). ofZ w16 (toZ w16 x)) (c .before .before .before .number22 .ensures ∙ b-at s i) in
-    let pl = c .before .before .number23 .ensures ∙ label-at s i in
-    let pc = sym (ofZ-toZ w32 (c .before .number4 .result) fc) ∙ ap (λ (x : ℕ). ofZ w32 (toZ w32 x)) (c .before .number4 .ensures ∙ c-at s i) in
-    c .record-bytes .ensures ∙ (λ j. recordBytes v1 (c .before .before .before .before .before .before .before .args .link) (pk j) (pa j) (pb j) (pl j) (pc j))
+    rule-written (c .record-bytes .result) (recordAt v1 s i) (c .before .before .before .before .before .before .before .args .link) (c .before .before .before .before .before .byte-at .result) (c .before .before .before .before .number2 .result) (c .before .before .before .number22 .result) (c .before .before .number23 .result) (c .before .number4 .result)
+    (c .record-bytes .ensures)
+    (c .before .before .before .before .before .byte-at .ensures ∙ kind-at s i)
+    fa (c .before .before .before .before .number2 .ensures ∙ a-at s i)
+    fb (c .before .before .before .number22 .ensures ∙ b-at s i)
+    (c .before .before .number23 .ensures ∙ label-at s i)
+    fc (c .before .number4 .ensures ∙ c-at s i)
 
 pub rule-bytes-spec : {M : Type 1} → statement M
 rule-bytes-spec =

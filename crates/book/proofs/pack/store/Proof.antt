@@ -1,14 +1,13 @@
+-- `book::pack::store` meets its contract: after i turns the first i bytes are copied.
 use borrow.Author.Needs.{needs}
 use native.Mathlib.Omega.{arith}
 use native.Mathlib.Numerals.{add-one}
-use Prim.Native.Nat.{ℕ, _+_, _-_, _≤_, _<_}
+use Prim.Native.Nat.{_+_, _-_, _≤_, _<_}
 use mathlib.Core.Path.{_≡_, refl, sym, ap, _∙_}
 use lib.ListN.{length, length-set, getD, set}
 use lib.Seq.{paste, paste-zero, paste-suc}
 use Rattle.book.proofs.pack.store.Statement.{statement}
 use Rattle.book.proofs.pack.store.Tie as tie
-use Rattle.book.proofs.pack.store.Reads as reads
-use Rattle.book.proofs.pack.store.Lts as lts
 
 abbrev Inv-loop : tie.InvT-loop
 Inv-loop out₀ at bytes i₀ out i = (i ≤ 12) × (length bytes ≡ 12) × (out ≡ paste out₀ at bytes i) × (length out ≡ length out₀)
@@ -16,31 +15,24 @@ Inv-loop out₀ at bytes i₀ out i = (i ≤ 12) × (length bytes ≡ 12) × (ou
 abbrev μ-loop : tie.MeasureT-loop
 μ-loop out₀ at bytes i₀ out i = 12 - i
 
--- src/pack.rt:72:5
 loop-holds : tie.Need-loop-holds Inv-loop μ-loop
 loop-holds c = (omega arith, (search needs), paste-zero (c .args .out .now) (c .args .at) (c .args .t3), refl)
 
--- src/pack.rt:73:23
 array-read-out : tie.Need-array-read-out Inv-loop μ-loop
 array-read-out c = omega arith
 
--- src/pack.rt:73:13
 add-out : tie.Need-add-out Inv-loop μ-loop
 add-out c = omega arith
 
--- src/pack.rt:73:9
 slice-write-out : tie.Need-slice-write-out Inv-loop μ-loop
 slice-write-out c = omega arith
 
--- src/pack.rt:74:9
 add-i : tie.Need-add-i Inv-loop μ-loop
 add-i c = omega arith
 
--- src/pack.rt:72:5
 loop-less : tie.Need-loop-less Inv-loop μ-loop
 loop-less c = omega arith
 
--- src/pack.rt:72:5
 loop-again : tie.Need-loop-again Inv-loop μ-loop
 loop-again c =
     let l = c .before .loop in
@@ -49,11 +41,9 @@ loop-again c =
     let k : l .i < length (a .t3) = omega arith in
     (omega arith, l .inv .1, ap (λ o. set o (a .at + l .i) (getD (a .t3) (l .i) 0)) (l .inv .2) ∙ paste-suc (a .out .now) (a .at) (a .t3) (l .i) 0 h k ∙ ap (paste (a .out .now) (a .at) (a .t3)) (sym (add-one (l .i))), length-set (l .out) (a .at + l .i) (getD (a .t3) (l .i) 0) ∙ l .inv .3)
 
--- src/pack.rt:67:1
 same-length : tie.Need-same-length Inv-loop μ-loop
 same-length c = c .before .loop .inv .3
 
--- src/pack.rt:67:1
 returns : tie.Need-returns Inv-loop μ-loop
 returns c =
     let l = c .before .loop in

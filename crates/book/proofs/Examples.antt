@@ -1,0 +1,31 @@
+-- Document 01's whole case, and an edge of each kind, computed: the definitions say what the document says of them.
+use mathlib.Core.Path.{_≡_, refl}
+use Prim.Native.Nat.{ℕ}
+use mathlib.Core.List.{List, [], _∷_, _++_}
+use lib.IntN.{pos}
+use Rattle.book.specs.Layout.{v1}
+use Rattle.book.specs.Number.{number, bytesOf}
+use Rattle.book.specs.Record.{recordAt, checked, decodedOf}
+use Rattle.book.specs.Reading.{refused, accepted, headerFault, memb, follow, walk, readOf}
+
+pub wholeCase : List ℕ
+wholeCase =
+    2 ∷ 1 ∷ 1 ∷ 0 ∷ 1 ∷ 0 ∷ 2 ∷ 0 ∷ 0 ∷ 0 ∷ 0 ∷ 0 ∷ 0 ∷ 1 ∷ 3 ∷ 0 ∷ 1 ∷ 0 ∷ 11 ∷ 0 ∷ 9 ∷ 0 ∷ 0 ∷ 0 ∷ 1 ∷ 1 ∷ 1 ∷ 0 ∷ 2 ∷ 0 ∷ 10 ∷ 0 ∷ 8 ∷ 0 ∷ 0 ∷ 0 ∷ []
+
+pub whole-case : readOf v1 wholeCase ≡ accepted (record { p = pos 1; q = pos 1 }) (record { index = 2; rule = record { kind = 1; a = pos 1; b = pos 2; c = pos 8; label = 10 } } ∷ record { index = 1; rule = record { kind = 1; a = pos 3; b = pos 1; c = pos 9; label = 11 } } ∷ [])
+unfolding wholeCase number recordAt checked decodedOf headerFault memb follow walk readOf
+whole-case = refl
+
+-- a record that links to itself
+pub self-linked : readOf v1 (1 ∷ 1 ∷ 1 ∷ 0 ∷ 1 ∷ 0 ∷ 1 ∷ 0 ∷ 0 ∷ 0 ∷ 0 ∷ 0 ∷ 1 ∷ 1 ∷ 1 ∷ 0 ∷ 1 ∷ 0 ∷ 0 ∷ 0 ∷ 0 ∷ 0 ∷ 0 ∷ 0 ∷ []) ≡ refused 7 1
+unfolding number recordAt checked decodedOf headerFault memb follow walk readOf
+self-linked = refl
+
+-- c of 1,000,000,001, and a of −32,768
+pub c-beyond : readOf v1 (1 ∷ 1 ∷ 1 ∷ 0 ∷ 1 ∷ 0 ∷ 1 ∷ 0 ∷ 0 ∷ 0 ∷ 0 ∷ 0 ∷ 0 ∷ 1 ∷ 1 ∷ 0 ∷ 1 ∷ 0 ∷ 0 ∷ 0 ∷ bytesOf 4 1000000001) ≡ refused 10 1
+unfolding number bytesOf recordAt checked decodedOf headerFault memb follow walk readOf
+c-beyond = refl
+
+pub a-lowest : readOf v1 (1 ∷ 1 ∷ 1 ∷ 0 ∷ 1 ∷ 0 ∷ 1 ∷ 0 ∷ 0 ∷ 0 ∷ 0 ∷ 0 ∷ 0 ∷ 1 ∷ 0 ∷ 128 ∷ 1 ∷ 0 ∷ 0 ∷ 0 ∷ 1 ∷ 0 ∷ 0 ∷ 0 ∷ []) ≡ refused 9 1
+unfolding number recordAt checked decodedOf headerFault memb follow walk readOf
+a-lowest = refl
