@@ -11,4 +11,5 @@ pub mod planner;
 pub mod prefixes;
 pub mod random;
 pub mod read;
+pub mod runs;
 pub mod stored;
