@@ -36,7 +36,7 @@ impl Source {
         let count = (self.rules.len() + random.below(spare + 1)).min(MOST_RULES);
         let mut places: Vec<usize> = (1..=count).collect();
         random.shuffle(&mut places);
-        let noise = (0..RECORD * (count + 1)).map(|_| random.next() as u8).collect();
+        let noise = (0..RECORD * (count + 1)).map(|_| random.word() as u8).collect();
         self.written(&places, noise)
     }
 
@@ -69,8 +69,7 @@ pub fn to_hex(bytes: &[u8]) -> String {
 
 /// Hexadecimal digits as bytes; spaces are passed over.
 pub fn from_hex(text: &str) -> Option<Vec<u8>> {
-    let digits: Option<Vec<u8>> =
-        text.chars().filter(|c| !c.is_whitespace()).map(|c| c.to_digit(16).map(|d| d as u8)).collect();
+    let digits: Option<Vec<u8>> = text.chars().filter(|c| !c.is_whitespace()).map(|c| c.to_digit(16).map(|d| d as u8)).collect();
     let digits = digits?;
     (digits.len() % 2 == 0).then(|| digits.chunks(2).map(|d| d[0] * 16 + d[1]).collect())
 }

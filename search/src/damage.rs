@@ -12,8 +12,10 @@ pub fn damage(random: &mut Random, book: &mut Vec<u8>) {
         3 => book[record] = random.below(book.len() / RECORD + 2) as u8,
         4 => book[record + 1] = random.pick(&[0, 2, 3, 255]),
         5 => set(book, record + 2 + 2 * random.below(2), &i16::MIN.to_le_bytes()),
-        6 => set(book, record + 8, &random.pick(&[1_000_000_001, -1_000_000_001, i32::MIN, i32::MAX, 1_000_000_000]).to_le_bytes()),
-        7 => set(book, 6 + random.below(6), &[random.next() as u8]),
+        6 => {
+            set(book, record + 8, &random.pick(&[1_000_000_001, -1_000_000_001, i32::MIN, i32::MAX, 1_000_000_000]).to_le_bytes())
+        }
+        7 => set(book, 6 + random.below(6), &[random.word() as u8]),
         _ => header(random, book),
     }
 }

@@ -33,13 +33,32 @@ pub fn source(random: &mut Random, n: usize) -> (&'static str, Source) {
     if random.one_in(3) {
         random.shuffle(&mut rules);
     }
+    if random.one_in(4) {
+        twist(random, &mut rules);
+    }
     let (p, q) = objective(random, &rules);
     (name, Source { p: p as i16, q: q as i16, rules: labelled(random, &rules) })
 }
 
+/// The last rules bound what was open or contradict each other, so that much happens late.
+fn twist(random: &mut Random, rules: &mut [Numbers]) {
+    let far = random.pick(&[10, 1_000, 30_000]);
+    let (x, y) = (random.between(0, far), random.between(0, far));
+    let (a, b) = (random.between(-9, 9), random.between(1, 9));
+    let end = match random.below(4) {
+        0 => vec![(1, 1, x + y)],
+        1 => vec![(1, 0, x), (0, 1, y)],
+        2 => vec![(a, b, a * x + b * y), (-a, -b, -a * x - b * y - 1)],
+        _ => vec![(1, 0, x), (0, 1, y), (-1, -1, -x - y - 1)],
+    };
+    if let Some(first) = rules.len().checked_sub(end.len()) {
+        rules[first..].copy_from_slice(&end);
+    }
+}
+
 /// Records for the rules: kinds at random, kind 2 written the other way round.
 fn labelled(random: &mut Random, rules: &[Numbers]) -> Vec<Rule> {
-    let first = random.next() as u16;
+    let first = random.word() as u16;
     let step = if random.one_in(8) { 0 } else { 2 * random.below(30_000) as u16 + 1 };
     let mut label = first;
     rules
@@ -156,7 +175,11 @@ fn extreme_feasible(random: &mut Random, n: usize) -> Vec<Numbers> {
         let (a, b) = (coefficient(random), coefficient(random));
         let least = a * x + b * y;
         let slack = random.pick(&[0, 1, 40_000, FAR]);
-        if least.abs() > FAR { (0, 0, 0) } else { (a, b, (least + random.between(0, slack)).min(FAR)) }
+        if least.abs() > FAR {
+            (0, 0, 0)
+        } else {
+            (a, b, (least + random.between(0, slack)).min(FAR))
+        }
     })
 }
 
@@ -202,7 +225,11 @@ fn wedge(random: &mut Random, n: usize) -> Vec<Numbers> {
     many(n, || {
         room -= random.between(0, 45);
         let (a, b) = (random.between(1, 9), random.between(1, 9));
-        if random.one_in(2) { (a, b, (a + b) * (50 * n as i64 + room) * scale) } else { (-a, -b, -(a + b) * 50 * n as i64 * scale) }
+        if random.one_in(2) {
+            (a, b, (a + b) * (50 * n as i64 + room) * scale)
+        } else {
+            (-a, -b, -(a + b) * 50 * n as i64 * scale)
+        }
     })
 }
 

@@ -67,7 +67,11 @@ impl Expected {
             Counts::Exact(moves, open) => next()? == moves as i128 && next()? == open as i128,
             Counts::Within(n) => next()? <= n as i128 && next()? <= n as i128 + 1,
         };
-        if right { Ok(()) } else { Err("other counts are right".into()) }
+        if right {
+            Ok(())
+        } else {
+            Err("other counts are right".into())
+        }
     }
 
     /// The line in one piece, with * for the witness and ? for counts that were not searched.

@@ -9,6 +9,7 @@ pub mod families;
 pub mod judge;
 pub mod planner;
 pub mod prefixes;
+pub mod program;
 pub mod random;
 pub mod read;
 pub mod runs;

@@ -1,34 +1,55 @@
 //! `search` plans stored and random books, judges each line and ends with one summary line; a mismatch prints the book in hexadecimal with
-//! both lines and ends it with a failure. The environment's SEED repeats a run; SHORT, LONG and ORDERS say how many books.
+//! both lines and fails. The environment's SEED repeats a run; SHORT, LONG, DAMAGED and ORDERS say how many books.
+//! `search program PATH` runs the plan program on stored and some random books.
 //! `search look` reads books in hexadecimal, one a line, and prints for each the right line, the planner's and the verdict.
 
 use search::book::from_hex;
 use search::judge::expected;
 use search::planner;
 use search::prefixes::Depth;
-use search::runs::{orders, random_books, stored_books, Tally};
+use search::program::program;
+use search::runs::{damaged_books, orders, random_books, stored_books, Tally};
 use std::process::ExitCode;
 use std::time::{Instant, SystemTime, UNIX_EPOCH};
 
 fn main() -> ExitCode {
-    let result = if std::env::args().nth(1).as_deref() == Some("look") { look() } else { run() };
+    let words: Vec<String> = std::env::args().skip(1).collect();
+    let result = match &words.iter().map(String::as_str).collect::<Vec<_>>()[..] {
+        [] => seed().and_then(run),
+        ["program", path] => seed().and_then(|seed| run_program(path, seed)),
+        ["look"] => look(),
+        _ => Err("usage: search [look | program PATH]".into()),
+    };
     if let Err(message) = &result {
         eprintln!("{message}");
     }
-    if result.is_ok() { ExitCode::SUCCESS } else { ExitCode::FAILURE }
+    ExitCode::from(u8::from(result.is_err()))
 }
 
-fn run() -> Result<(), String> {
+/// The seed, printed before anything can go wrong.
+fn seed() -> Result<u64, String> {
     let clock = SystemTime::now().duration_since(UNIX_EPOCH).map_or(1, |t| t.as_secs());
     let seed = setting("SEED", clock)?;
     println!("search: SEED={seed}");
-    let (short, long, shuffled) = (setting("SHORT", 100_000)?, setting("LONG", 300)?, setting("ORDERS", 1_000)?);
+    Ok(seed)
+}
+
+fn run(seed: u64) -> Result<(), String> {
     let mut tally = Tally::default();
     let stored = stored_books(&mut tally)?;
-    let short = timed(|| random_books(&mut tally, seed, short, 12, 12))?;
-    let long = timed(|| random_books(&mut tally, !seed, long, 255, 60))?;
-    let shuffled = timed(|| orders(seed.rotate_left(32), shuffled))?;
-    println!("search: all right: {stored} stored, {short} of 0 to 12 rules, {long} of 0 to 255: {tally}; {shuffled} in ten orders; SEED={seed}");
+    let short = timed("SHORT", 200_000, |n| random_books(&mut tally, seed, n, 12, 12))?;
+    let long = timed("LONG", 600, |n| random_books(&mut tally, seed ^ 1 << 61, n, 255, 80))?;
+    let damaged = timed("DAMAGED", 20_000, |n| damaged_books(&mut tally, seed ^ 1 << 62, n))?;
+    let shuffled = timed("ORDERS", 1_000, |n| orders(seed ^ 1 << 63, n))?;
+    println!(
+        "search: all right: {stored} stored books, {short} of 0 to 12 rules, {long} of 0 to 255, {damaged} damaged ({tally}), \
+         {shuffled} in ten orders; SEED={seed}"
+    );
+    Ok(())
+}
+
+fn run_program(path: &str, seed: u64) -> Result<(), String> {
+    println!("search: all right: {} books through the program", program(path, seed)?);
     Ok(())
 }
 
@@ -40,9 +61,10 @@ fn setting(name: &str, otherwise: u64) -> Result<u64, String> {
     }
 }
 
-fn timed(part: impl FnOnce() -> Result<u64, String>) -> Result<String, String> {
+/// Runs a part with its number of books from the environment, and says how many there were and how long it took.
+fn timed(name: &str, otherwise: u64, part: impl FnOnce(u64) -> Result<u64, String>) -> Result<String, String> {
     let start = Instant::now();
-    Ok(format!("{} ({:.1} s)", part()?, start.elapsed().as_secs_f64()))
+    Ok(format!("{} ({:.1} s)", part(setting(name, otherwise)?)?, start.elapsed().as_secs_f64()))
 }
 
 fn look() -> Result<(), String> {

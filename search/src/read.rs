@@ -89,10 +89,18 @@ fn rule(record: &[u8]) -> Result<Line, u32> {
 
 fn signed16(bytes: &[u8], at: usize) -> i128 {
     let n = i128::from(bytes[at]) + 256 * i128::from(bytes[at + 1]);
-    if n < 32_768 { n } else { n - 65_536 }
+    if n < 32_768 {
+        n
+    } else {
+        n - 65_536
+    }
 }
 
 fn signed32(bytes: &[u8], at: usize) -> i128 {
     let n: i128 = (0..4).map(|k| i128::from(bytes[at + k]) << (8 * k)).sum();
-    if n < 2_147_483_648 { n } else { n - 4_294_967_296 }
+    if n < 2_147_483_648 {
+        n
+    } else {
+        n - 4_294_967_296
+    }
 }

@@ -1,12 +1,13 @@
 //! The parts of the test run. Every book is planned and its line judged; the first mismatch ends the run.
 
-use crate::book::{to_hex, Source};
+use crate::book::{to_hex, Source, MOST_RULES, RECORD};
 use crate::damage::damage;
 use crate::families::source;
 use crate::judge::expected;
 use crate::planner;
 use crate::prefixes::Depth;
 use crate::random::Random;
+use crate::read::read;
 use crate::stored;
 use std::fmt;
 
@@ -39,22 +40,25 @@ impl fmt::Display for Tally {
 
 /// Plans a book, judges the line, and gives the right one.
 fn try_book(name: &str, book: &[u8], depth: Depth) -> Result<String, String> {
+    try_line(name, book, depth, planner::line(book))
+}
+
+/// Judges what was printed for a book, and gives the right line.
+pub fn try_line(name: &str, book: &[u8], depth: Depth, line: Result<Vec<u8>, String>) -> Result<String, String> {
     let right = expected(book, depth);
-    let line = planner::line(book);
     let printed = line.as_ref().map_or("nothing".into(), |line| String::from_utf8_lossy(line).trim_end().to_string());
-    match line.and_then(|line| right.judge(&line)) {
-        Ok(()) => Ok(right.shown()),
-        Err(why) => Err(format!("mismatch: {name}: {why}\nbook    {}\nright   {}\nplanner {printed}", to_hex(book), right.shown())),
-    }
+    line.and_then(|line| right.judge(&line)).map_err(|why| {
+        format!("mismatch: {name}: {why}\nbook    {}\nright   {}\nprinted {printed}", to_hex(book), right.shown())
+    })?;
+    Ok(right.shown())
 }
 
 /// The stored books; the search itself must find the stored lines.
 pub fn stored_books(tally: &mut Tally) -> Result<u64, String> {
     let books = stored::books();
     for s in &books {
-        let depth = if s.book.len() > 1000 { Depth::Whole } else { Depth::Every };
-        let right = try_book(s.name, &s.book, depth)?;
-        if depth == Depth::Every && right != s.line {
+        let right = try_book(s.name, &s.book, Depth::Every)?;
+        if right != s.line {
             return Err(format!("mismatch: {}: stored {}, searched {right}\nbook    {}", s.name, s.line, to_hex(&s.book)));
         }
         tally.count(&right);
@@ -62,19 +66,40 @@ pub fn stored_books(tally: &mut Tally) -> Result<u64, String> {
     Ok(books.len() as u64)
 }
 
-/// Random books of up to `most` rules, one in six damaged. Every prefix is searched of those with up to `every` rules and of one in
-/// fifty of the others.
+/// Random books of up to `most` rules, one in four nearly as long as that, one in six damaged. Every prefix is searched of those with up to `every` rules and of one in
+/// twenty of the others.
 pub fn random_books(tally: &mut Tally, seed: u64, books: u64, most: usize, every: usize) -> Result<u64, String> {
     let mut random = Random::new(seed);
     for i in 0..books {
-        let n = random.below(most + 1);
+        let n = if random.one_in(4) { most - random.below(most / 12 + 1) } else { random.below(most + 1) };
         let (name, source) = source(&mut random, n);
         let mut book = if random.one_in(4) { source.packed() } else { source.scattered(3, &mut random) };
         if random.one_in(6) {
             damage(&mut random, &mut book);
         }
-        let depth = if n <= every || i % 50 == 0 { Depth::Every } else { Depth::Whole };
+        let depth = if n <= every || i % 20 == 0 { Depth::Every } else { Depth::Whole };
         tally.count(&try_book(name, &book, depth)?);
+    }
+    Ok(books)
+}
+
+/// Long books, damaged once or twice, of which those that are turned back are tried: they cost no search.
+pub fn damaged_books(tally: &mut Tally, seed: u64, books: u64) -> Result<u64, String> {
+    let mut random = Random::new(seed);
+    let mut tried = 0;
+    while tried < books {
+        let n = random.below(MOST_RULES + 1);
+        let (name, source) = source(&mut random, n);
+        let mut book = source.scattered(3, &mut random);
+        for _ in 0..random.between(1, 2) {
+            if book.len() >= RECORD {
+                damage(&mut random, &mut book);
+            }
+        }
+        if read(&book).is_err() {
+            tally.count(&try_book(name, &book, Depth::Whole)?);
+            tried += 1;
+        }
     }
     Ok(books)
 }

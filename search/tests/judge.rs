@@ -23,9 +23,24 @@ fn verdicts(source: &Source, right: &str, wrong: &[&str]) {
 fn best_is_exact() {
     let tens = source(1, 1, &[(1, 10, 0, 14), (1, 0, 10, 14)]);
     let wrong = [
-        "best 14 14 10 0 2\n", "best 7 7 5 1 2\n", "best 7 7 5 0 1\n", "best 7 7 5 0 2", "best 7 7 5 0 2\n\n", "best 7 7 5 0 2 \n",
-        "best 7 7 5  0 2\n", "best 7 7 5 0 02\n", "best 7 7 5 0 2 0\n", "best 7 7 50 2\n", "best +7 7 5 0 2\n", "unlimited 7 7 5 0 2\n",
-        "best 7 7 5 0\n", "Best 7 7 5 0 2\n", "", "\n", "refused 1 0\n", "best 7 7 5 -0 2\n",
+        "best 14 14 10 0 2\n",
+        "best 7 7 5 1 2\n",
+        "best 7 7 5 0 1\n",
+        "best 7 7 5 0 2",
+        "best 7 7 5 0 2\n\n",
+        "best 7 7 5 0 2 \n",
+        "best 7 7 5  0 2\n",
+        "best 7 7 5 0 02\n",
+        "best 7 7 5 0 2 0\n",
+        "best 7 7 50 2\n",
+        "best +7 7 5 0 2\n",
+        "unlimited 7 7 5 0 2\n",
+        "best 7 7 5 0\n",
+        "Best 7 7 5 0 2\n",
+        "",
+        "\n",
+        "refused 1 0\n",
+        "best 7 7 5 -0 2\n",
     ];
     verdicts(&tens, "best 7 7 5 0 2\n", &wrong);
 }
@@ -33,7 +48,8 @@ fn best_is_exact() {
 #[test]
 fn unlimited_is_exact() {
     let tilted = source(1, 0, &[(1, 1, -1, 2)]);
-    let wrong = ["unlimited 0 0 1 2 2 0 2\n", "unlimited 0 0 1 0 1 0 2\n", "unlimited 1 0 1 1 1 0 2\n", "unlimited 0 0 1 1 1 0 1\n"];
+    let wrong =
+        ["unlimited 0 0 1 2 2 0 2\n", "unlimited 0 0 1 0 1 0 2\n", "unlimited 1 0 1 1 1 0 2\n", "unlimited 0 0 1 1 1 0 1\n"];
     verdicts(&tilted, "unlimited 0 0 1 1 1 0 2\n", &wrong);
 }
 
@@ -41,11 +57,22 @@ fn unlimited_is_exact() {
 fn witnesses_are_judged_by_their_property() {
     let rules = [(1, 0, 0, 5), (2, 1, 1, 4), (1, 1, 0, 1), (1, 0, 1, 1), (1, 0, 1, -9)];
     let wrong = [
-        "impossible 4 2 0 3 2 1 3 1 4 0\n", "impossible 4 2 0 3 3 1 2 1 4 1\n", "impossible 4 2 0 3 2 1 3 1 3 1\n",
-        "impossible 4 2 0 2 2 1 3 1 4 1\n", "impossible 4 2 0 3 2 1 3 1 4 2\n", "impossible 4 2 0 3 2 -1 3 -1 4 -1\n",
-        "impossible 4 2 0 2 Y 1 5 1\n", "impossible 5 2 0 3 2 1 3 1 4 1\n", "impossible 4 2 0 3 2 1 3 1 4\n", "impossible 4 2 0 0\n",
-        "impossible 4 2 0\n", "impossible 4 2 0 1 1 1\n", "impossible 4 3 0 3 2 1 3 1 4 1\n", "impossible 4 2 0 3 2 01 3 1 4 1\n",
-        "impossible 4 2 0 4 1 1 2 1 3 1 4 1\n", "impossible 4 2 0 3 2 2147352579 3 2147352579 4 2147352579\n",
+        "impossible 4 2 0 3 2 1 3 1 4 0\n",
+        "impossible 4 2 0 3 3 1 2 1 4 1\n",
+        "impossible 4 2 0 3 2 1 3 1 3 1\n",
+        "impossible 4 2 0 2 2 1 3 1 4 1\n",
+        "impossible 4 2 0 3 2 1 3 1 4 2\n",
+        "impossible 4 2 0 3 2 -1 3 -1 4 -1\n",
+        "impossible 4 2 0 2 Y 1 5 1\n",
+        "impossible 5 2 0 3 2 1 3 1 4 1\n",
+        "impossible 4 2 0 3 2 1 3 1 4\n",
+        "impossible 4 2 0 0\n",
+        "impossible 4 2 0\n",
+        "impossible 4 2 0 1 1 1\n",
+        "impossible 4 3 0 3 2 1 3 1 4 1\n",
+        "impossible 4 2 0 3 2 01 3 1 4 1\n",
+        "impossible 4 2 0 4 1 1 2 1 3 1 4 1\n",
+        "impossible 4 2 0 3 2 2147352579 3 2147352579 4 2147352579\n",
     ];
     let source = source(-1, -1, &rules);
     verdicts(&source, "impossible 4 2 0 3 2 1 3 1 4 1\n", &wrong);
@@ -55,7 +82,12 @@ fn witnesses_are_judged_by_their_property() {
 #[test]
 fn floors_come_first() {
     let below = source(0, 0, &[(1, 1, 1, -1)]);
-    let wrong = ["impossible 1 1 0 3 1 1 X 1 Y 1\n", "impossible 1 1 0 3 Y 1 X 1 1 1\n", "impossible 1 1 0 2 X 1 1 1\n", "impossible 1 1 0 3 x 1 y 1 1 1\n"];
+    let wrong = [
+        "impossible 1 1 0 3 1 1 X 1 Y 1\n",
+        "impossible 1 1 0 3 Y 1 X 1 1 1\n",
+        "impossible 1 1 0 2 X 1 1 1\n",
+        "impossible 1 1 0 3 x 1 y 1 1 1\n",
+    ];
     verdicts(&below, "impossible 1 1 0 3 X 1 Y 1 1 1\n", &wrong);
 }
 

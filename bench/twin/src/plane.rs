@@ -60,5 +60,9 @@ impl Ray {
 }
 
 fn gcd(m: u64, n: u64) -> u64 {
-    if n == 0 { m } else { gcd(n, m % n) }
+    if n == 0 {
+        m
+    } else {
+        gcd(n, m % n)
+    }
 }

@@ -88,7 +88,11 @@ fn certificate(earlier: &[Constraint], h: Constraint, j: usize, k: usize) -> Wit
 fn upward(h: Constraint, p: i64, q: i64) -> Constraint {
     let gain = p * h.b - q * h.a;
     let up = gain > 0 || (gain == 0 && (h.b < 0 || (h.b == 0 && h.a > 0)));
-    if up { h } else { h.turned() }
+    if up {
+        h
+    } else {
+        h.turned()
+    }
 }
 
 /// The first meeting point along the line's ray with a constraint that the ray goes against, and that constraint.
