@@ -9,7 +9,7 @@ type Family = fn(&mut Random, usize) -> Vec<Numbers>;
 pub const TOP: i64 = 32_767;
 pub const FAR: i64 = 1_000_000_000;
 
-const FAMILIES: [(&str, Family); 14] = [
+const FAMILIES: [(&str, Family); 15] = [
     ("small", small),
     ("bounded", bounded),
     ("parallel", parallel),
@@ -21,6 +21,7 @@ const FAMILIES: [(&str, Family); 14] = [
     ("extreme around a pair", extreme_feasible),
     ("near parallel", near_parallel),
     ("open", open),
+    ("open, then closed", open_then_closed),
     ("tangents", tangents),
     ("wedge", wedge),
     ("uniform", uniform),
@@ -203,6 +204,18 @@ fn open(random: &mut Random, n: usize) -> Vec<Numbers> {
         let sign = if a * dx + b * dy > 0 && !random.one_in(20) { -1 } else { 1 };
         (sign * a, sign * b, random.between(-20, 40))
     })
+}
+
+/// The direction (1, 1) keeps every rule but perhaps the last.
+fn open_then_closed(random: &mut Random, n: usize) -> Vec<Numbers> {
+    let mut rules = many(n, || {
+        let a = random.between(-TOP, TOP);
+        (a, random.between(-TOP, -a.max(0)), random.between(-FAR, FAR))
+    });
+    if let Some(last) = rules.last_mut().filter(|_| random.one_in(2)) {
+        *last = (random.between(1, TOP), random.between(1, TOP), FAR);
+    }
+    rules
 }
 
 /// Tangents of a parabola over which the least x lies, each cutting a little off.

@@ -38,7 +38,7 @@ fn run(seed: u64) -> Result<(), String> {
     let mut tally = Tally::default();
     let stored = stored_books(&mut tally)?;
     let short = timed("SHORT", 200_000, |n| random_books(&mut tally, seed, n, 12, 12))?;
-    let long = timed("LONG", 600, |n| random_books(&mut tally, seed ^ 1 << 61, n, 255, 80))?;
+    let long = timed("LONG", 1_200, |n| random_books(&mut tally, seed ^ 1 << 61, n, 255, 80))?;
     let damaged = timed("DAMAGED", 20_000, |n| damaged_books(&mut tally, seed ^ 1 << 62, n))?;
     let shuffled = timed("ORDERS", 1_000, |n| orders(seed ^ 1 << 63, n))?;
     println!(

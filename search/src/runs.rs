@@ -67,7 +67,7 @@ pub fn stored_books(tally: &mut Tally) -> Result<u64, String> {
 }
 
 /// Random books of up to `most` rules, one in four nearly as long as that, one in six damaged. Every prefix is searched of those with up to `every` rules and of one in
-/// twenty of the others.
+/// forty of the others.
 pub fn random_books(tally: &mut Tally, seed: u64, books: u64, most: usize, every: usize) -> Result<u64, String> {
     let mut random = Random::new(seed);
     for i in 0..books {
@@ -77,7 +77,7 @@ pub fn random_books(tally: &mut Tally, seed: u64, books: u64, most: usize, every
         if random.one_in(6) {
             damage(&mut random, &mut book);
         }
-        let depth = if n <= every || i % 20 == 0 { Depth::Every } else { Depth::Whole };
+        let depth = if n <= every || i % 40 == 0 { Depth::Every } else { Depth::Whole };
         tally.count(&try_book(name, &book, depth)?);
     }
     Ok(books)
