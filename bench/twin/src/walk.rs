@@ -48,9 +48,9 @@ pub fn walk(chain: &Chain) -> Answer {
                 Err(witness) => return Answer { outcome: Outcome::Impossible { place: m - 1, witness }, moves, open },
             }
         }
+        cone.cut(h);
         let was_open = ray.is_some();
         if was_open {
-            cone.cut(h);
             ray = cone.gaining(p, q);
             open += usize::from(ray.is_some());
         }
@@ -110,6 +110,9 @@ fn tightest(earlier: &[Constraint], line: Constraint) -> (Point, usize) {
 
 impl Cone {
     fn cut(&mut self, h: Constraint) {
+        if self.empty {
+            return;
+        }
         match (h.along(self.lo) > 0, h.along(self.hi) > 0) {
             (false, false) => {}
             (false, true) => self.hi = Ray { dx: h.b, dy: -h.a },
