@@ -66,14 +66,15 @@ pub fn stored_books(tally: &mut Tally) -> Result<u64, String> {
     Ok(books.len() as u64)
 }
 
-/// Random books of up to `most` rules, one in four nearly as long as that, one in six damaged. Every prefix is searched of those with up to `every` rules and of one in
-/// forty of the others.
+/// Random books of up to `most` rules, one in four nearly as long as that, one in six damaged. Every prefix is searched of those
+/// with up to `every` rules and of one in forty of the others.
 pub fn random_books(tally: &mut Tally, seed: u64, books: u64, most: usize, every: usize) -> Result<u64, String> {
     let mut random = Random::new(seed);
     for i in 0..books {
         let n = if random.one_in(4) { most - random.below(most / 12 + 1) } else { random.below(most + 1) };
         let (name, source) = source(&mut random, n);
-        let mut book = if random.one_in(4) { source.packed() } else { source.scattered(3, &mut random) };
+        let spare = random.pick(&[3, 3, 3, MOST_RULES]);
+        let mut book = if random.one_in(4) { source.packed() } else { source.scattered(spare, &mut random) };
         if random.one_in(6) {
             damage(&mut random, &mut book);
         }
