@@ -1,0 +1,96 @@
+//! The measured books. All are accepted, repacked, and allow pairs, so that planner and twin must print the same line.
+
+use search::book::{Rule, Source};
+use search::random::Random;
+
+/// Books of n rules of one sort.
+pub type Books = fn(&mut Random, usize) -> Vec<Vec<u8>>;
+
+pub const SORTS: [(&str, Books); 3] = [("random", random), ("adversarial", adversarial), ("open", open)];
+
+/// How many different books are measured together.
+const DIFFERENT: usize = 32;
+
+/// Any coefficients; c is not negative, so that (0, 0) is allowed. Few rules move the best pair.
+fn random(random: &mut Random, n: usize) -> Vec<Vec<u8>> {
+    let mut number = |low| random.between(low, 32_767) as i16;
+    let mut book = || {
+        let rules: Vec<Rule> = (0..n).map(|i| rule(i, number(-32_767), number(-32_767), i32::from(number(0)) * 30_000)).collect();
+        Source { p: number(1), q: number(1), rules }.packed()
+    };
+    (0..DIFFERENT).map(|_| book()).collect()
+}
+
+/// Every rule moves the best pair and with it the start pair. The objective is least x; the rules are tangents of a parabola that opens to
+/// larger x, from far out towards its tip and from both sides in turn, so that each cuts off the corner of the two before it.
+fn adversarial(random: &mut Random, n: usize) -> Vec<Vec<u8>> {
+    let mut book = || {
+        let (tip_x, tip_y) = (random.between(20_000, 1_000_000), random.between(200, 1_000_000));
+        let rules = (0..n).map(|i| tangent(i, n, tip_x, tip_y)).collect();
+        Source { p: -1, q: 0, rules }.packed()
+    };
+    (0..DIFFERENT).map(|_| book()).collect()
+}
+
+/// x - 2t(y - tip_y) at least tip_x - t².
+fn tangent(i: usize, n: usize, tip_x: i64, tip_y: i64) -> Rule {
+    let t = (n / 2 + 1 - i / 2) as i64 * if i % 2 == 0 { -1 } else { 1 };
+    rule(i, -1, (2 * t) as i16, (t * t + 2 * t * tip_y - tip_x) as i32)
+}
+
+/// The direction (1, 1) keeps every rule, so that every prefix is unlimited; the start pair moves now and then.
+fn open(random: &mut Random, n: usize) -> Vec<Vec<u8>> {
+    let mut one = |i| {
+        let (a, b) = (random.between(-32_767, 32_767) as i16, random.between(-32_767, 32_767) as i16);
+        let c = random.between(-1_000_000_000, 1_000_000_000) as i32;
+        if i32::from(a) + i32::from(b) < 0 {
+            rule(i, a, b, c)
+        } else {
+            rule(i, -a, -b, c)
+        }
+    };
+    (0..DIFFERENT).map(|_| Source { p: 1, q: 1, rules: (0..n).map(&mut one).collect() }.packed()).collect()
+}
+
+/// Every other rule is written as kind 2.
+fn rule(i: usize, a: i16, b: i16, c: i32) -> Rule {
+    let label = i as u16;
+    if i % 2 == 0 {
+        Rule { kind: 1, a, b, c, label }
+    } else {
+        Rule { kind: 2, a: -a, b: -b, c: -c, label }
+    }
+}
+
+#[cfg(test)]
+mod tests {
+    use super::*;
+    use search::judge::expected;
+    use search::prefixes::Depth;
+
+    fn shown(books: Books, n: usize) -> Vec<String> {
+        let some = if n > 100 { 1 } else { DIFFERENT };
+        books(&mut Random::new(1), n).iter().take(some).map(|b| expected(b, Depth::Every).shown()).collect()
+    }
+
+    #[test]
+    fn adversarial_rules_all_move() {
+        for n in [16, 64, 255] {
+            for line in shown(adversarial, n) {
+                assert!(line.starts_with("best") && line.ends_with(&format!(" {n} 0")), "{line}");
+            }
+        }
+    }
+
+    #[test]
+    fn open_chains_stay_open() {
+        for line in shown(open, 40) {
+            assert!(line.starts_with("unlimited") && line.ends_with(" 0 41"), "{line}");
+        }
+    }
+
+    #[test]
+    fn random_chains_allow_pairs() {
+        assert!(shown(random, 40).iter().all(|line| line.starts_with("best") || line.starts_with("unlimited")));
+    }
+}

@@ -1,0 +1,68 @@
+//! Lines and points with i64. For lawful rules no product or sum leaves 64 bits.
+
+#[derive(Clone, Copy)]
+pub struct Constraint {
+    pub a: i64,
+    pub b: i64,
+    pub c: i64,
+}
+
+#[derive(Clone, Copy)]
+pub struct Point {
+    pub x: i64,
+    pub y: i64,
+    pub d: i64,
+}
+
+#[derive(Clone, Copy)]
+pub struct Ray {
+    pub dx: i64,
+    pub dy: i64,
+}
+
+impl Constraint {
+    pub fn broken_by(&self, v: Point) -> bool {
+        self.a * v.x + self.b * v.y > self.c * v.d
+    }
+
+    /// The same line with its other side.
+    pub fn turned(&self) -> Self {
+        Constraint { a: -self.a, b: -self.b, c: -self.c }
+    }
+
+    /// How fast a step along the ray (b, -a) of `line` goes against this constraint.
+    pub fn against(&self, line: Constraint) -> i64 {
+        self.a * line.b - self.b * line.a
+    }
+
+    pub fn along(&self, d: Ray) -> i64 {
+        self.a * d.dx + self.b * d.dy
+    }
+
+    /// Where the constraint meets a line; its `against` is the denominator.
+    pub fn meet(&self, line: Constraint) -> Point {
+        Point { x: self.c * line.b - self.b * line.c, y: self.a * line.c - self.c * line.a, d: self.against(line) }
+    }
+}
+
+impl Point {
+    pub fn reduced(self) -> Self {
+        let g = gcd(gcd(self.x.unsigned_abs(), self.y.unsigned_abs()), self.d.unsigned_abs()) as i64;
+        Point { x: self.x / g, y: self.y / g, d: self.d / g }
+    }
+}
+
+impl Ray {
+    pub fn reduced(self) -> Self {
+        let g = gcd(self.dx.unsigned_abs(), self.dy.unsigned_abs()) as i64;
+        Ray { dx: self.dx / g, dy: self.dy / g }
+    }
+}
+
+fn gcd(m: u64, n: u64) -> u64 {
+    if n == 0 {
+        m
+    } else {
+        gcd(n, m % n)
+    }
+}

@@ -1,0 +1,132 @@
+//! The exhaustive search of one list of rules. Every two of floors and rules that are not parallel meet in a pair; the allowed ones among
+//! these are the corners. With both floors in force an allowed pair exists only if a corner does, and the start pair and the best pair are
+//! corners. Numbers are 128-bit integers and nothing is remembered from one list to the next.
+
+use std::cmp::Ordering;
+
+/// A rule as planned: a·x + b·y at most c.
+#[derive(Clone, Copy, Debug, PartialEq)]
+pub struct Line {
+    pub a: i128,
+    pub b: i128,
+    pub c: i128,
+}
+
+pub const FLOORS: [Line; 2] = [Line { a: -1, b: 0, c: 0 }, Line { a: 0, b: -1, c: 0 }];
+
+/// The pair x = X/D, y = Y/D.
+#[derive(Clone, Copy, Debug, PartialEq)]
+pub struct Pair {
+    pub x: i128,
+    pub y: i128,
+    pub d: i128,
+}
+
+#[derive(Clone, Debug, PartialEq)]
+pub enum Outcome {
+    Impossible,
+    Unlimited { start: Pair, dx: i128, dy: i128 },
+    Best(Pair),
+}
+
+impl Line {
+    pub fn kept_by(&self, v: &Pair) -> bool {
+        self.a * v.x + self.b * v.y <= self.c * v.d
+    }
+}
+
+/// The outcome of an objective, the floors and the rules.
+pub fn outcome(p: i128, q: i128, rules: &[Line]) -> Outcome {
+    let entries: Vec<Line> = FLOORS.iter().chain(rules).copied().collect();
+    let corners = corners(&entries);
+    let Some(start) = corners.iter().min_by(|v, w| by_place(v, w)) else {
+        return Outcome::Impossible;
+    };
+    if let Some((dx, dy)) = direction(p, q, rules) {
+        return Outcome::Unlimited { start: reduced(start), dx, dy };
+    }
+    let best = corners.iter().min_by(|v, w| by_gain(p, q, w, v).then(by_place(v, w)));
+    Outcome::Best(reduced(best.unwrap()))
+}
+
+/// Every pair where two entries meet and that keeps all entries.
+fn corners(entries: &[Line]) -> Vec<Pair> {
+    let mut found = Vec::new();
+    for (i, h) in entries.iter().enumerate() {
+        for k in &entries[..i] {
+            if let Some(v) = meeting(h, k) {
+                if entries.iter().all(|e| e.kept_by(&v)) {
+                    found.push(v);
+                }
+            }
+        }
+    }
+    found
+}
+
+/// Where two lines meet, by Cramer's rule.
+fn meeting(h: &Line, k: &Line) -> Option<Pair> {
+    let d = h.a * k.b - k.a * h.b;
+    let x = h.c * k.b - k.c * h.b;
+    let y = h.a * k.c - k.a * h.c;
+    match d.signum() {
+        0 => None,
+        s => Some(Pair { x: x * s, y: y * s, d: d * s }),
+    }
+}
+
+/// Least x first, then least y.
+fn by_place(v: &Pair, w: &Pair) -> Ordering {
+    (v.x * w.d).cmp(&(w.x * v.d)).then((v.y * w.d).cmp(&(w.y * v.d)))
+}
+
+fn by_gain(p: i128, q: i128, v: &Pair, w: &Pair) -> Ordering {
+    ((p * v.x + q * v.y) * w.d).cmp(&((p * w.x + q * w.y) * v.d))
+}
+
+/// The lawful candidate with the smallest slope, divided by its greatest common divisor.
+fn direction(p: i128, q: i128, rules: &[Line]) -> Option<(i128, i128)> {
+    let turned = rules.iter().flat_map(|r| [(r.b, -r.a), (-r.b, r.a)]);
+    [(1, 0), (0, 1)]
+        .into_iter()
+        .chain(turned)
+        .filter(|&(dx, dy)| dx >= 0 && dy >= 0 && (dx, dy) != (0, 0) && p * dx + q * dy > 0)
+        .filter(|&(dx, dy)| rules.iter().all(|r| r.a * dx + r.b * dy <= 0))
+        .min_by(|d, e| (d.1 * e.0).cmp(&(e.1 * d.0)))
+        .map(|(dx, dy)| (dx / divisor(dx, dy), dy / divisor(dx, dy)))
+}
+
+fn reduced(v: &Pair) -> Pair {
+    let g = divisor(divisor(v.x, v.y), v.d);
+    Pair { x: v.x / g, y: v.y / g, d: v.d / g }
+}
+
+/// The greatest common divisor of two numbers, not both 0, by halving and subtracting.
+fn divisor(m: i128, n: i128) -> i128 {
+    let (mut m, mut n) = (m.unsigned_abs(), n.unsigned_abs());
+    if m == 0 || n == 0 {
+        return (m + n) as i128;
+    }
+    let twos = (m | n).trailing_zeros();
+    m >>= m.trailing_zeros();
+    while n != 0 {
+        n >>= n.trailing_zeros();
+        (m, n) = (m.min(n), m.abs_diff(n));
+    }
+    (m << twos) as i128
+}
+
+#[cfg(test)]
+mod tests {
+    use super::*;
+
+    #[test]
+    fn divisors_are_the_greatest() {
+        for m in 0..60 {
+            for n in 1..60 {
+                let plain = (1..=60).filter(|k| m % k == 0 && n % k == 0).max().unwrap();
+                assert_eq!(divisor(m, -n), plain);
+            }
+        }
+    }
+}

@@ -1,0 +1,252 @@
+//! Random rules, one function a family: each aims at a situation that a planner gets wrong.
+
+use crate::book::{Rule, Source};
+use crate::random::Random;
+
+type Numbers = (i64, i64, i64);
+type Family = fn(&mut Random, usize) -> Vec<Numbers>;
+
+pub const TOP: i64 = 32_767;
+pub const FAR: i64 = 1_000_000_000;
+
+const FAMILIES: [(&str, Family); 15] = [
+    ("small", small),
+    ("bounded", bounded),
+    ("parallel", parallel),
+    ("duplicates", duplicates),
+    ("one corner", one_corner),
+    ("large corner", large_corner),
+    ("flat", flat),
+    ("extreme", extreme),
+    ("extreme around a pair", extreme_feasible),
+    ("near parallel", near_parallel),
+    ("open", open),
+    ("open, then closed", open_then_closed),
+    ("tangents", tangents),
+    ("wedge", wedge),
+    ("uniform", uniform),
+];
+
+/// A random source of n rules with the name of its family; labels are distinct but for one book in eight.
+pub fn source(random: &mut Random, n: usize) -> (&'static str, Source) {
+    let (name, family) = random.pick(&FAMILIES);
+    let mut rules = family(random, n);
+    if random.one_in(3) {
+        random.shuffle(&mut rules);
+    }
+    if random.one_in(4) {
+        twist(random, &mut rules);
+    }
+    let (p, q) = objective(random, &rules);
+    (name, Source { p: p as i16, q: q as i16, rules: labelled(random, &rules) })
+}
+
+/// The last rules bound what was open or contradict each other, so that much happens late.
+fn twist(random: &mut Random, rules: &mut [Numbers]) {
+    let far = random.pick(&[10, 1_000, 30_000]);
+    let (x, y) = (random.between(0, far), random.between(0, far));
+    let (a, b) = (random.between(-9, 9), random.between(1, 9));
+    let end = match random.below(4) {
+        0 => vec![(1, 1, x + y)],
+        1 => vec![(1, 0, x), (0, 1, y)],
+        2 => vec![(a, b, a * x + b * y), (-a, -b, -a * x - b * y - 1)],
+        _ => vec![(1, 0, x), (0, 1, y), (-1, -1, -x - y - 1)],
+    };
+    if let Some(first) = rules.len().checked_sub(end.len()) {
+        rules[first..].copy_from_slice(&end);
+    }
+}
+
+/// Records for the rules: kinds at random, kind 2 written the other way round.
+fn labelled(random: &mut Random, rules: &[Numbers]) -> Vec<Rule> {
+    let first = random.word() as u16;
+    let step = if random.one_in(8) { 0 } else { 2 * random.below(30_000) as u16 + 1 };
+    let mut label = first;
+    rules
+        .iter()
+        .map(|&(a, b, c)| {
+            let sign = random.pick(&[1, -1]);
+            label = label.wrapping_add(step);
+            let kind = if sign == 1 { 1 } else { 2 };
+            Rule { kind, a: (sign * a) as i16, b: (sign * b) as i16, c: (sign * c) as i32, label }
+        })
+        .collect()
+}
+
+/// Small, zero, extreme, or tied with a rule.
+fn objective(random: &mut Random, rules: &[Numbers]) -> (i64, i64) {
+    match random.below(6) {
+        0 if !rules.is_empty() => {
+            let (a, b, _) = random.pick(rules);
+            let sign = random.pick(&[1, 1, -1]);
+            (sign * a, sign * b)
+        }
+        1 => (coefficient(random), coefficient(random)),
+        2 => (random.between(-1, 1), random.between(-1, 1)),
+        3 => (random.between(1, 5), random.between(1, 5)),
+        _ => (random.between(-4, 4), random.between(-4, 4)),
+    }
+}
+
+fn many(n: usize, mut one: impl FnMut() -> Numbers) -> Vec<Numbers> {
+    (0..n).map(|_| one()).collect()
+}
+
+fn small(random: &mut Random, n: usize) -> Vec<Numbers> {
+    many(n, || (random.between(-3, 3), random.between(-3, 3), random.between(-5, 12)))
+}
+
+fn bounded(random: &mut Random, n: usize) -> Vec<Numbers> {
+    many(n, || (random.between(-1, 5), random.between(-1, 5), random.between(0, 30)))
+}
+
+/// Multiples of two or three normals, either way round.
+fn parallel(random: &mut Random, n: usize) -> Vec<Numbers> {
+    let normals: Vec<(i64, i64)> = (0..3).map(|_| (random.between(-4, 4), random.between(-4, 4))).collect();
+    many(n, || {
+        let (a, b) = random.pick(&normals);
+        let times = random.pick(&[1, 1, 2, 3, -1]);
+        (times * a, times * b, random.between(-4, 20) * random.pick(&[1, times]))
+    })
+}
+
+fn duplicates(random: &mut Random, n: usize) -> Vec<Numbers> {
+    let pool = bounded(random, 4);
+    many(n, || {
+        let (a, b, c) = random.pick(&pool);
+        let times = random.pick(&[1, 1, 1, 2, 5]);
+        (times * a, times * b, times * c)
+    })
+}
+
+/// Rules through one small pair or a hair beside it.
+fn one_corner(random: &mut Random, n: usize) -> Vec<Numbers> {
+    let (x, y) = (random.between(0, 5), random.between(0, 5));
+    let aside = [0, 0, 0, 0, 1, if random.one_in(3) { -1 } else { 0 }];
+    many(n, || {
+        let (a, b) = (random.between(-6, 6), random.between(-6, 6));
+        (a, b, a * x + b * y + random.pick(&aside))
+    })
+}
+
+/// The same with large coefficients and a far corner.
+fn large_corner(random: &mut Random, n: usize) -> Vec<Numbers> {
+    let (x, y) = (random.between(0, 15_000), random.between(0, 15_000));
+    let slack = random.pick(&[0, 0, 1, 1000]);
+    many(n, || {
+        let (a, b) = (coefficient(random), coefficient(random));
+        (a, b, (a * x + b * y + random.between(0, slack)).clamp(-FAR, FAR))
+    })
+}
+
+/// Many rules with a = b = 0, few of them broken.
+fn flat(random: &mut Random, n: usize) -> Vec<Numbers> {
+    let low = if random.one_in(3) { -1 } else { 0 };
+    many(n, || match random.below(3) {
+        0 => (0, 0, random.between(low, 2) * random.pick(&[1, 1, FAR / 2])),
+        1 => (random.between(0, 3), 0, random.between(0, 9)),
+        _ => (random.between(-2, 3), random.between(-2, 3), random.between(0, 9)),
+    })
+}
+
+fn coefficient(random: &mut Random) -> i64 {
+    match random.below(4) {
+        0 => random.pick(&[TOP, -TOP]),
+        1 => random.pick(&[TOP - 1, 1 - TOP, 1, -1, 0]),
+        _ => random.between(-TOP, TOP),
+    }
+}
+
+fn extreme(random: &mut Random, n: usize) -> Vec<Numbers> {
+    let low = random.pick(&[-1, 0, 0]);
+    many(n, || {
+        let c = match random.below(3) {
+            0 => FAR * random.between(low, 1),
+            1 => random.pick(&[FAR - 1, 1, 0, low, low * (FAR - 1)]),
+            _ => random.between(low * FAR, FAR),
+        };
+        (coefficient(random), coefficient(random), c)
+    })
+}
+
+/// Extreme rules that a chosen pair keeps, often barely.
+fn extreme_feasible(random: &mut Random, n: usize) -> Vec<Numbers> {
+    let (x, y) = (random.between(0, 30_000), random.between(0, 30_000));
+    many(n, || {
+        let (a, b) = (coefficient(random), coefficient(random));
+        let least = a * x + b * y;
+        let slack = random.pick(&[0, 1, 40_000, FAR]);
+        if least.abs() > FAR {
+            (0, 0, 0)
+        } else {
+            (a, b, (least + random.between(0, slack)).min(FAR))
+        }
+    })
+}
+
+/// Normals that differ in the last unit, with c close to the top.
+fn near_parallel(random: &mut Random, n: usize) -> Vec<Numbers> {
+    let sign = random.pick(&[1, 1, -1]);
+    many(n, || {
+        let a = TOP - random.between(0, 3);
+        let b = random.pick(&[1, 1, -1]) * (TOP - random.between(0, 3));
+        let turn = random.pick(&[1, 1, 1, sign]);
+        (turn * a, turn * b, turn * (FAR - random.between(0, 5)))
+    })
+}
+
+/// A direction into the quadrant keeps every rule, so that prefixes stay open for long.
+fn open(random: &mut Random, n: usize) -> Vec<Numbers> {
+    let (dx, dy) = (random.between(0, 3), random.between(0, 3));
+    let top = random.pick(&[6, 6, TOP]);
+    many(n, || {
+        let (a, b) = (random.between(-top, top), random.between(-top, top));
+        let sign = if a * dx + b * dy > 0 && !random.one_in(20) { -1 } else { 1 };
+        (sign * a, sign * b, random.between(-20, 40))
+    })
+}
+
+/// The direction (1, 1) keeps every rule but perhaps the last.
+fn open_then_closed(random: &mut Random, n: usize) -> Vec<Numbers> {
+    let mut rules = many(n, || {
+        let a = random.between(-TOP, TOP);
+        (a, random.between(-TOP, -a.max(0)), random.between(-FAR, FAR))
+    });
+    if let Some(last) = rules.last_mut().filter(|_| random.one_in(2)) {
+        *last = (random.between(1, TOP), random.between(1, TOP), FAR);
+    }
+    rules
+}
+
+/// Tangents of a parabola over which the least x lies, each cutting a little off.
+fn tangents(random: &mut Random, n: usize) -> Vec<Numbers> {
+    let reach = n as i64 / 2 + 1;
+    let tall = random.between(reach, 300);
+    let aside = random.pick(&[0, 0, 1]);
+    (0..n as i64)
+        .map(|i| {
+            let t = (reach - i / 2) * if i % 2 == 0 { -1 } else { 1 };
+            (-1, 2 * t, t * t + 2 * t * tall - reach * reach - 1 + random.between(-aside, aside))
+        })
+        .collect()
+}
+
+/// Two kinds of rules that leave less and less room and may close it.
+fn wedge(random: &mut Random, n: usize) -> Vec<Numbers> {
+    let mut room = random.between(1, 40) * n as i64;
+    let scale = random.pick(&[1, 3, 1000]);
+    many(n, || {
+        room -= random.between(0, 45);
+        let (a, b) = (random.between(1, 9), random.between(1, 9));
+        if random.one_in(2) {
+            (a, b, (a + b) * (50 * n as i64 + room) * scale)
+        } else {
+            (-a, -b, -(a + b) * 50 * n as i64 * scale)
+        }
+    })
+}
+
+fn uniform(random: &mut Random, n: usize) -> Vec<Numbers> {
+    let low = random.pick(&[-FAR, 0, 0]);
+    many(n, || (random.between(-TOP, TOP), random.between(-TOP, TOP), random.between(low, FAR)))
+}

@@ -1,0 +1,134 @@
+//! Whether a printed line is right. All of it is fixed by the book but the witness, which is judged by its property.
+
+use crate::exact::{Line, Outcome, FLOORS};
+use crate::prefixes::{search, Depth};
+use crate::read::{read, Accepted, Entry};
+
+/// The greatest weight of a witness.
+const HEAVIEST: i128 = 2_147_352_578;
+
+/// What a book's line must say.
+pub struct Expected {
+    /// The fields up to the counts: word, pair, direction, place, or the refusal.
+    head: String,
+    counts: Counts,
+    /// The rules that a witness may name, if there must be one.
+    witness: Option<Vec<Entry>>,
+}
+
+/// Moves and open: none in a refusal, known, or known to be at most n and n + 1.
+enum Counts {
+    Absent,
+    Exact(usize, usize),
+    Within(usize),
+}
+
+/// The right line by the exhaustive search.
+pub fn expected(book: &[u8], depth: Depth) -> Expected {
+    let Accepted { p, q, mut rules } = match read(book) {
+        Ok(accepted) => accepted,
+        Err(r) => return Expected { head: format!("refused {} {}", r.number, r.record), counts: Counts::Absent, witness: None },
+    };
+    let lines: Vec<Line> = rules.iter().map(|r| r.line).collect();
+    let chain = search(p, q, &lines, depth);
+    let counts = chain.counts.map_or(Counts::Within(rules.len()), |(moves, open)| Counts::Exact(moves, open));
+    let head = match chain.outcome {
+        Outcome::Best(v) => format!("best {} {} {}", v.x, v.y, v.d),
+        Outcome::Unlimited { start: v, dx, dy } => format!("unlimited {} {} {} {dx} {dy}", v.x, v.y, v.d),
+        Outcome::Impossible => format!("impossible {}", chain.place),
+    };
+    rules.truncate(chain.place);
+    Expected { head, counts, witness: (chain.place > 0).then_some(rules) }
+}
+
+impl Expected {
+    /// Says what is wrong with the line, if anything is.
+    pub fn judge(&self, line: &[u8]) -> Result<(), String> {
+        let line = std::str::from_utf8(line).map_err(|_| "not text")?;
+        let line = line.strip_suffix('\n').ok_or("no line feed at the end")?;
+        let rest = line.strip_prefix(self.head.as_str()).ok_or("another line is right")?;
+        let mut fields = rest.split(' ');
+        if fields.next() != Some("") {
+            return Err("another line is right".into());
+        }
+        self.judge_counts(&mut fields)?;
+        let fields: Vec<&str> = fields.collect();
+        match &self.witness {
+            Some(rules) => judge_witness(&fields, rules),
+            None if fields.is_empty() => Ok(()),
+            None => Err("more fields than the line has".into()),
+        }
+    }
+
+    fn judge_counts<'a>(&self, fields: &mut impl Iterator<Item = &'a str>) -> Result<(), String> {
+        let mut next = || fields.next().and_then(number).ok_or("a count is missing");
+        let right = match self.counts {
+            Counts::Absent => true,
+            Counts::Exact(moves, open) => next()? == moves as i128 && next()? == open as i128,
+            Counts::Within(n) => next()? <= n as i128 && next()? <= n as i128 + 1,
+        };
+        if right {
+            Ok(())
+        } else {
+            Err("other counts are right".into())
+        }
+    }
+
+    /// The line in one piece, with * for the witness and ? for counts that were not searched.
+    pub fn shown(&self) -> String {
+        let counts = match self.counts {
+            Counts::Absent => String::new(),
+            Counts::Exact(moves, open) => format!(" {moves} {open}"),
+            Counts::Within(_) => " ? ?".into(),
+        };
+        format!("{}{counts}{}", self.head, if self.witness.is_some() { " *" } else { "" })
+    }
+}
+
+/// A decimal number as it is printed: no sign, no leading zero.
+fn number(text: &str) -> Option<i128> {
+    text.parse::<i128>().ok().filter(|n| *n >= 0 && n.to_string() == text)
+}
+
+/// An entry of a witness with its weight. Floors rank 0 and 1; a record ranks one above its index.
+struct Term {
+    rank: usize,
+    line: Line,
+    weight: i128,
+}
+
+fn judge_witness(fields: &[&str], rules: &[Entry]) -> Result<(), String> {
+    let (count, fields) = fields.split_first().ok_or("no witness")?;
+    let terms = fields.chunks(2).map(|f| term(f, rules)).collect::<Result<Vec<Term>, _>>()?;
+    if !(1..=3).contains(&terms.len()) || *count != terms.len().to_string() {
+        return Err("wrong number of entries".into());
+    }
+    if terms.windows(2).any(|t| t[0].rank >= t[1].rank) {
+        return Err("entries out of order".into());
+    }
+    let sum = |f: fn(&Line) -> i128| terms.iter().map(|t| t.weight * f(&t.line)).sum::<i128>();
+    if sum(|l| l.a) != 0 || sum(|l| l.b) != 0 {
+        return Err("the weighted sums of a and b are not 0".into());
+    }
+    if sum(|l| l.c) >= 0 {
+        return Err("the weighted sum of c is not below 0".into());
+    }
+    Ok(())
+}
+
+fn term(fields: &[&str], rules: &[Entry]) -> Result<Term, String> {
+    let &[name, weight] = fields else {
+        return Err("an entry without a weight".into());
+    };
+    let weight = number(weight).filter(|w| (1..=HEAVIEST).contains(w)).ok_or("a weight out of range")?;
+    let (rank, line) = match name {
+        "X" => (0, FLOORS[0]),
+        "Y" => (1, FLOORS[1]),
+        _ => {
+            let named = |r: &&Entry| r.record.to_string() == name;
+            let rule = rules.iter().find(named).ok_or("an entry that is none of the first rules")?;
+            (rule.record + 1, rule.line)
+        }
+    };
+    Ok(Term { rank, line, weight })
+}

@@ -1,0 +1,16 @@
+//! Tests of the planner from outside. Books are made at random or from a table (`book`, `families`, `damage`, `stored`), read again by an
+//! independent reader (`read`), searched exhaustively (`exact`, `prefixes`), and the planner's line is judged (`judge`).
+//! Nothing here shares a step with the planner: no walk, no incremental state, 128-bit integers throughout.
+
+pub mod book;
+pub mod damage;
+pub mod exact;
+pub mod families;
+pub mod judge;
+pub mod planner;
+pub mod prefixes;
+pub mod program;
+pub mod random;
+pub mod read;
+pub mod runs;
+pub mod stored;

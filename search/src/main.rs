@@ -1,0 +1,80 @@
+//! `search` plans stored and random books, judges each line and ends with one summary line; a mismatch prints the book in hexadecimal with
+//! both lines and fails. The environment's SEED repeats a run; SHORT, LONG, DAMAGED and ORDERS say how many books.
+//! `search program PATH` runs the plan program on stored and some random books.
+//! `search look` reads books in hexadecimal, one a line, and prints for each the right line, the planner's and the verdict.
+
+use search::book::from_hex;
+use search::judge::expected;
+use search::planner;
+use search::prefixes::Depth;
+use search::program::program;
+use search::runs::{damaged_books, orders, random_books, stored_books, Tally};
+use std::process::ExitCode;
+use std::time::{Instant, SystemTime, UNIX_EPOCH};
+
+fn main() -> ExitCode {
+    let words: Vec<String> = std::env::args().skip(1).collect();
+    let result = match &words.iter().map(String::as_str).collect::<Vec<_>>()[..] {
+        [] => seed().and_then(run),
+        ["program", path] => seed().and_then(|seed| run_program(path, seed)),
+        ["look"] => look(),
+        _ => Err("usage: search [look | program PATH]".into()),
+    };
+    if let Err(message) = &result {
+        eprintln!("{message}");
+    }
+    ExitCode::from(u8::from(result.is_err()))
+}
+
+/// The seed, printed before anything can go wrong.
+fn seed() -> Result<u64, String> {
+    let clock = SystemTime::now().duration_since(UNIX_EPOCH).map_or(1, |t| t.as_secs());
+    let seed = setting("SEED", clock)?;
+    println!("search: SEED={seed}");
+    Ok(seed)
+}
+
+fn run(seed: u64) -> Result<(), String> {
+    let mut tally = Tally::default();
+    let stored = stored_books(&mut tally)?;
+    let short = timed("SHORT", 200_000, |n| random_books(&mut tally, seed, n, 12, 12))?;
+    let long = timed("LONG", 1_200, |n| random_books(&mut tally, seed ^ 1 << 61, n, 255, 80))?;
+    let damaged = timed("DAMAGED", 20_000, |n| damaged_books(&mut tally, seed ^ 1 << 62, n))?;
+    let shuffled = timed("ORDERS", 1_000, |n| orders(seed ^ 1 << 63, n))?;
+    println!(
+        "search: all right: {stored} stored books, {short} of 0 to 12 rules, {long} of 0 to 255, {damaged} damaged ({tally}), \
+         {shuffled} in ten orders; SEED={seed}"
+    );
+    Ok(())
+}
+
+fn run_program(path: &str, seed: u64) -> Result<(), String> {
+    println!("search: all right: {} books through the program", program(path, seed)?);
+    Ok(())
+}
+
+/// A number from the environment.
+fn setting(name: &str, otherwise: u64) -> Result<u64, String> {
+    match std::env::var(name) {
+        Ok(text) => text.parse().map_err(|_| format!("{name} is no number: {text}")),
+        Err(_) => Ok(otherwise),
+    }
+}
+
+/// Runs a part with its number of books from the environment, and says how many there were and how long it took.
+fn timed(name: &str, otherwise: u64, part: impl FnOnce(u64) -> Result<u64, String>) -> Result<String, String> {
+    let start = Instant::now();
+    Ok(format!("{} ({:.1} s)", part(setting(name, otherwise)?)?, start.elapsed().as_secs_f64()))
+}
+
+fn look() -> Result<(), String> {
+    for row in std::io::stdin().lines() {
+        let row = row.map_err(|e| e.to_string())?;
+        let book = from_hex(row.trim_matches('-')).ok_or("not hexadecimal")?;
+        let right = expected(&book, Depth::Every);
+        let line = planner::line(&book)?;
+        let verdict = right.judge(&line).map_or_else(|why| why, |()| "right".into());
+        println!("{}\t{}\t{verdict}", right.shown(), String::from_utf8_lossy(&line).trim_end());
+    }
+    Ok(())
+}

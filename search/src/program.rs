@@ -1,0 +1,46 @@
+//! The plan program's own path: a book on its standard input, in pieces, and one line on its standard output.
+
+use crate::runs::try_line;
+use crate::{families, prefixes::Depth, random::Random, stored};
+use std::io::Write;
+use std::process::{Command, Stdio};
+
+/// Runs the program on the stored books, on inputs that are too long and on some random books.
+pub fn program(path: &str, seed: u64) -> Result<u64, String> {
+    let mut books: Vec<(&str, Vec<u8>)> = stored::books().into_iter().map(|s| (s.name, s.book)).collect();
+    let longest = books.iter().map(|(_, book)| book).find(|book| book.len() == 3072).unwrap().clone();
+    for more in [1, 12, 3072, 70_000, 1_000_000] {
+        books.push(("longer than a book", [&longest[..], &vec![0; more]].concat()));
+    }
+    let mut random = Random::new(seed);
+    for _ in 0..100 {
+        let n = random.below(30);
+        let (name, source) = families::source(&mut random, n);
+        books.push((name, source.scattered(9, &mut random)));
+    }
+    for (name, book) in &books {
+        try_line(name, book, Depth::Every, printed(path, book, random.below(book.len() + 1)))?;
+    }
+    Ok(books.len() as u64)
+}
+
+/// What the program prints for a book that arrives in two pieces. It must end normally and print no error.
+fn printed(path: &str, book: &[u8], first: usize) -> Result<Vec<u8>, String> {
+    let mut command = Command::new(path);
+    command.stdin(Stdio::piped()).stdout(Stdio::piped()).stderr(Stdio::piped());
+    let mut child = command.spawn().map_err(|e| format!("{path}: {e}"))?;
+    let mut input = child.stdin.take().ok_or("no standard input")?;
+    for piece in [&book[..first], &book[first..]] {
+        // A program may stop reading an input that is too long.
+        if input.write_all(piece).and_then(|()| input.flush()).is_err() {
+            break;
+        }
+        std::thread::yield_now();
+    }
+    drop(input);
+    let output = child.wait_with_output().map_err(|e| e.to_string())?;
+    if !output.status.success() || !output.stderr.is_empty() {
+        return Err(format!("{}, {}", output.status, String::from_utf8_lossy(&output.stderr)));
+    }
+    Ok(output.stdout)
+}

@@ -1,0 +1,146 @@
+//! The parts of the test run. Every book is planned and its line judged; the first mismatch ends the run.
+
+use crate::book::{to_hex, Source, MOST_RULES, RECORD};
+use crate::damage::damage;
+use crate::families::source;
+use crate::judge::expected;
+use crate::planner;
+use crate::prefixes::Depth;
+use crate::random::Random;
+use crate::read::read;
+use crate::stored;
+use std::fmt;
+
+/// How many books came to each end.
+#[derive(Default)]
+pub struct Tally {
+    best: u64,
+    unlimited: u64,
+    impossible: u64,
+    refused: u64,
+}
+
+impl Tally {
+    fn count(&mut self, line: &str) {
+        *match line.as_bytes().first() {
+            Some(b'b') => &mut self.best,
+            Some(b'u') => &mut self.unlimited,
+            Some(b'i') => &mut self.impossible,
+            _ => &mut self.refused,
+        } += 1;
+    }
+}
+
+impl fmt::Display for Tally {
+    fn fmt(&self, f: &mut fmt::Formatter) -> fmt::Result {
+        let Tally { best, unlimited, impossible, refused } = self;
+        write!(f, "{best} best, {unlimited} unlimited, {impossible} impossible, {refused} refused")
+    }
+}
+
+/// Plans a book, judges the line, and gives the right one.
+fn try_book(name: &str, book: &[u8], depth: Depth) -> Result<String, String> {
+    try_line(name, book, depth, planner::line(book))
+}
+
+/// Judges what was printed for a book, and gives the right line.
+pub fn try_line(name: &str, book: &[u8], depth: Depth, line: Result<Vec<u8>, String>) -> Result<String, String> {
+    let right = expected(book, depth);
+    let printed = line.as_ref().map_or("nothing".into(), |line| String::from_utf8_lossy(line).trim_end().to_string());
+    line.and_then(|line| right.judge(&line)).map_err(|why| {
+        format!("mismatch: {name}: {why}\nbook    {}\nright   {}\nprinted {printed}", to_hex(book), right.shown())
+    })?;
+    Ok(right.shown())
+}
+
+/// The stored books; the search itself must find the stored lines.
+pub fn stored_books(tally: &mut Tally) -> Result<u64, String> {
+    let books = stored::books();
+    for s in &books {
+        let right = try_book(s.name, &s.book, Depth::Every)?;
+        if right != s.line {
+            return Err(format!("mismatch: {}: stored {}, searched {right}\nbook    {}", s.name, s.line, to_hex(&s.book)));
+        }
+        tally.count(&right);
+    }
+    Ok(books.len() as u64)
+}
+
+/// Random books of up to `most` rules, one in four nearly as long as that, one in six damaged. Every prefix is searched of those
+/// with up to `every` rules and of one in forty of the others.
+pub fn random_books(tally: &mut Tally, seed: u64, books: u64, most: usize, every: usize) -> Result<u64, String> {
+    let mut random = Random::new(seed);
+    for i in 0..books {
+        let n = if random.one_in(4) { most - random.below(most / 12 + 1) } else { random.below(most + 1) };
+        let (name, source) = source(&mut random, n);
+        let spare = random.pick(&[3, 3, 3, MOST_RULES]);
+        let mut book = if random.one_in(4) { source.packed() } else { source.scattered(spare, &mut random) };
+        if random.one_in(6) {
+            damage(&mut random, &mut book);
+        }
+        let depth = if n <= every || i % 40 == 0 { Depth::Every } else { Depth::Whole };
+        tally.count(&try_book(name, &book, depth)?);
+    }
+    Ok(books)
+}
+
+/// Long books, damaged once or twice, of which those that are turned back are tried: they cost no search.
+pub fn damaged_books(tally: &mut Tally, seed: u64, books: u64) -> Result<u64, String> {
+    let mut random = Random::new(seed);
+    let mut tried = 0;
+    while tried < books {
+        let n = random.below(MOST_RULES + 1);
+        let (name, source) = source(&mut random, n);
+        let mut book = source.scattered(3, &mut random);
+        for _ in 0..random.between(1, 2) {
+            if book.len() >= RECORD {
+                damage(&mut random, &mut book);
+            }
+        }
+        if read(&book).is_err() {
+            tally.count(&try_book(name, &book, Depth::Whole)?);
+            tried += 1;
+        }
+    }
+    Ok(books)
+}
+
+/// The same rules in ten random orders: same outcome, pair and direction. One book in ten is long.
+pub fn orders(seed: u64, books: u64) -> Result<u64, String> {
+    let mut random = Random::new(seed);
+    for i in 0..books {
+        let n = random.below(if i % 10 == 0 { 256 } else { 13 });
+        let (name, source) = source(&mut random, n);
+        let first = source.packed();
+        let said = order_free(&first)?;
+        for _ in 0..10 {
+            let book = reordered(&source, &mut random);
+            if order_free(&book)? != said {
+                return Err(format!("mismatch: {name}: another order\nbook    {}\nother   {}", to_hex(&first), to_hex(&book)));
+            }
+        }
+    }
+    Ok(books)
+}
+
+/// An alike book: rules shuffled, some turned round.
+fn reordered(source: &Source, random: &mut Random) -> Vec<u8> {
+    let mut other = source.clone();
+    random.shuffle(&mut other.rules);
+    for r in other.rules.iter_mut().filter(|_| random.one_in(4)) {
+        (r.kind, r.a, r.b, r.c) = (3 - r.kind, -r.a, -r.b, -r.c);
+    }
+    other.scattered(3, random)
+}
+
+/// What the planner's line says that no order may change.
+fn order_free(book: &[u8]) -> Result<Vec<String>, String> {
+    let line = planner::line(book).map_err(|why| format!("mismatch: {why}\nbook    {}", to_hex(book)))?;
+    let text = String::from_utf8_lossy(&line);
+    let kept = match text.split(' ').next() {
+        Some("best") => 4,
+        Some("unlimited") => 6,
+        _ => 1,
+    };
+    Ok(text.split(' ').take(kept).map(String::from).collect())
+}

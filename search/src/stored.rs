@@ -1,0 +1,97 @@
+//! Stored books with the line each must print, the witness as *: class examples, students' slips, edges, and every cause that turns a
+//! book back on both sides of its boundary.
+
+use crate::book::{from_hex, Rule, Source};
+
+pub struct Stored {
+    pub name: &'static str,
+    pub book: Vec<u8>,
+    pub line: &'static str,
+}
+
+/// Objective, rules (kind, a, b, c) and line.
+type Row = (&'static str, (i16, i16), &'static [(u8, i16, i16, i32)], &'static str);
+
+const BOOKS: &[Row] = &[
+    ("class: none [0, 0]", (0, 0), &[], "best 0 0 1 0 0"),
+    ("class: none [1, 1]", (1, 1), &[], "unlimited 0 0 1 1 0 0 1"),
+    ("class: two links", (1, 1), &[(1, 1, 2, 8), (1, 3, 1, 9)], "best 2 3 1 1 1"),
+    ("class: fifths", (1, 1), &[(1, 2, 3, 7), (1, 3, 2, 7)], "best 7 7 5 1 1"),
+    ("class: a tie", (2, 1), &[(1, 2, 1, 4)], "best 0 4 1 0 1"),
+    ("class: along 1 1", (1, 0), &[(1, 1, -1, 2)], "unlimited 0 0 1 1 1 0 2"),
+    ("class: parallel", (1, 0), &[(1, 1, 1, 3), (2, 1, 1, 4)], "impossible 2 1 1 *"),
+    ("class: below the floor", (0, 0), &[(1, 1, 0, -1)], "impossible 1 1 0 *"),
+    ("class: 0 at most -1", (0, 0), &[(1, 0, 0, -1)], "impossible 1 1 0 *"),
+    ("class: three rules", (-1, -1), &[(2, 1, 1, 4), (1, 1, 0, 1), (1, 0, 1, 1)], "impossible 3 2 0 *"),
+    ("class: 0 at most 0", (0, 0), &[(1, 0, 0, 0)], "best 0 0 1 0 0"),
+    ("class: the largest c", (1, 0), &[(1, 32767, 0, 1_000_000_000)], "best 1000000000 0 32767 0 1"),
+    ("slip: a gaining direction, no pair", (0, 1), &[(1, 1, 0, -1)], "impossible 1 0 1 *"),
+    ("slip: parallel rules passed over", (1, 1), &[(1, 1, 1, 5), (1, 1, -1, 9), (1, 2, 2, 6), (1, -1, -1, -3)], "best 0 3 1 1 1"),
+    ("slip: parallel and apart", (0, 0), &[(2, 1, 1, 4), (1, 2, 2, 7)], "impossible 2 2 0 *"),
+    ("slip: tied corners", (1, 1), &[(1, 1, 0, 4), (1, 0, 1, 4), (1, 1, 1, 6)], "best 2 4 1 1 2"),
+    ("slip: tied corners, last first", (1, 1), &[(1, 1, 1, 6), (1, 0, 1, 4), (1, 1, 0, 4)], "best 2 4 1 1 1"),
+    ("slip: a direction with gain 0", (-1, 0), &[(1, 1, 0, 7)], "best 0 0 1 0 0"),
+    ("slip: a direction with gain 0, tilted", (1, -1), &[(1, 1, -1, 2)], "best 2 0 1 0 1"),
+    ("slip: 14/10", (0, 1), &[(1, 0, 10, 14)], "best 0 7 5 0 1"),
+    ("slip: 14/10 on both", (1, 1), &[(1, 10, 0, 14), (1, 0, 10, 14)], "best 7 7 5 0 2"),
+    ("a start pair that moves", (1, 1), &[(2, 2, 0, 3), (1, 3, -1, 1)], "unlimited 3 7 2 1 3 0 3"),
+    ("the steepest direction", (0, 1), &[(1, 1, 0, 4)], "unlimited 0 0 1 0 1 0 2"),
+    ("edge: a and b of -32,767", (-1, -1), &[(1, -32767, -32767, -1)], "best 0 1 32767 1 0"),
+    (
+        "edge: the largest pair",
+        (1, 1),
+        &[(1, 32767, -32766, 1_000_000_000), (1, -32766, 32767, 1_000_000_000)],
+        "best 1000000000 1000000000 1 0 2",
+    ),
+    ("edge: objective of -32,767", (-32767, 32767), &[(1, 0, 1, 1)], "best 0 1 1 0 1"),
+    ("4: p is -32,768", (-32768, 0), &[], "refused 4 0"),
+    ("4: q is -32,768", (0, -32768), &[], "refused 4 0"),
+    ("8: kind 0", (0, 0), &[(1, 0, 0, 0), (0, 0, 0, 0)], "refused 8 2"),
+    ("8: kind 3 before 9 and 10", (0, 0), &[(3, -32768, 0, i32::MAX)], "refused 8 1"),
+    ("9: a is -32,768", (0, 0), &[(1, -32768, 0, 0)], "refused 9 1"),
+    ("9: b is -32,768 before 10", (0, 0), &[(2, 0, -32768, 1_000_000_001)], "refused 9 1"),
+    ("10: c above its range", (0, 0), &[(1, 0, 0, 1_000_000_001)], "refused 10 1"),
+    ("10: c below its range", (0, 0), &[(2, 0, 0, -1_000_000_001)], "refused 10 1"),
+    ("10: after an impossible prefix", (0, 0), &[(1, 0, 0, -1), (1, 0, 0, 1_000_000_001)], "refused 10 2"),
+];
+
+/// Books that only their bytes can say.
+const BYTES: &[(&str, &str, &str)] = &[
+    ("two links", "020101000100020000000000 00010300 01000b0009000000 010101000200 0a0008000000", "best 2 3 1 1 1"),
+    ("1: no bytes", "", "refused 1 0"),
+    ("1: 11 bytes", "0001000000000000000000", "refused 1 0"),
+    ("1: 13 bytes", "00010000000000000000000000", "refused 1 0"),
+    ("2: version 0", "000000000000000000000000", "refused 2 0"),
+    ("2: version 2 before 3, 4 and 5", "000200800000070000000001", "refused 2 0"),
+    ("3: count too large", "000100000000010000000000", "refused 3 0"),
+    ("3: count too large by 256, before 4", "000100800000000100000000", "refused 3 0"),
+    ("4: before 5", "000100800000000000000001", "refused 4 0"),
+    ("5: the last byte", "000100000000000000000001", "refused 5 0"),
+    ("6: the first link", "010100000000000000000000", "refused 6 0"),
+    ("6: a rule's link", "010100000000010000000000 020100000000000000000000", "refused 6 1"),
+    ("7: a record leads to itself", "010100000000010000000000 010100000000000000000000", "refused 7 1"),
+    ("7: round", "020100000000020000000000 020100000000000000000000 010100000000000000000000", "refused 7 1"),
+    ("10 before 7 in one record", "010100000000010000000000 01010000000000000000ff7f", "refused 10 1"),
+    ("spare records are not looked at", "000100000000010000000000 ffffffffffffffffffffffff", "best 0 0 1 0 0"),
+];
+
+pub fn books() -> Vec<Stored> {
+    let plain = BOOKS.iter().map(|&(name, (p, q), rules, line)| Stored { name, book: source(p, q, rules).packed(), line });
+    let bytes = BYTES.iter().map(|&(name, hex, line)| Stored { name, book: from_hex(hex).unwrap(), line });
+    plain.chain(bytes).chain(longest()).collect()
+}
+
+/// The longest book, and one record more.
+fn longest() -> [Stored; 2] {
+    let book = source(0, 0, &[(2, 1, 1, 2); 255]).packed();
+    let longer = [&book[..], &[0; 12]].concat();
+    [
+        Stored { name: "edge: 3,072 bytes", book, line: "best 0 2 1 1 0" },
+        Stored { name: "edge: 3,084 bytes", book: longer, line: "refused 1 0" },
+    ]
+}
+
+fn source(p: i16, q: i16, rules: &[(u8, i16, i16, i32)]) -> Source {
+    let rule = |(i, &(kind, a, b, c)): (usize, &(u8, i16, i16, i32))| Rule { kind, a, b, c, label: 101 + i as u16 };
+    Source { p, q, rules: rules.iter().enumerate().map(rule).collect() }
+}
