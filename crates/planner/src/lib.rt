@@ -14,11 +14,20 @@ mod walk;
 mod witness;
 
 use report::Answer;
-ghost use Rattle.planner.specs.Planning.{Answers};
+ghost use Rattle.planner.specs.Planning.{Answers, PlanLine};
 
 // The plan of a book, or its refusal. Every field is fixed by the bytes but the witness, which is any valid one.
 pub fn plan(book: &[u8]) -> Answer
     ensures { λ r. ⌜ Answers (now (book .entry)) r ⌝ }
 {
     answer::answer(book)
+}
+
+// The line of a book, for programs in other languages: written at the start of a buffer of at least 256 bytes, with its length. A smaller buffer is
+// left as it is, and 0 handed back.
+#[no_mangle]
+pub extern "C" fn vishalneq_plan_line(book: &[u8], out: &mut [u8]) -> usize
+    ensures { λ r. ⌜ PlanLine (now (book .entry)) (now (out .entry)) (now (out .exit)) r ⌝ }
+{
+    report::write_line(plan(book), out)
 }
