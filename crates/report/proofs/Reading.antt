@@ -1,4 +1,4 @@
--- A decimal number read back: its digits have the number's value, each byte is a digit's, and the first is "0" for 0 alone.
+-- A decimal number read back: its digits have the number's value, each byte is a digit's, and the first is no "0" but for the number 0.
 use mathlib.Core.Path.{_≡_, refl, ap, _∙_}
 use mathlib.Core.List.{List, [], _∷_, _++_}
 use mathlib.Core.Logic.{_⊎_, ⊎-elim}
@@ -28,6 +28,26 @@ value-below (suc k) n h =
 
 pub decimal-value : (n : ℕ) → valueFrom 0 (decimal n) ≡ n
 decimal-value n = value-below n n (le-refl n)
+
+-- the bytes of "0" to "9" are 48 to 57
+abbrev pub Digits : List ℕ → Type 0
+Digits [] = Unit
+Digits (b ∷ l) = (48 ≤ b) × (b ≤ 57) × Digits l
+
+digits-last : (l : List ℕ) (b : ℕ) → Digits l → 48 ≤ b → b ≤ 57 → Digits (l ++ (b ∷ []))
+digits-last [] b d p q = (p, q, tt)
+digits-last (a ∷ l) b d p q = (d .0, d .1, digits-last l b (d .2) p q)
+
+digits-below : (k n : ℕ) → n ≤ k → Digits (decimal n)
+digits-below zero n h = rw (decimal-digit n (omega arith)) (omega arith, omega arith, tt)
+digits-below (suc k) n h =
+    ⊎-elim
+    (λ p. rw (decimal-digit n p) (omega arith, omega arith, tt))
+    (λ p. rw (decimal-more n p) (digits-last (decimal (n / 10)) (48 + n % 10) (digits-below k (n / 10) (omega arith)) (omega arith) (omega arith)))
+    (one-digit n)
+
+pub decimal-digits : (n : ℕ) → Digits (decimal n)
+decimal-digits n = digits-below n n (le-refl n)
 
 some-digit : (n : ℕ) → 0 < length (decimal n)
 some-digit n = ⊎-elim (λ p. omega (arith, decimal-one n p)) (λ p. omega (arith, decimal-longer n p)) (one-digit n)

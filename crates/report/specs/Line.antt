@@ -1,7 +1,7 @@
 -- The printed line of document 01 as a list of bytes: decimal numbers with no leading zeros and no plus sign, one space between fields, one line
 -- feed at the end.
 use mathlib.Core.List.{List, [], _∷_, _++_}
-use Prim.Native.Nat.{ℕ, zero, suc, _+_, _-_, _/_, _%_}
+use Prim.Native.Nat.{ℕ, zero, suc, _+_, _/_, _%_}
 use lib.ListN.{length}
 use lib.IntN.{ℤ, pos, negsuc}
 use Rattle.lp.specs.declared.Point.{Point}

@@ -7,10 +7,9 @@ use text::append_integer;
 use text::append_number;
 use text::append_word;
 ghost use mathlib.Core.Path.{_≡_};
-ghost use mathlib.Core.List.{_++_};
 ghost use lib.ListN.{length};
 ghost use Rattle.lp.specs.Certificate.{weighted, named};
-ghost use Rattle.report.specs.Line.{number, pair, direction, counts, entry, entries, witness, fields, answerFields};
+ghost use Rattle.report.specs.Line.{pair, direction, counts, entry, entries, witness, fields, answerFields};
 ghost use Rattle.report.specs.Append.{Room, Appended, Written};
 
 mod text;
