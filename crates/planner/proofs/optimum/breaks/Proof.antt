@@ -11,7 +11,9 @@ enum-known-best : tie.Need-enum-known-best
 enum-known-best c = search needs
 
 keeps-requires : tie.Need-keeps-requires
-keeps-requires c κs = kept-distance (c .before .before .before .pre .h-small) (best-point (c .before .before .before .pre .best) (c .before .best .given .1))
+keeps-requires c κs =
+    let s = c .before .before .before in
+    kept-distance (s .pre .h-small) (best-point (s .pre .best) (c .before .best .given .1))
 
 returns : tie.Need-returns
 returns c = search needs
