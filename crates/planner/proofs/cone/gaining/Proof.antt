@@ -6,10 +6,10 @@ use Rattle.planner.proofs.cone.gaining.Statement.{statement}
 use Rattle.planner.proofs.cone.gaining.Tie as tie
 
 enum-known-cone : tie.Need-enum-known-cone
-enum-known-cone c = search needs
+enum-known-cone c = c .match .keys1
 
 enum-told : tie.Need-enum-told
-enum-told c = search needs
+enum-told c = c .match .keys2
 
 returns : tie.Need-returns
 returns c = search needs

@@ -5,10 +5,10 @@ use Rattle.planner.proofs.optimum.breaks.Statement.{statement}
 use Rattle.planner.proofs.optimum.breaks.Tie as tie
 
 enum-told : tie.Need-enum-told
-enum-told c = search needs
+enum-told c = c .match .keys1
 
 enum-known-best : tie.Need-enum-known-best
-enum-known-best c = search needs
+enum-known-best c = c .match .keys2
 
 keeps-requires : tie.Need-keeps-requires
 keeps-requires c κs =

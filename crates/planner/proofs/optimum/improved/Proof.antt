@@ -6,22 +6,22 @@ use Rattle.planner.proofs.optimum.improved.Statement.{statement}
 use Rattle.planner.proofs.optimum.improved.Tie as tie
 
 enum-told : tie.Need-enum-told
-enum-told c = search needs
+enum-told c = c .match .keys1
 
 gaining-requires : tie.Need-gaining-requires
 gaining-requires c κs = search needs
 
 enum-told-2 : tie.Need-enum-told-2
-enum-told-2 c = search needs
+enum-told-2 c = c .match2 .keys1
 
 enum-told-3 : tie.Need-enum-told-3
-enum-told-3 c = search needs
+enum-told-3 c = c .match2 .keys2
 
 moved-requires : tie.Need-moved-requires
 moved-requires c κs = search needs
 
 enum-known-best : tie.Need-enum-known-best
-enum-known-best c = search needs
+enum-known-best c = c .match .keys2
 
 keeps-requires : tie.Need-keeps-requires
 keeps-requires c κs =

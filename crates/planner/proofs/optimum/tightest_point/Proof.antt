@@ -9,10 +9,10 @@ tightest-requires : tie.Need-tightest-requires
 tightest-requires c κs = search needs
 
 enum-told : tie.Need-enum-told
-enum-told c = search needs
+enum-told c = c .match .keys1
 
 enum-known-p : tie.Need-enum-known-p
-enum-known-p c = search needs
+enum-known-p c = c .match .keys2
 
 reduce-requires : tie.Need-reduce-requires
 reduce-requires c κs =

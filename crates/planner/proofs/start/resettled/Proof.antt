@@ -5,13 +5,13 @@ use Rattle.planner.proofs.start.resettled.Statement.{statement}
 use Rattle.planner.proofs.start.resettled.Tie as tie
 
 enum-told : tie.Need-enum-told
-enum-told c = search needs
+enum-told c = c .match .keys1
 
 alone-requires : tie.Need-alone-requires
 alone-requires c κs = search needs
 
 enum-known-found : tie.Need-enum-known-found
-enum-known-found c = search needs
+enum-known-found c = c .match .keys2
 
 first-broken-requires : tie.Need-first-broken-requires
 first-broken-requires c κs =
@@ -19,7 +19,7 @@ first-broken-requires c κs =
     record { entries = s .pre .entries; point = found-parts (s .pre .found-small) (c .before .found .given .1) .1 }
 
 enum-told-2 : tie.Need-enum-told-2
-enum-told-2 c = search needs
+enum-told-2 c = c .match2 .keys1
 
 reduce-requires : tie.Need-reduce-requires
 reduce-requires c κs =
@@ -27,7 +27,7 @@ reduce-requires c κs =
     (c .before .before .before .before .found .given .1) .1
 
 enum-known-i : tie.Need-enum-known-i
-enum-known-i c = search needs
+enum-known-i c = c .match2 .keys2
 
 conflict-requires : tie.Need-conflict-requires
 conflict-requires c κs =

@@ -5,13 +5,13 @@ use Rattle.planner.proofs.verdict.said.Statement.{statement}
 use Rattle.planner.proofs.verdict.said.Tie as tie
 
 enum-told : tie.Need-enum-told
-enum-told c = search needs
+enum-told c = c .match .keys1
 
 gaining-requires : tie.Need-gaining-requires
 gaining-requires c κs = search needs
 
 enum-known-d : tie.Need-enum-known-d
-enum-known-d c = search needs
+enum-known-d c = c .match2 .keys1
 
 reduce-ray-requires : tie.Need-reduce-ray-requires
 reduce-ray-requires c κs =
@@ -19,10 +19,10 @@ reduce-ray-requires c κs =
     (c .before .d .given .1)
 
 enum-told-2 : tie.Need-enum-told-2
-enum-told-2 c = search needs
+enum-told-2 c = c .match2 .keys2
 
 enum-known-best : tie.Need-enum-known-best
-enum-known-best c = search needs
+enum-known-best c = c .match .keys2
 
 returns : tie.Need-returns
 returns c =

@@ -5,10 +5,10 @@ use Rattle.planner.proofs.verdict.verdict.Statement.{statement}
 use Rattle.planner.proofs.verdict.verdict.Tie as tie
 
 enum-known-state : tie.Need-enum-known-state
-enum-known-state c = search needs
+enum-known-state c = c .match .keys1
 
 enum-known-state-2 : tie.Need-enum-known-state-2
-enum-known-state-2 c = search needs
+enum-known-state-2 c = c .match .keys2
 
 said-requires : tie.Need-said-requires
 said-requires c κs =

@@ -7,13 +7,13 @@ gaining-requires : tie.Need-gaining-requires
 gaining-requires c κs = search needs
 
 enum-told : tie.Need-enum-told
-enum-told c = search needs
+enum-told c = c .match .keys1
 
 going-requires : tie.Need-going-requires
 going-requires c κs = search needs
 
 enum-told-2 : tie.Need-enum-told-2
-enum-told-2 c = search needs
+enum-told-2 c = c .match .keys2
 
 going-requires-2 : tie.Need-going-requires-2
 going-requires-2 c κs = search needs

@@ -9,10 +9,10 @@ use Rattle.planner.proofs.walk.step.Statement.{statement}
 use Rattle.planner.proofs.walk.step.Tie as tie
 
 enum-known-state : tie.Need-enum-known-state
-enum-known-state c = search needs
+enum-known-state c = c .match .keys1
 
 enum-told : tie.Need-enum-told
-enum-told c = search needs
+enum-told c = c .match .keys2
 
 returns : tie.Need-returns
 returns c =
@@ -37,7 +37,7 @@ start-requires c κs =
     }
 
 enum-known-p : tie.Need-enum-known-p
-enum-known-p c = search needs
+enum-known-p c = c .match2 .keys1
 
 narrow-requires : tie.Need-narrow-requires
 narrow-requires c κs =
@@ -61,7 +61,7 @@ going-requires : tie.Need-going-requires
 going-requires c κs = search needs
 
 enum-known-c : tie.Need-enum-known-c
-enum-known-c c = search needs
+enum-known-c c = c .match2 .keys2
 
 sub-t20 : tie.Need-sub-t20
 sub-t20 c = search needs
