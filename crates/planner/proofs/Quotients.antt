@@ -17,7 +17,7 @@ use Rattle.ints.proofs.Machine.{within-fits, within-read, within-neg, within-qu
 use Rattle.ints.proofs.Divides.{natAbs-neg}
 use Rattle.lp.specs.declared.Point.{Point}
 use Rattle.lp.specs.declared.Ray.{Ray}
-use Rattle.model.specs.Bounds.{SmallPoint}
+use Rattle.model.specs.Bounds.{SmallPoint, SmallRay}
 use Rattle.planner.specs.Sizes.{Quotient, Reducible}
 use Rattle.planner.proofs.Sizes.{read, result-read, within-unread, opposite-is}
 
@@ -72,30 +72,37 @@ gcd-small : (m n : ℕ) → m ≤ 32767 → n ≤ 32767 → gcd m n < 2 ^ 63
 gcd-small m zero h k = subst (λ (g : ℕ). g < 2 ^ 63) (sym (gcd-zero m)) (omega arith)
 gcd-small m (suc n) h k = omega (arith, gcd-le-right m (suc n) (omega arith))
 
--- ---- the divisor of a point, and of a ray, from the magnitudes that it was worked out from
+-- ---- the divisor of a point, and of a ray
 
-module _ {v : Point} (h : SmallPoint v) {mx my mxy md g : ℕ} (ex : mx ≡ natAbs (read (v .x))) (ey : my ≡ natAbs (read (v .y))) (exy : mxy ≡ gcd mx my) (ed : md ≡ natAbs (read (v .d))) (eg : g ≡ gcd mxy md) where
-  pub point-divisor : g ≡ gcd3 (v .x) (v .y) (v .d)
-  point-divisor =
+-- from the magnitudes that it is worked out from
+module _ {v : Point} (h : SmallPoint v) {mx my mxy md g : ℕ} where
+  pub point-divisor : mx ≡ natAbs (read (v .x)) → my ≡ natAbs (read (v .y)) → mxy ≡ gcd mx my → md ≡ natAbs (read (v .d)) → g ≡ gcd mxy md → g ≡ gcd3 (v .x) (v .y) (v .d)
+  point-divisor ex ey exy ed eg =
       eg
-      ∙ ap₂ gcd (exy ∙ ap₂ gcd (ex ∙ ap natAbs (within-unread (h .x-small) tt)) (ey ∙ ap natAbs (within-unread (h .y-small) tt))) (ed ∙ ap natAbs (within-unread (h .d-small) tt))
+      ∙ ap₂ gcd
+      (exy ∙ ap₂ gcd (ex ∙ ap natAbs (within-unread (h .x-small) tt)) (ey ∙ ap natAbs (within-unread (h .y-small) tt)))
+      (ed ∙ ap natAbs (within-unread (h .d-small) tt))
 
-  pub point-quotient : {z : ℤ} → Within 65534000000000 z → Quotient (read z) g
-  point-quotient s =
-      record {
-        z-small = within-read s tt;
-        g-small = subst (λ (n : ℕ). n < 2 ^ 63) (sym point-divisor) (omega (arith, gcd3-le (v .x) (v .y) (v .d) (h .d-proper), h .d-small .small));
-        g-proper = subst (λ (n : ℕ). 0 < n) (sym point-divisor) (gcd3-pos (v .x) (v .y) (v .d) (h .d-proper));
-      }
+module _ {d : Ray} (h : SmallRay d) {mx my g : ℕ} where
+  pub ray-divisor : mx ≡ natAbs (read (d .dx)) → my ≡ natAbs (read (d .dy)) → g ≡ gcd mx my → g ≡ gcd2 (d .dx) (d .dy)
+  ray-divisor ex ey eg =
+      eg ∙ ap₂ gcd (ex ∙ ap natAbs (within-unread (h .dx-small) tt)) (ey ∙ ap natAbs (within-unread (h .dy-small) tt))
 
-module _ {d : Ray} (h : Reducible d) {mx my g : ℕ} (ex : mx ≡ natAbs (read (d .dx))) (ey : my ≡ natAbs (read (d .dy))) (eg : g ≡ gcd mx my) where
-  pub ray-divisor : g ≡ gcd2 (d .dx) (d .dy)
-  ray-divisor = eg ∙ ap₂ gcd (ex ∙ ap natAbs (within-unread (h .ray .dx-small) tt)) (ey ∙ ap natAbs (within-unread (h .ray .dy-small) tt))
+-- it fits, and is not 0
+pub point-quotient : {v : Point} → SmallPoint v → {g : ℕ} → g ≡ gcd3 (v .x) (v .y) (v .d) → {z : ℤ} → Within 65534000000000 z → Quotient (read z) g
+point-quotient {v} h e s =
+    record {
+      z-small = within-read s tt;
+      g-small = subst (λ (n : ℕ). n < 2 ^ 63) (sym e) (omega (arith, gcd3-le (v .x) (v .y) (v .d) (h .d-proper), h .d-small .small));
+      g-proper = subst (λ (n : ℕ). 0 < n) (sym e) (gcd3-pos (v .x) (v .y) (v .d) (h .d-proper));
+    }
 
-  pub ray-quotient : {z : ℤ} → Within 32767 z → Quotient (read z) g
-  ray-quotient s =
-      record {
-        z-small = within-read (weaken tt s) tt;
-        g-small = subst (λ (n : ℕ). n < 2 ^ 63) (sym ray-divisor) (gcd-small (natAbs (d .dx)) (natAbs (d .dy)) (h .ray .dx-small .small) (h .ray .dy-small .small));
-        g-proper = subst (λ (n : ℕ). 0 < n) (sym ray-divisor) (h .g-proper);
-      }
+pub ray-quotient : {d : Ray} → Reducible d → {g : ℕ} → g ≡ gcd2 (d .dx) (d .dy) → {z : ℤ} → Within 32767 z → Quotient (read z) g
+ray-quotient {d} h e s =
+    record {
+      z-small = within-read (weaken tt s) tt;
+      g-small =
+          subst (λ (n : ℕ). n < 2 ^ 63) (sym e)
+          (gcd-small (natAbs (d .dx)) (natAbs (d .dy)) (h .ray .dx-small .small) (h .ray .dy-small .small));
+      g-proper = subst (λ (n : ℕ). 0 < n) (sym e) (h .g-proper);
+    }

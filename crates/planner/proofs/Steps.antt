@@ -69,6 +69,7 @@ state-parts s e = subst SmallState e s
 pub faced : (fs : List Functional) (h : Constraint) {d : Ray} {side : Bool} {line : Constraint} → d ≡ direction h → side ≡ above fs d → line ≡ facing side h → line ≡ facing (above fs (direction h)) h
 faced fs h ed es el = el ∙ ap (λ s. facing s h) (es ∙ ap (above fs) ed)
 
+-- the start point's new place, from what the calls on the way to it returned
 pub restarted : (t : Tie) (S : List Constraint) (n : ℕ) (h : Constraint) {d : Ray} {side : Bool} {line : Constraint} {f : Found} {r : Restart} → (isZero (h .a) && isZero (h .b)) ≡ false → d ≡ direction h → side ≡ above (tieOrder t) d → line ≡ facing side h → f ≡ tightest line 0 S found.Nothing → r ≡ resettled S side n h f → r ≡ restart t S n h
 restarted t S n h {d} {side} z ed es el ef er =
     er
@@ -81,6 +82,7 @@ certificate-same i j k eu ev ew = λ t. certificate i (eu t) j (ev t) k (ew t)
 -- ---- a step
 
 module _ (t : Tie) (f : Functional) (S : List Constraint) (n : ℕ) (h : Constraint) (w : Walk) where
+  -- a walk that has ended stays as it is
   pub step-ended : {p : ℕ} {c : Certificate} → w .state ≡ Ended p c → w ≡ step t f S n h w
   step-ended {p} {c} e = shown ∙ sym (ap (stepped t f S n h (w .moves) (w .opened)) e)
     where

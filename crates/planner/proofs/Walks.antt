@@ -56,6 +56,7 @@ entries-next l i (suc k) =
     shift : (i k : ℕ) → i + suc k ≡ suc i + k
     shift i k = omega arith
 
+-- w is held before entry i, and w₀ was held before the first rule
 pub record Walked (f : Functional) (t : Tie) (l : List ℤ) (n : ℕ) (w₀ w : Walk) (i : ℕ) : Type 0 where
   pub inside : i ≤ n
   pub floors : 2 ≤ i

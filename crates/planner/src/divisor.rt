@@ -5,9 +5,9 @@ ghost use mathlib.Core.Path.{_≡_};
 ghost use lib.IntN.{pos, natAbs};
 ghost use lib.Signed.{quotZ};
 ghost use Rattle.ints.specs.Within.{Within};
-ghost use Rattle.ints.specs.Gcd.{gcd};
+ghost use Rattle.ints.specs.Gcd.{gcd, gcd2, gcd3};
 ghost use Rattle.lp.specs.Outcome.{reduce as reduceOf, reduceRay};
-ghost use Rattle.model.specs.Bounds.{SmallPoint};
+ghost use Rattle.model.specs.Bounds.{SmallPoint, SmallRay};
 ghost use Rattle.planner.specs.Sizes.{Quotient, Reducible};
 
 // Euclid's: the second number falls.
@@ -31,11 +31,19 @@ fn quotient(z: i64, g: u64) -> i64
     z / (g as i64)
 }
 
+// What divides a point's three numbers.
+fn point_divisor(v: Point) -> u64
+    requires { ⌜ SmallPoint v ⌝ }
+    ensures { λ g. ⌜ g ≡ gcd3 (v .x) (v .y) (v .d) ⌝ }
+{
+    divisor(divisor(magnitude(v.x), magnitude(v.y)), magnitude(v.d))
+}
+
 pub fn reduce(v: Point) -> Point
     requires { ⌜ SmallPoint v ⌝ }
     ensures { λ w. ⌜ w ≡ reduceOf v ⌝ }
 {
-    let g = divisor(divisor(magnitude(v.x), magnitude(v.y)), magnitude(v.d));
+    let g = point_divisor(v);
     Point {
         x: quotient(v.x, g),
         y: quotient(v.y, g),
@@ -43,11 +51,19 @@ pub fn reduce(v: Point) -> Point
     }
 }
 
+// What divides a ray's two numbers.
+fn ray_divisor(d: Ray) -> u64
+    requires { ⌜ SmallRay d ⌝ }
+    ensures { λ g. ⌜ g ≡ gcd2 (d .dx) (d .dy) ⌝ }
+{
+    divisor(magnitude(d.dx), magnitude(d.dy))
+}
+
 pub fn reduce_ray(d: Ray) -> Ray
     requires { ⌜ Reducible d ⌝ }
     ensures { λ e. ⌜ e ≡ reduceRay d ⌝ }
 {
-    let g = divisor(magnitude(d.dx), magnitude(d.dy));
+    let g = ray_divisor(d);
     Ray {
         dx: quotient(d.dx, g),
         dy: quotient(d.dy, g),

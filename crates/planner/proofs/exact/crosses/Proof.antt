@@ -9,7 +9,9 @@ difference-requires : tie.Need-difference-requires
 difference-requires c κs = factors-read (det-factors (c .before .before .before .before .pre))
 
 returns : tie.Need-returns
-returns c = ap (ltZ (pos 0)) (difference-read (det-factors (c .before .before .before .before .before .pre)) (c .difference .ok) (c .difference .ensures))
+returns c =
+    ap (ltZ (pos 0))
+    (difference-read (det-factors (c .before .before .before .before .before .pre)) (c .difference .ok) (c .difference .ensures))
 
 pub crosses-spec : {M : Type 1} → statement M
 crosses-spec = tie.close (tie.spec difference-requires returns)

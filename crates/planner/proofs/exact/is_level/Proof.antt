@@ -12,7 +12,10 @@ is-zero-requires-2 : tie.Need-is-zero-requires-2
 is-zero-requires-2 c κs = search needs
 
 returns : tie.Need-returns
-returns c = zero-read (c .before .before .before .before .before .pre .b-small) tt (c .is-zero2 .ensures) ∙ both-left (sym (zero-read (c .before .before .before .before .before .pre .a-small) tt (c .before .before .before .is-zero .ensures)) ∙ c .before .before .if1 .taken)
+returns c =
+    let s = c .before .before .before .before .before in
+    zero-read (s .pre .b-small) tt (c .is-zero2 .ensures)
+    ∙ both-left (sym (zero-read (s .pre .a-small) tt (c .before .before .before .is-zero .ensures)) ∙ c .before .before .if1 .taken)
 
 returns-2 : tie.Need-returns-2
 returns-2 c =

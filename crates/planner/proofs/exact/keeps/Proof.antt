@@ -9,7 +9,9 @@ distance-requires : tie.Need-distance-requires
 distance-requires c κs = distance-args (c .before .before .before .before .before .before .pre)
 
 returns : tie.Need-returns
-returns c = ap (leZ (pos 0)) (distance-read (c .before .before .before .before .before .before .before .pre) (c .distance .ok) (c .distance .ensures))
+returns c =
+    ap (leZ (pos 0))
+    (distance-read (c .before .before .before .before .before .before .before .pre) (c .distance .ok) (c .distance .ensures))
 
 pub keeps-spec : {M : Type 1} → statement M
 keeps-spec = tie.close (tie.spec distance-requires returns)

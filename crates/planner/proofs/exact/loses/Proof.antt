@@ -9,7 +9,8 @@ sum-requires : tie.Need-sum-requires
 sum-requires c κs = factors-read (along-factors (c .before .before .before .before .pre))
 
 returns : tie.Need-returns
-returns c = ap (λ (z : ℤ). ltZ z (pos 0)) (sum-read (along-factors (c .before .before .before .before .before .pre)) (c .sum .ok) (c .sum .ensures))
+returns c =
+    ap (λ (z : ℤ). ltZ z (pos 0)) (sum-read (along-factors (c .before .before .before .before .before .pre)) (c .sum .ok) (c .sum .ensures))
 
 pub loses-spec : {M : Type 1} → statement M
 loses-spec = tie.close (tie.spec sum-requires returns)

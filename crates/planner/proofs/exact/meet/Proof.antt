@@ -9,7 +9,9 @@ difference-requires-2 : tie.Need-difference-requires-2
 difference-requires-2 c κs = factors-read (y-factors (c .before .before .before .before .before .before .before .before .before .pre))
 
 difference-requires-3 : tie.Need-difference-requires-3
-difference-requires-3 c κs = factors-read (det-factors (c .before .before .before .before .before .before .before .before .before .before .before .before .before .before .pre))
+difference-requires-3 c κs =
+    factors-read
+    (det-factors (c .before .before .before .before .before .before .before .before .before .before .before .before .before .before .pre))
 
 returns : tie.Need-returns
 returns c =

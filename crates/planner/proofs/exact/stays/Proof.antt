@@ -9,7 +9,8 @@ sum-requires : tie.Need-sum-requires
 sum-requires c κs = factors-read (rise-factors (c .before .before .before .before .pre))
 
 returns : tie.Need-returns
-returns c = ap (λ (z : ℤ). leZ z (pos 0)) (sum-read (rise-factors (c .before .before .before .before .before .pre)) (c .sum .ok) (c .sum .ensures))
+returns c =
+    ap (λ (z : ℤ). leZ z (pos 0)) (sum-read (rise-factors (c .before .before .before .before .before .pre)) (c .sum .ok) (c .sum .ensures))
 
 pub stays-spec : {M : Type 1} → statement M
 stays-spec = tie.close (tie.spec sum-requires returns)

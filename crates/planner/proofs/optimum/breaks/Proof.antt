@@ -5,13 +5,15 @@ use Rattle.planner.proofs.optimum.breaks.Statement.{statement}
 use Rattle.planner.proofs.optimum.breaks.Tie as tie
 
 enum-told : tie.Need-enum-told
-enum-told c = search needs
+enum-told c = c .match .keys1
 
 enum-known-best : tie.Need-enum-known-best
-enum-known-best c = search needs
+enum-known-best c = c .match .keys2
 
 keeps-requires : tie.Need-keeps-requires
-keeps-requires c κs = kept-distance (c .before .before .before .pre .h-small) (best-point (c .before .before .before .pre .best) (c .before .best .given .1))
+keeps-requires c κs =
+    let s = c .before .before .before in
+    kept-distance (s .pre .h-small) (best-point (s .pre .best) (c .before .best .given .1))
 
 returns : tie.Need-returns
 returns c = search needs

@@ -9,19 +9,22 @@ tightest-requires : tie.Need-tightest-requires
 tightest-requires c κs = search needs
 
 enum-told : tie.Need-enum-told
-enum-told c = search needs
+enum-told c = c .match .keys1
 
 enum-known-p : tie.Need-enum-known-p
-enum-known-p c = search needs
+enum-known-p c = c .match .keys2
 
 reduce-requires : tie.Need-reduce-requires
-reduce-requires c κs = found-parts (along-small (c .before .before .before .before .pre) (c .before .before .before .tightest .ensures)) (c .before .p .given .1) .1
+reduce-requires c κs =
+    found-parts (along-small (c .before .before .before .before .pre) (c .before .before .before .tightest .ensures))
+    (c .before .p .given .1) .1
 
 returns : tie.Need-returns
 returns c = sym (ap foundPoint (sym (c .before .before .tightest .ensures) ∙ c .enum-told .given .1))
 
 returns-2 : tie.Need-returns-2
-returns-2 c = c .reduce .ensures ∙ sym (ap foundPoint (sym (c .before .before .before .before .tightest .ensures) ∙ c .before .before .p .given .1))
+returns-2 c =
+    c .reduce .ensures ∙ sym (ap foundPoint (sym (c .before .before .before .before .tightest .ensures) ∙ c .before .before .p .given .1))
 
 pub tightest-point-spec : {M : Type 1} → statement M
 tightest-point-spec =

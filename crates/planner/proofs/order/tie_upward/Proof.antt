@@ -9,22 +9,30 @@ gains-requires : tie.Need-gains-requires
 gains-requires c κs = search needs
 
 returns : tie.Need-returns
-returns c = above-gains (c .before .before .before .before .args .tie .first) (c .before .before .before .before .args .tie .second ∷ []) (c .before .before .before .before .args .d) (sym (c .before .gains .ensures) ∙ c .if1 .taken)
+returns c =
+    let s = c .before .before .before .before in
+    above-gains (s .args .tie .first) (s .args .tie .second ∷ []) (s .args .d) (sym (c .before .gains .ensures) ∙ c .if1 .taken)
 
 loses-requires : tie.Need-loses-requires
 loses-requires c κs = search needs
 
 returns-2 : tie.Need-returns-2
-returns-2 c = above-loses (c .before .before .before .before .before .before .args .tie .first) (c .before .before .before .before .before .before .args .tie .second ∷ []) (c .before .before .before .before .before .before .args .d) (sym (c .before .before .before .gains .ensures) ∙ c .before .before .if1 .left) (sym (c .before .loses .ensures) ∙ c .if2 .taken)
+returns-2 c =
+    let s = c .before .before .before .before .before .before in
+    above-loses (s .args .tie .first) (s .args .tie .second ∷ []) (s .args .d)
+    (sym (c .before .before .before .gains .ensures) ∙ c .before .before .if1 .left) (sym (c .before .loses .ensures) ∙ c .if2 .taken)
 
 gains-requires-2 : tie.Need-gains-requires-2
 gains-requires-2 c κs = search needs
 
 returns-3 : tie.Need-returns-3
 returns-3 c =
+    let a = c .before .before .before .before .before .before .before .args in
     c .gains2 .ensures
-    ∙ above-last (c .before .before .before .before .before .before .before .args .tie .second) (c .before .before .before .before .before .before .before .args .d)
-    ∙ above-level (c .before .before .before .before .before .before .before .args .tie .first) (c .before .before .before .before .before .before .before .args .tie .second ∷ []) (c .before .before .before .before .before .before .before .args .d) (sym (c .before .before .before .before .gains .ensures) ∙ c .before .before .before .if1 .left) (sym (c .before .before .loses .ensures) ∙ c .before .if2 .left)
+    ∙ above-last (a .tie .second) (a .d)
+    ∙ above-level (a .tie .first) (a .tie .second ∷ []) (a .d)
+    (sym (c .before .before .before .before .gains .ensures) ∙ c .before .before .before .if1 .left)
+    (sym (c .before .before .loses .ensures) ∙ c .before .if2 .left)
 
 pub tie-upward-spec : {M : Type 1} → statement M
 tie-upward-spec =

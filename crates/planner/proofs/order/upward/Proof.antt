@@ -9,19 +9,29 @@ gains-requires : tie.Need-gains-requires
 gains-requires c κs = search needs
 
 returns : tie.Need-returns
-returns c = above-gains (c .before .before .args .objective) (tieOrder (c .before .before .args .tie)) (c .before .before .args .d) (sym (c .before .gains .ensures) ∙ c .if1 .taken)
+returns c =
+    above-gains (c .before .before .args .objective) (tieOrder (c .before .before .args .tie)) (c .before .before .args .d)
+    (sym (c .before .gains .ensures) ∙ c .if1 .taken)
 
 loses-requires : tie.Need-loses-requires
 loses-requires c κs = search needs
 
 returns-2 : tie.Need-returns-2
-returns-2 c = above-loses (c .before .before .before .before .args .objective) (tieOrder (c .before .before .before .before .args .tie)) (c .before .before .before .before .args .d) (sym (c .before .before .before .gains .ensures) ∙ c .before .before .if1 .left) (sym (c .before .loses .ensures) ∙ c .if2 .taken)
+returns-2 c =
+    let s = c .before .before .before .before in
+    above-loses (s .args .objective) (tieOrder (s .args .tie)) (s .args .d)
+    (sym (c .before .before .before .gains .ensures) ∙ c .before .before .if1 .left) (sym (c .before .loses .ensures) ∙ c .if2 .taken)
 
 tie-upward-requires : tie.Need-tie-upward-requires
 tie-upward-requires c κs = search needs
 
 returns-3 : tie.Need-returns-3
-returns-3 c = c .tie-upward .ensures ∙ above-level (c .before .before .before .before .before .args .objective) (tieOrder (c .before .before .before .before .before .args .tie)) (c .before .before .before .before .before .args .d) (sym (c .before .before .before .before .gains .ensures) ∙ c .before .before .before .if1 .left) (sym (c .before .before .loses .ensures) ∙ c .before .if2 .left)
+returns-3 c =
+    let s = c .before .before .before .before .before in
+    c .tie-upward .ensures
+    ∙ above-level (s .args .objective) (tieOrder (s .args .tie)) (s .args .d)
+    (sym (c .before .before .before .before .gains .ensures) ∙ c .before .before .before .if1 .left)
+    (sym (c .before .before .loses .ensures) ∙ c .before .if2 .left)
 
 pub upward-spec : {M : Type 1} → statement M
 upward-spec =

@@ -19,7 +19,8 @@ entry-requires : tie.Need-entry-requires Inv-loop μ-loop
 entry-requires c κs = entry-room (c .before .before .pre .entries) (c .loop-test .taken)
 
 keeps-requires : tie.Need-keeps-requires Inv-loop μ-loop
-keeps-requires c κs = checking (c .before .before .before .pre) (c .before .before .loop .inv) (c .before .loop-test .taken) (c .entry .ensures)
+keeps-requires c κs =
+    checking (c .before .before .before .pre) (c .before .before .loop .inv) (c .before .loop-test .taken) (c .entry .ensures)
 
 add-i : tie.Need-add-i Inv-loop μ-loop
 add-i c = omega arith
@@ -28,10 +29,14 @@ loop-less : tie.Need-loop-less Inv-loop μ-loop
 loop-less c = omega arith
 
 loop-again : tie.Need-loop-again Inv-loop μ-loop
-loop-again c = unbroken-step (c .before .before .before .before .before .pre) (c .before .before .before .before .loop .inv) (c .before .before .before .loop-test .taken) (c .before .before .entry .ensures) (sym (c .before .keeps .ensures) ∙ c .if1 .taken)
+loop-again c =
+    unbroken-step (c .before .before .before .before .before .pre) (c .before .before .before .before .loop .inv)
+    (c .before .before .before .loop-test .taken) (c .before .before .entry .ensures) (sym (c .before .keeps .ensures) ∙ c .if1 .taken)
 
 returns : tie.Need-returns Inv-loop μ-loop
-returns c = unbroken-stop (c .before .before .before .before .before .pre) (c .before .before .before .before .loop .inv) (c .before .before .before .loop-test .taken) (c .before .before .entry .ensures) (sym (c .before .keeps .ensures) ∙ c .if1 .left)
+returns c =
+    unbroken-stop (c .before .before .before .before .before .pre) (c .before .before .before .before .loop .inv)
+    (c .before .before .before .loop-test .taken) (c .before .before .entry .ensures) (sym (c .before .keeps .ensures) ∙ c .if1 .left)
 
 returns-2 : tie.Need-returns-2 Inv-loop μ-loop
 returns-2 c = unbroken-end (c .before .before .pre) (c .before .loop .inv) (c .loop-test .left)

@@ -14,10 +14,21 @@ meet-requires : tie.Need-meet-requires
 meet-requires c κs = search needs
 
 returns : tie.Need-returns
-returns c = rw (sym (c .before .before .before .crosses .ensures) ∙ c .before .before .if1 .taken, sym (c .before .keeps .ensures) ∙ c .if2 .taken, tightened)
+returns c =
+    rw (
+      sym (c .before .before .before .crosses .ensures) ∙ c .before .before .if1 .taken,
+      sym (c .before .keeps .ensures) ∙ c .if2 .taken,
+      tightened,
+    )
 
 returns-2 : tie.Need-returns-2
-returns-2 c = rw (sym (c .before .before .before .before .crosses .ensures) ∙ c .before .before .before .if1 .taken, sym (c .before .before .keeps .ensures) ∙ c .before .if2 .left, c .meet .ensures, tightened)
+returns-2 c =
+    rw (
+      sym (c .before .before .before .before .crosses .ensures) ∙ c .before .before .before .if1 .taken,
+      sym (c .before .before .keeps .ensures) ∙ c .before .if2 .left,
+      c .meet .ensures,
+      tightened,
+    )
 
 returns-3 : tie.Need-returns-3
 returns-3 c = rw (sym (c .before .crosses .ensures) ∙ c .if1 .left, tightened)

@@ -20,7 +20,8 @@ entry-requires : tie.Need-entry-requires Inv-loop μ-loop
 entry-requires c κs = entry-room (c .before .before .before .pre .entries) (c .loop-test .taken)
 
 tighter-requires : tie.Need-tighter-requires Inv-loop μ-loop
-tighter-requires c κs = tightening (c .before .before .before .before .pre) (c .before .before .loop .inv) (c .before .loop-test .taken) (c .entry .ensures)
+tighter-requires c κs =
+    tightening (c .before .before .before .before .pre) (c .before .before .loop .inv) (c .before .loop-test .taken) (c .entry .ensures)
 
 add-i : tie.Need-add-i Inv-loop μ-loop
 add-i c = omega arith
@@ -29,13 +30,16 @@ loop-less : tie.Need-loop-less Inv-loop μ-loop
 loop-less c = omega arith
 
 loop-again : tie.Need-loop-again Inv-loop μ-loop
-loop-again c = tightest-step (c .before .before .before .before .before .pre) (c .before .before .before .loop .inv) (c .before .before .loop-test .taken) (c .before .entry .ensures) (c .tighter .ensures)
+loop-again c =
+    tightest-step (c .before .before .before .before .before .pre) (c .before .before .before .loop .inv)
+    (c .before .before .loop-test .taken) (c .before .entry .ensures) (c .tighter .ensures)
 
 found-requires : tie.Need-found-requires Inv-loop μ-loop
 found-requires c κs = tt
 
 returns : tie.Need-returns Inv-loop μ-loop
-returns c = tightest-end (c .before .before .before .before .pre) (c .before .before .loop .inv) (c .before .loop-test .left) (c .found .ensures)
+returns c =
+    tightest-end (c .before .before .before .before .pre) (c .before .before .loop .inv) (c .before .loop-test .left) (c .found .ensures)
 
 pub tightest-spec : {M : Type 1} → statement M
 tightest-spec =

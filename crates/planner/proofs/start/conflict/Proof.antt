@@ -15,10 +15,21 @@ line-weight-requires : tie.Need-line-weight-requires
 line-weight-requires c κs = search needs
 
 det-requires : tie.Need-det-requires
-det-requires c κs = record { first = subst SmallConstraint (sym (c .before .facing .ensures)) (facing-small (c .before .before .args .side) (c .before .before .pre .h-small)); second = c .before .before .pre .m-small }
+det-requires c κs =
+    record {
+      first =
+          subst SmallConstraint (sym (c .before .facing .ensures))
+          (facing-small (c .before .before .args .side) (c .before .before .pre .h-small));
+      second = c .before .before .pre .m-small;
+    }
 
 det-requires-2 : tie.Need-det-requires-2
-det-requires-2 c κs = record { first = c .before .before .before .pre .k-small; second = subst SmallConstraint (sym (c .before .before .facing .ensures)) (facing-small (c .before .before .before .args .side) (c .before .before .before .pre .h-small)) }
+det-requires-2 c κs =
+    let s = c .before .before .before in
+    record {
+      first = s .pre .k-small;
+      second = subst SmallConstraint (sym (c .before .before .facing .ensures)) (facing-small (s .args .side) (s .pre .h-small));
+    }
 
 returns : tie.Need-returns
 returns c =

@@ -12,10 +12,16 @@ det-requires-2 : tie.Need-det-requires-2
 det-requires-2 c κs = search needs
 
 returns : tie.Need-returns
-returns c = result-read (c .det .ok) ∙ c .det .ensures ∙ ap (λ s. lineWeight s (c .before .before .args .k) (c .before .before .args .m)) (sym (c .before .if1 .taken))
+returns c =
+    result-read (c .det .ok)
+    ∙ c .det .ensures
+    ∙ ap (λ s. lineWeight s (c .before .before .args .k) (c .before .before .args .m)) (sym (c .before .if1 .taken))
 
 returns-2 : tie.Need-returns-2
-returns-2 c = result-read (c .det2 .ok) ∙ c .det2 .ensures ∙ ap (λ s. lineWeight s (c .before .before .args .k) (c .before .before .args .m)) (sym (c .before .if1 .left))
+returns-2 c =
+    result-read (c .det2 .ok)
+    ∙ c .det2 .ensures
+    ∙ ap (λ s. lineWeight s (c .before .before .args .k) (c .before .before .args .m)) (sym (c .before .if1 .left))
 
 pub line-weight-spec : {M : Type 1} → statement M
 line-weight-spec = tie.close (tie.spec det-requires det-requires-2 returns returns-2)

@@ -4,10 +4,6 @@ use Rattle.planner.specs.Verdict.{verdictOf}
 use Rattle.planner.proofs.Verdicts.{answering}
 use Rattle.planner.proofs.verdict.plan_entries.Statement.{statement}
 use Rattle.planner.proofs.verdict.plan_entries.Tie as tie
-use Rattle.planner.proofs.verdict.plan_entries.Reads as reads
-use Rattle.planner.proofs.verdict.plan_entries.Lts as lts
-use Rattle.planner.proofs.verdict.verdict.Reads as verdict-reads
-use Rattle.planner.proofs.walk.walk_entries.Reads as walk-entries-reads
 
 walk-entries-requires : tie.Need-walk-entries-requires
 walk-entries-requires c κs = search needs

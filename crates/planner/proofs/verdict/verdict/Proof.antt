@@ -5,13 +5,15 @@ use Rattle.planner.proofs.verdict.verdict.Statement.{statement}
 use Rattle.planner.proofs.verdict.verdict.Tie as tie
 
 enum-known-state : tie.Need-enum-known-state
-enum-known-state c = search needs
+enum-known-state c = c .match .keys1
 
 enum-known-state-2 : tie.Need-enum-known-state-2
-enum-known-state-2 c = search needs
+enum-known-state-2 c = c .match .keys2
 
 said-requires : tie.Need-said-requires
-said-requires c κs = record { functional = c .before .before .before .pre .objective; rays = state-parts (c .before .before .before .pre .state-small) (c .before .state2 .given .1) .1 }
+said-requires c κs =
+    let s = c .before .before .before in
+    record { functional = s .pre .objective; rays = state-parts (s .pre .state-small) (c .before .state2 .given .1) .1 }
 
 no-certificate-requires : tie.Need-no-certificate-requires
 no-certificate-requires c κs = search needs
@@ -20,7 +22,10 @@ returns : tie.Need-returns
 returns c = verdict-ended (c .before .before .before .args .objective) (c .before .before .before .args .walk) (c .before .state .given .1)
 
 returns-2 : tie.Need-returns-2
-returns-2 c = verdict-going (c .before .before .before .before .before .args .objective) (c .before .before .before .before .before .args .walk) (c .before .before .before .state2 .given .1) (c .before .said .ensures) (c .no-certificate .ensures)
+returns-2 c =
+    let s = c .before .before .before .before .before in
+    verdict-going (s .args .objective) (s .args .walk) (c .before .before .before .state2 .given .1) (c .before .said .ensures)
+    (c .no-certificate .ensures)
 
 pub verdict-spec : {M : Type 1} → statement M
 verdict-spec =

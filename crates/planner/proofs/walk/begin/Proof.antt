@@ -7,22 +7,28 @@ gaining-requires : tie.Need-gaining-requires
 gaining-requires c κs = search needs
 
 enum-told : tie.Need-enum-told
-enum-told c = search needs
+enum-told c = c .match .keys1
 
 going-requires : tie.Need-going-requires
 going-requires c κs = search needs
 
 enum-told-2 : tie.Need-enum-told-2
-enum-told-2 c = search needs
+enum-told-2 c = c .match .keys2
 
 going-requires-2 : tie.Need-going-requires-2
 going-requires-2 c κs = search needs
 
 returns : tie.Need-returns
-returns c = begun-open (c .before .before .before .before .before .args .floors) (c .before .before .before .before .before .args .objective) (c .before .before .before .before .before .pre .floors-small) (c .before .before .before .gaining .ensures) (c .before .enum-told .given .1) (c .going .ensures)
+returns c =
+    let s = c .before .before .before .before .before in
+    begun-open (s .args .floors) (s .args .objective) (s .pre .floors-small) (c .before .before .before .gaining .ensures)
+    (c .before .enum-told .given .1) (c .going .ensures)
 
 returns-2 : tie.Need-returns-2
-returns-2 c = begun-best (c .before .before .before .before .before .args .floors) (c .before .before .before .before .before .args .objective) (c .before .before .before .before .before .pre .floors-small) (c .before .before .before .gaining .ensures) (c .before .enum-told2 .given .1) (c .going2 .ensures)
+returns-2 c =
+    let s = c .before .before .before .before .before in
+    begun-best (s .args .floors) (s .args .objective) (s .pre .floors-small) (c .before .before .before .gaining .ensures)
+    (c .before .enum-told2 .given .1) (c .going2 .ensures)
 
 pub begin-spec : {M : Type 1} → statement M
 begin-spec =

@@ -9,28 +9,43 @@ use Rattle.planner.proofs.walk.step.Statement.{statement}
 use Rattle.planner.proofs.walk.step.Tie as tie
 
 enum-known-state : tie.Need-enum-known-state
-enum-known-state c = search needs
+enum-known-state c = c .match .keys1
 
 enum-told : tie.Need-enum-told
-enum-told c = search needs
+enum-told c = c .match .keys2
 
 returns : tie.Need-returns
-returns c = step-ended (c .before .before .args .tie) (c .before .before .args .objective) (entries (now (c .before .before .args .entries)) 0 (c .before .before .args .n)) (c .before .before .args .n) (c .before .before .args .h) (c .before .before .args .walk) (c .enum-told .given .1)
+returns c =
+    step-ended (c .before .before .args .tie) (c .before .before .args .objective)
+    (entries (now (c .before .before .args .entries)) 0 (c .before .before .args .n)) (c .before .before .args .n)
+    (c .before .before .args .h) (c .before .before .args .walk) (c .enum-told .given .1)
 
 breaks-requires : tie.Need-breaks-requires
-breaks-requires c κs = record { h-small = c .before .before .before .pre .moving .restarting .h-small; best = state-parts (c .before .before .before .pre .state-small) (c .before .state .given .1) .2 }
+breaks-requires c κs =
+    let s = c .before .before .before in
+    record { h-small = s .pre .moving .restarting .h-small; best = state-parts (s .pre .state-small) (c .before .state .given .1) .2 }
 
 counted-requires : tie.Need-counted-requires
 counted-requires c κs = search needs
 
 start-requires : tie.Need-start-requires
-start-requires c κs = record { restarting = c .before .before .before .before .before .pre .moving .restarting; s-small = state-parts (c .before .before .before .before .before .pre .state-small) (c .before .before .before .state .given .1) .0 }
+start-requires c κs =
+    let s = c .before .before .before .before .before in
+    record {
+      restarting = s .pre .moving .restarting;
+      s-small = state-parts (s .pre .state-small) (c .before .before .before .state .given .1) .0;
+    }
 
 enum-known-p : tie.Need-enum-known-p
-enum-known-p c = search needs
+enum-known-p c = c .match2 .keys1
 
 narrow-requires : tie.Need-narrow-requires
-narrow-requires c κs = record { constraint = c .before .before .before .before .before .before .before .before .before .pre .moving .restarting .h-small; rays = state-parts (c .before .before .before .before .before .before .before .before .before .pre .state-small) (c .before .before .before .before .before .before .before .state .given .1) .1 }
+narrow-requires c κs =
+    let s = c .before .before .before .before .before .before .before .before .before in
+    record {
+      constraint = s .pre .moving .restarting .h-small;
+      rays = state-parts (s .pre .state-small) (c .before .before .before .before .before .before .before .state .given .1) .1;
+    }
 
 improved-requires : tie.Need-improved-requires
 improved-requires c κs =
@@ -46,16 +61,28 @@ going-requires : tie.Need-going-requires
 going-requires c κs = search needs
 
 enum-known-c : tie.Need-enum-known-c
-enum-known-c c = search needs
+enum-known-c c = c .match2 .keys2
 
 sub-t20 : tie.Need-sub-t20
 sub-t20 c = search needs
 
 returns-2 : tie.Need-returns-2
-returns-2 c = step-moved (c .before .before .before .before .before .before .before .before .before .before .before .before .args .tie) (c .before .before .before .before .before .before .before .before .before .before .before .before .args .objective) (entries (now (c .before .before .before .before .before .before .before .before .before .before .before .before .args .entries)) 0 (c .before .before .before .before .before .before .before .before .before .before .before .before .args .n)) (c .before .before .before .before .before .before .before .before .before .before .before .before .args .n) (c .before .before .before .before .before .before .before .before .before .before .before .before .args .h) (c .before .before .before .before .before .before .before .before .before .before .before .before .args .walk) (c .before .before .before .before .before .before .before .before .before .before .state .given .1) (c .before .before .before .before .before .before .start .ensures) (c .before .before .before .before .before .before .before .before .breaks .ensures) (c .before .before .before .before .before .before .before .counted .ensures) (c .before .before .before .before .p .given .1) (c .before .before .narrow .ensures) (c .before .improved .ensures) (c .going .ensures)
+returns-2 c =
+    let s = c .before .before .before .before .before .before .before .before .before .before .before .before in
+    step-moved (s .args .tie) (s .args .objective) (entries (now (s .args .entries)) 0 (s .args .n)) (s .args .n) (s .args .h)
+    (s .args .walk) (c .before .before .before .before .before .before .before .before .before .before .state .given .1)
+    (c .before .before .before .before .before .before .start .ensures)
+    (c .before .before .before .before .before .before .before .before .breaks .ensures)
+    (c .before .before .before .before .before .before .before .counted .ensures) (c .before .before .before .before .p .given .1)
+    (c .before .before .narrow .ensures) (c .before .improved .ensures) (c .going .ensures)
 
 returns-3 : tie.Need-returns-3
-returns-3 c = step-failed (c .before .before .before .before .before .before .before .before .before .args .tie) (c .before .before .before .before .before .before .before .before .before .args .objective) (entries (now (c .before .before .before .before .before .before .before .before .before .args .entries)) 0 (c .before .before .before .before .before .before .before .before .before .args .n)) (c .before .before .before .before .before .before .before .before .before .args .n) (c .before .before .before .before .before .before .before .before .before .args .h) (c .before .before .before .before .before .before .before .before .before .args .walk) (c .before .before .before .before .before .before .before .state .given .1) (c .before .before .before .start .ensures) (c .before .before .before .before .before .breaks .ensures) (c .before .before .before .before .counted .ensures) (c .before .c .given .1)
+returns-3 c =
+    let s = c .before .before .before .before .before .before .before .before .before in
+    step-failed (s .args .tie) (s .args .objective) (entries (now (s .args .entries)) 0 (s .args .n)) (s .args .n) (s .args .h)
+    (s .args .walk) (c .before .before .before .before .before .before .before .state .given .1) (c .before .before .before .start .ensures)
+    (c .before .before .before .before .before .breaks .ensures) (c .before .before .before .before .counted .ensures)
+    (c .before .c .given .1)
 
 pub step-spec : {M : Type 1} → statement M
 step-spec =

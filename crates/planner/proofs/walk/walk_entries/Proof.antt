@@ -21,7 +21,8 @@ entry-requires : tie.Need-entry-requires Inv-loop μ-loop
 entry-requires c κs = entry-room (c .before .before .before .pre .entries) (c .loop-test .taken)
 
 step-requires : tie.Need-step-requires Inv-loop μ-loop
-step-requires c κs = stepping (c .before .before .before .before .pre) (c .before .before .loop .inv) (c .before .loop-test .taken) (c .entry .ensures)
+step-requires c κs =
+    stepping (c .before .before .before .before .pre) (c .before .before .loop .inv) (c .before .loop-test .taken) (c .entry .ensures)
 
 add-i : tie.Need-add-i Inv-loop μ-loop
 add-i c = omega arith
@@ -30,7 +31,9 @@ loop-less : tie.Need-loop-less Inv-loop μ-loop
 loop-less c = omega arith
 
 loop-again : tie.Need-loop-again Inv-loop μ-loop
-loop-again c = walked-step (c .before .before .before .before .before .pre) (c .before .before .before .loop .inv) (c .before .before .loop-test .taken) (c .before .entry .ensures) (c .step .ensures)
+loop-again c =
+    walked-step (c .before .before .before .before .before .pre) (c .before .before .before .loop .inv)
+    (c .before .before .loop-test .taken) (c .before .entry .ensures) (c .step .ensures)
 
 returns : tie.Need-returns Inv-loop μ-loop
 returns c = walked-end (c .before .before .before .pre) (c .before .loop .inv) (c .loop-test .left) (c .before .before .begin .ensures)
