@@ -9,7 +9,7 @@ use native.Mathlib.Decide.{ℕ-discrete}
 use native.Mathlib.Nat.{div-le-of-le-mul, le-div-iff-mul-le, one-mul}
 use borrow.Author.Tests.{eq-eqb, ne-eqb, ltb-true, ltb-false, eqb-true, eqb-false}
 use lib.ListN.{length, set, replicate, length-append}
-use lib.Dec.{eqb, ltb}
+use lib.Dec.{eqb, ltb, lit≤}
 use Rattle.lp.specs.declared.Functional.{Functional}
 use Rattle.book.specs.declared.Decoded.the-variants.{Sound, Kind, Slope, Bound}
 use Rattle.book.specs.Layout.{Layout, width}
@@ -277,3 +277,16 @@ module _ (L : Layout) (s : List ℕ) where
   -- so no cause applies to an accepted book
   pub accepted-no-cause : {o : Functional} {es : List Entry} → readOf L s ≡ accepted o es → {k i : ℕ} → Applies L s k i → ⊥
   accepted-no-cause e a = let p = applies-refused a in let z : _≡_ {A = ℕ} 0 1 = cc in omega arith
+
+-- the table's numbers
+pub cause-number : {L : Layout} {s : List ℕ} {k i : ℕ} → Applies L s k i → (1 ≤ k) × (k ≤ 10)
+cause-number (cause-1 a) = (lit≤ tt, lit≤ tt)
+cause-number (cause-2 a b) = (lit≤ tt, lit≤ tt)
+cause-number (cause-3 a b c) = (lit≤ tt, lit≤ tt)
+cause-number (cause-4 a b c d) = (lit≤ tt, lit≤ tt)
+cause-number (cause-5 a b c d f) = (lit≤ tt, lit≤ tt)
+cause-number (cause-6 w h) = (lit≤ tt, lit≤ tt)
+cause-number (cause-7 w z h m) = (lit≤ tt, lit≤ tt)
+cause-number (cause-8 r a) = (lit≤ tt, lit≤ tt)
+cause-number (cause-9 r a b) = (lit≤ tt, lit≤ tt)
+cause-number (cause-10 r a b c) = (lit≤ tt, lit≤ tt)

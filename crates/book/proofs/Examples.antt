@@ -1,7 +1,7 @@
 -- Document 01's whole case, and an edge of each kind, computed: the definitions say what the document says of them.
 use mathlib.Core.Path.{_≡_, refl}
 use Prim.Native.Nat.{ℕ}
-use mathlib.Core.List.{List, [], _∷_, _++_}
+use mathlib.Core.List.{List, [], _∷_}
 use lib.IntN.{pos}
 use Rattle.book.specs.Layout.{v1}
 use Rattle.book.specs.Number.{number, bytesOf}

@@ -14,23 +14,9 @@ use Rattle.book.specs.Record.{recordAt, ruleOf}
 use Rattle.book.specs.Reading.{Reading, refused, accepted, objectiveOf, entryAt, readOf}
 use Rattle.book.specs.Repacking.{headerBytes, nextOf, chainBytes, bookOf, Packing, packed, ruleIn, packOf}
 use Rattle.book.specs.Answers.{padded, chainOf, repackedOf, outputOf, rulesAt, Repacks}
-use Rattle.book.specs.Causes.{Applies, cause-1, cause-2, cause-3, cause-4, cause-5, cause-6, cause-7, cause-8, cause-9, cause-10}
-use Rattle.book.proofs.Causes.{refusal-applies, acceptance-means, walked-length, walked-count}
+use Rattle.book.proofs.Causes.{cause-number, refusal-applies, acceptance-means, walked-length, walked-count}
 use Rattle.book.proofs.Walking.{indices}
 use Rattle.book.proofs.Packed.{length-recordBytes, length-chainBytes, length-bookOf, next-is}
-
--- a refusal's number is one of the table's
-number-some : {L : Layout} {s : List ℕ} {k i : ℕ} → Applies L s k i → k ≡ 0 → ⊥
-number-some (cause-1 a) e = omega arith
-number-some (cause-2 a b) e = omega arith
-number-some (cause-3 a b c) e = omega arith
-number-some (cause-4 a b c d) e = omega arith
-number-some (cause-5 a b c d f) e = omega arith
-number-some (cause-6 w h) e = omega arith
-number-some (cause-7 w z h m) e = omega arith
-number-some (cause-8 r a) e = omega arith
-number-some (cause-9 r a b) e = omega arith
-number-some (cause-10 r a b c) e = omega arith
 
 pub rules-of : (L : Layout) (s done : List ℕ) → map ruleIn (map (entryAt L s) done) ≡ map (λ (i : ℕ). ruleOf L (recordAt L s i)) done
 rules-of L s [] = refl
@@ -60,7 +46,10 @@ module _ (s : List ℕ) (ch : Chain) (e : ch ≡ chainOf (readOf v1 s)) where
     where
       go : (x : Reading) → readOf v1 s ≡ x → Chained s ch
       go (refused k i) p =
-          absurd (number-some (refusal-applies v1 s p) (sym (ap (λ (c : Chain). c .number) (e ∙ ap chainOf p)) ∙ z))
+          absurd
+          (let n : k ≡ 0 = sym (ap (λ (c : Chain). c .number) (e ∙ ap chainOf p)) ∙ z in
+          let y : ⊥ = omega (arith, cause-number (refusal-applies v1 s p)) in
+          y)
       go (accepted o es) p =
           let a = acceptance-means v1 s p in
           let q : readOf v1 s ≡ accepted (objectiveOf v1 s) (map (entryAt v1 s) (a .done)) = p ∙ (λ j. accepted (a .objective j) (a .entries j)) in

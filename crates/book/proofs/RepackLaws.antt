@@ -19,8 +19,7 @@ use Rattle.book.specs.Reading.{Reading, refused, accepted, Entry, readOf
 use Rattle.book.specs.Repacking.{bookOf, declined, packed, ruleIn, numbered, packOf, repackOf, ReadAlike}
 use Rattle.book.specs.Answers.{indexIn}
 use Rattle.book.specs.Lawful.{LawfulRule}
-use Rattle.book.specs.Causes.{Applies, cause-1, cause-2, cause-3, cause-4, cause-5, cause-6, cause-7, cause-8, cause-9, cause-10}
-use Rattle.book.proofs.Causes.{refusal-applies}
+use Rattle.book.proofs.Causes.{cause-number, refusal-applies}
 use Rattle.book.proofs.Numbers.{two-bytes}
 use Rattle.book.proofs.Bounds.{chain-count, count-room, lawful-objective, accepted-entries, entry-lawful}
 use Rattle.book.proofs.Output.{rules-of}
@@ -82,18 +81,6 @@ pub record Crowded (L : Layout) (x : Reading) (room : ℕ) : Type 0 where
   pub entries : List Entry
   pub reads : x ≡ accepted goal entries
   pub short : room < width L * (length entries + 1)
-
-number-table : {L : Layout} {s : List ℕ} {k i : ℕ} → Applies L s k i → k ≤ 10
-number-table (cause-1 a) = lit≤ tt
-number-table (cause-2 a b) = lit≤ tt
-number-table (cause-3 a b c) = lit≤ tt
-number-table (cause-4 a b c d) = lit≤ tt
-number-table (cause-5 a b c d f) = lit≤ tt
-number-table (cause-6 w h) = lit≤ tt
-number-table (cause-7 w z h m) = lit≤ tt
-number-table (cause-8 r a) = lit≤ tt
-number-table (cause-9 r a b) = lit≤ tt
-number-table (cause-10 r a b c) = lit≤ tt
 
 -- bytes come of an accepted book with room for them, and are its repacked form
 record Packs (L : Layout) (x : Reading) (room : ℕ) (bs : List ℕ) : Type 0 where
@@ -163,7 +150,7 @@ module _ (L : Layout) (s : List ℕ) (room : ℕ) where
   eleven-last {i} e = go (readOf L s) refl e
     where
       go : (x : Reading) → readOf L s ≡ x → packOf L x room ≡ declined 11 i → Crowded L (readOf L s) room
-      go (refused k j) p e = absurd (let t = number-table (refusal-applies L s p) in let n : k ≡ 11 = cc in let z : ⊥ = omega arith in z)
+      go (refused k j) p e = absurd (let t = cause-number (refusal-applies L s p) in let n : k ≡ 11 = cc in let z : ⊥ = omega arith in z)
       go (accepted o es) p e = pick (ltb room (width L * (length es + 1))) refl e
         where
           pick : (t : Bool) → ltb room (width L * (length es + 1)) ≡ t → cond t (declined 11 0) (packed (bookOf L o (map ruleIn es))) ≡ declined 11 i → Crowded L (readOf L s) room
