@@ -25,7 +25,9 @@ use Rattle.theory.proofs.Ties.{least-x-then-y-good}
 use Rattle.theory.proofs.Farkas.{certificate-excludes}
 use Rattle.theory.proofs.Meaning.{outcome-order-free}
 use Rattle.theory.proofs.Theorems.{infeasible-exactly, unbounded-exactly, optimal-exactly, BestPoint, optimum-best, FirstPoint, start-first, FlattestRay, ray-flattest, Placed, place-least, moves-at-most, open-at-most}
-use Rattle.planner.specs.Planning.{rulesOf, Proves, Witnessed, PlannedAs, AnsweredBy, Answers}
+use Rattle.planner.specs.Witness.{coded}
+use Rattle.planner.proofs.Ordered.{InOrder, rising-in-order}
+use Rattle.planner.specs.Planning.{rulesOf, recordsOf, Proves, Witnessed, PlannedAs, AnsweredBy, Answers}
 
 -- an accepted book is planned, never refused
 pub accepted-planned : (s : List ℕ) (a : Answer) → Answers s a → (o : Functional) (es : List Entry) → readOf v1 s ≡ accepted o es → (p : Plan) × (a ≡ Planned p) × PlannedAs es o p
@@ -92,6 +94,10 @@ module _ (o : Functional) (es : List Entry) (p : Plan) (promise : PlannedAs es o
   -- an "impossible" names rules that can be added up, and they exclude every pair
   pub witness-given : p .outcome ≡ outcome.Infeasible → Proves es (p .place) (p .witness)
   witness-given e = subst (Witnessed es (p .place) (p .witness)) e (promise .witnessed)
+
+  -- its entries in the printed order: floors first, then records rising
+  pub witness-rises : p .outcome ≡ outcome.Infeasible → InOrder (p .witness)
+  witness-rises e = subst InOrder (sym (witness-given e .same-entries)) (rising-in-order (coded (recordsOf es) (witness-given e .certificate)))
 
   pub witness-excludes : (e : p .outcome ≡ outcome.Infeasible) → Infeasible (system zeroFloors (take (p .place) (rulesOf es)))
   witness-excludes e =

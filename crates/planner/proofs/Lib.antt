@@ -10,5 +10,6 @@ pub mod Layouts
 pub mod Chains
 pub mod Finish
 pub mod Plans
+pub mod Ordered
 pub mod Demands
 pub mod Witnesses

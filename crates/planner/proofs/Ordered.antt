@@ -1,0 +1,77 @@
+-- A witness's entries are in the printed order: no entry goes before the one ahead of it, so used entries come first and their codes rise.
+use mathlib.Core.Path.{_≡_, refl, sym, subst}
+use mathlib.Core.Bool.{Bool, true, false, not, _&&_, _||_}
+use Prim.Native.Nat.{ℕ, _≤_}
+use native.Mathlib.Omega.{arith}
+use lib.Dec.{T, ltb, ltb→lt, nltb→le, not-T}
+use lib.IntN.{ℤ}
+use Rattle.lp.specs.declared.Certificate.{Certificate}
+use Rattle.lp.specs.Certificate.{isZero}
+use Rattle.planner.specs.Witness.{goesBefore, orderFirst, orderLast, rising}
+
+-- the second entry does not go before the first, nor the third before the second
+pub record InOrder (k : Certificate) : Type 0 where
+  pub first-two : T (not (goesBefore (k .second) (k .«second_weight») (k .first) (k .«first_weight»)))
+  pub last-two : T (not (goesBefore (k .third) (k .«third_weight») (k .second) (k .«second_weight»)))
+
+-- ---- going before is an order: of one entry at most the other, by whether they are unused and by code
+
+abbrev before : Bool → ℕ → Bool → ℕ → Bool
+before z e z′ e′ = not z && (z′ || ltb e e′)
+
+not-both : (z : Bool) (e : ℕ) (z′ : Bool) (e′ : ℕ) → T (before z e z′ e′) → T (not (before z′ e′ z e))
+not-both true e z′ e′ t = absurd t
+not-both false e true e′ t = tt
+not-both false e false e′ t = not-T (ltb e′ e) (λ u. omega (arith, ltb→lt e e′ t, ltb→lt e′ e u))
+
+through : (za : Bool) (ea : ℕ) (zb : Bool) (eb : ℕ) (zc : Bool) (ec : ℕ) → T (not (before zb eb za ea)) → T (not (before zc ec zb eb)) → T (not (before zc ec za ea))
+through za ea zb eb true ec p q = tt
+through za ea true eb false ec p q = absurd q
+through true ea false eb false ec p q = absurd p
+through false ea false eb false ec p q = not-T (ltb ec ea) (λ u. omega (arith, nltb→le eb ea p, nltb→le ec eb q, ltb→lt ec ea u))
+
+-- ---- the three exchanges
+
+abbrev one-two : Certificate → Type 0
+one-two k = T (not (goesBefore (k .second) (k .«second_weight») (k .first) (k .«first_weight»)))
+
+abbrev two-three : Certificate → Type 0
+two-three k = T (not (goesBefore (k .third) (k .«third_weight») (k .second) (k .«second_weight»)))
+
+abbrev one-three : Certificate → Type 0
+one-three k = T (not (goesBefore (k .third) (k .«third_weight») (k .first) (k .«first_weight»)))
+
+first-in-order : (k : Certificate) → one-two (orderFirst k)
+first-in-order k = go (goesBefore (k .second) (k .«second_weight») (k .first) (k .«first_weight»)) refl
+  where
+    go : (b : Bool) → goesBefore (k .second) (k .«second_weight») (k .first) (k .«first_weight») ≡ b → one-two (elim b [ true ↦ record { first = k .second; «first_weight» = k .«second_weight»; second = k .first; «second_weight» = k .«first_weight»; third = k .third; «third_weight» = k .«third_weight» } | false ↦ k ])
+    go true e =
+        not-both (isZero (k .«second_weight»)) (k .second) (isZero (k .«first_weight»)) (k .first) (subst T (sym e) tt)
+    go false e = subst (λ b. T (not b)) (sym e) tt
+
+-- the greatest of the three comes last
+greatest-last : (k : Certificate) → one-two k → two-three (orderLast k) × one-three (orderLast k)
+greatest-last k h = go (goesBefore (k .third) (k .«third_weight») (k .second) (k .«second_weight»)) refl
+  where
+    go : (b : Bool) → goesBefore (k .third) (k .«third_weight») (k .second) (k .«second_weight») ≡ b → two-three (elim b [ true ↦ record { first = k .first; «first_weight» = k .«first_weight»; second = k .third; «second_weight» = k .«third_weight»; third = k .second; «third_weight» = k .«second_weight» } | false ↦ k ]) × one-three (elim b [ true ↦ record { first = k .first; «first_weight» = k .«first_weight»; second = k .third; «second_weight» = k .«third_weight»; third = k .second; «third_weight» = k .«second_weight» } | false ↦ k ])
+    go true e =
+        (not-both (isZero (k .«third_weight»)) (k .third) (isZero (k .«second_weight»)) (k .second) (subst T (sym e) tt), h)
+    go false e = (
+      subst (λ b. T (not b)) (sym e) tt,
+      through (isZero (k .«first_weight»)) (k .first) (isZero (k .«second_weight»)) (k .second) (isZero (k .«third_weight»)) (k .third) h (subst (λ b. T (not b)) (sym e) tt),
+    )
+
+-- and stays last when the first two are put in order
+last-stays : (k : Certificate) → two-three k → one-three k → two-three (orderFirst k)
+last-stays k p q = go (goesBefore (k .second) (k .«second_weight») (k .first) (k .«first_weight»))
+  where
+    go : (b : Bool) → two-three (elim b [ true ↦ record { first = k .second; «first_weight» = k .«second_weight»; second = k .first; «second_weight» = k .«first_weight»; third = k .third; «third_weight» = k .«third_weight» } | false ↦ k ])
+    go true = q
+    go false = p
+
+pub rising-in-order : (k : Certificate) → InOrder (rising k)
+rising-in-order k =
+    record {
+      first-two = first-in-order (orderLast (orderFirst k));
+      last-two = last-stays (orderLast (orderFirst k)) (greatest-last (orderFirst k) (first-in-order k) .0) (greatest-last (orderFirst k) (first-in-order k) .1);
+    }
