@@ -1,33 +1,31 @@
 -- From an accepted book to the run of numbers that the walk is given: its entries are the floors and the chain's rules as they are planned, all within
 -- document 01's bounds.
 use mathlib.Core.Path.{_≡_, refl, sym, _∙_, ap, subst}
-use mathlib.Core.List.{List, [], _∷_, _++_, map}
-use mathlib.Core.Logic.{_⊎_, ⊎-elim}
+use mathlib.Core.List.{List, [], _∷_, map}
+use mathlib.Core.Logic.{⊎-elim}
 use Prim.Native.Nat.{ℕ, zero, suc, _+_, _*_, _-_, _≤_, _<_}
 use native.Mathlib.Omega.{arith}
-use native.Mathlib.Decide.{decLt}
 use borrow.Author.Tests.{eq-eqb, ne-eqb}
-use lib.ListN.{length, getD, replicate, length-append, length-replicate, List·getD-append}
+use lib.ListN.{length, getD, replicate, length-append, List·getD-append}
 use lib.IntN.{ℤ, pos, negℤ}
-use Rattle.ints.specs.Within.{Within}
 use Rattle.lp.specs.declared.Constraint.{Constraint}
 use Rattle.lp.specs.declared.Functional.{Functional}
-use Rattle.lp.specs.Program.{constraint, floorX, floorY, system}
+use Rattle.lp.specs.Program.{constraint, floorX, floorY}
 use Rattle.lp.specs.Document.{Lawful, leastXThenY, zeroFloors}
 use Rattle.book.specs.declared.Rule.{Rule}
 use Rattle.book.specs.Layout.{v1}
 use Rattle.book.specs.Record.{recordAt, ruleOf}
-use Rattle.book.specs.Reading.{Reading, accepted, Entry, readOf, entryAt}
+use Rattle.book.specs.Reading.{accepted, Entry, readOf, entryAt}
 use Rattle.book.specs.Answers.{padded, indexIn, constraintOf}
-use Rattle.book.specs.Lawful.{LawfulRule, LawfulConstraint, LawfulObjective}
+use Rattle.book.specs.Lawful.{LawfulRule, LawfulConstraint}
 use Rattle.book.proofs.Planned.{at-most-planned, at-least-planned, planned-lawful}
 use Rattle.book.proofs.Bounds.{chain-count, count-room, lawful-objective, accepted-entries, entry-lawful}
-use Rattle.model.specs.Bounds.{SmallConstraint, SmallFunctional}
+use Rattle.model.specs.Bounds.{SmallConstraint}
 use Rattle.model.proofs.Bounds.{leastXThenY-small, zeroFloors-small}
 use Rattle.planner.specs.Entries.{entry, entries}
-use Rattle.planner.specs.Sizes.{Entries, Walking}
+use Rattle.planner.specs.Sizes.{Walking}
 use Rattle.planner.specs.Layout.{putEntry, laidOut, ruleFor, Laying}
-use Rattle.planner.specs.Planning.{plannedRule, rulesOf, recordsOf}
+use Rattle.planner.specs.Planning.{plannedRule, rulesOf}
 use Rattle.planner.proofs.Layouts.{put-length, put-same, put-other, laid-length, laid-floor, laid-at, entries-are}
 
 abbrev none : Constraint
@@ -59,7 +57,7 @@ rule-of-map s [] k h = absurd (empty h)
 rule-of-map s (i ∷ is) zero h = refl
 rule-of-map s (i ∷ is) (suc k) h = rule-of-map s is k (omega arith)
 
-length-rules : (es : List Entry) → length (rulesOf es) ≡ length es
+pub length-rules : (es : List Entry) → length (rulesOf es) ≡ length es
 length-rules [] = refl
 length-rules (x ∷ es) = ap suc (length-rules es)
 

@@ -1,11 +1,9 @@
 -- Demand 3 on bytes: what `plan` promises of a book, in the textbook's words, for every accepted book. Each theorem takes the promise of a call and nothing else.
-use mathlib.Core.Path.{_≡_, refl, sym, _∙_, ap, subst}
-use mathlib.Core.List.{List, [], _∷_, map}
+use mathlib.Core.Path.{_≡_, refl, sym, _∙_, subst}
+use mathlib.Core.List.{List}
 use mathlib.Core.Logic.{_↔_}
-use Prim.Native.Nat.{ℕ, suc, _+_, _≤_, _<_}
-use lib.Dec.{T}
+use Prim.Native.Nat.{ℕ, _+_, _≤_}
 use lib.ListN.{length, take}
-use lib.IntN.{ℤ}
 use Rattle.lp.specs.declared.Constraint.{Constraint}
 use Rattle.lp.specs.declared.Functional.{Functional}
 use Rattle.lp.specs.declared.Point.{Point}
@@ -13,11 +11,11 @@ use Rattle.lp.specs.declared.Ray.{Ray}
 use Rattle.lp.specs.declared.Outcome.{Outcome}
 use Rattle.lp.specs.declared.Outcome.the-variants as outcome
 use Rattle.lp.specs.Program.{system}
-use Rattle.lp.specs.Textbook.{Infeasible, Possible, Unbounded, Bounded}
-use Rattle.lp.specs.Certificate.{named, certifies}
+use Rattle.lp.specs.Textbook.{Infeasible, Unbounded, Bounded}
+use Rattle.lp.specs.Certificate.{named}
 use Rattle.lp.specs.Document.{leastXThenY, zeroFloors, AlikeInRules}
 use Rattle.book.specs.Layout.{v1}
-use Rattle.book.specs.Reading.{Reading, refused, accepted, Entry, readOf}
+use Rattle.book.specs.Reading.{refused, accepted, Entry, readOf}
 use Rattle.report.specs.declared.Answer.{Answer}
 use Rattle.report.specs.declared.Answer.the-variants.{Refused, Planned}
 use Rattle.report.specs.declared.Plan.{Plan}
@@ -26,6 +24,7 @@ use Rattle.theory.proofs.Farkas.{certificate-excludes}
 use Rattle.theory.proofs.Meaning.{outcome-order-free}
 use Rattle.theory.proofs.Theorems.{infeasible-exactly, unbounded-exactly, optimal-exactly, BestPoint, optimum-best, FirstPoint, start-first, FlattestRay, ray-flattest, Placed, place-least, moves-at-most, open-at-most}
 use Rattle.planner.specs.Witness.{coded}
+use Rattle.planner.proofs.Chains.{length-rules}
 use Rattle.planner.proofs.Ordered.{InOrder, rising-in-order}
 use Rattle.planner.specs.Planning.{rulesOf, recordsOf, Proves, Witnessed, PlannedAs, AnsweredBy, Answers}
 
@@ -40,10 +39,6 @@ accepted-planned s a promise o es e = go a refl (subst (λ r. AnsweredBy r a) e 
 -- a refused book is answered with its number and record
 pub refused-answered : (s : List ℕ) (a : Answer) → Answers s a → (n r : ℕ) → readOf v1 s ≡ refused n r → a ≡ Refused n r
 refused-answered s a promise n r e = subst (λ x. AnsweredBy x a) e (promise .answered)
-
-length-map : (es : List Entry) → length (rulesOf es) ≡ length es
-length-map [] = refl
-length-map (x ∷ es) = ap suc (length-map es)
 
 module _ (o : Functional) (es : List Entry) (p : Plan) (promise : PlannedAs es o p) where
   abbrev pub chain : List Constraint
@@ -105,11 +100,11 @@ module _ (o : Functional) (es : List Entry) (p : Plan) (promise : PlannedAs es o
 
   pub moves-bounded : p .moves ≤ length es
   moves-bounded =
-      subst (λ n. p .moves ≤ n) (length-map es) (subst (λ n. n ≤ length (rulesOf es)) (sym (promise .moves-defined)) (moves-at-most leastXThenY least-x-then-y-good zeroFloors o (rulesOf es)))
+      subst (λ n. p .moves ≤ n) (length-rules es) (subst (λ n. n ≤ length (rulesOf es)) (sym (promise .moves-defined)) (moves-at-most leastXThenY least-x-then-y-good zeroFloors o (rulesOf es)))
 
   pub open-bounded : p .opened ≤ length es + 1
   open-bounded =
-      subst (λ n. p .opened ≤ n + 1) (length-map es) (subst (λ n. n ≤ length (rulesOf es) + 1) (sym (promise .open-defined)) (open-at-most leastXThenY least-x-then-y-good zeroFloors o (rulesOf es)))
+      subst (λ n. p .opened ≤ n + 1) (length-rules es) (subst (λ n. n ≤ length (rulesOf es) + 1) (sym (promise .open-defined)) (open-at-most leastXThenY least-x-then-y-good zeroFloors o (rulesOf es)))
 
 -- two accepted books alike in objective and rules (floors are the same in every book) get the same outcome, pair and direction
 pub order-free : (o : Functional) (es fs : List Entry) (p q : Plan) → PlannedAs es o p → PlannedAs fs o q → AlikeInRules (rulesOf es) (rulesOf fs) → p .outcome ≡ q .outcome

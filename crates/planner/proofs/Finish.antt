@@ -1,25 +1,22 @@
 -- The last step of a plan: what the walk says of the chain's rules, with its certificate named by record, is document 01's answer.
 use mathlib.Core.Path.{_≡_, refl, sym, _∙_, ap, subst}
 use mathlib.Core.List.{List, [], _∷_, _++_, map, List·Memᴰ, List·Memᴰ·head, List·Memᴰ·tail, List·Memᴰ·cases-cons, List·Memᴰ·not-nil}
-use mathlib.Core.Bool.{Bool, true, false}
-use mathlib.Core.Logic.{_⊎_, ⊎-elim}
-use Prim.Native.Nat.{ℕ, zero, suc, _+_, _-_, _≤_, _<_}
+use mathlib.Core.Bool.{true, false}
+use mathlib.Core.Logic.{⊎-elim}
+use Prim.Native.Nat.{ℕ, zero, suc, _+_, _-_, _<_}
 use native.Mathlib.Omega.{arith}
-use lib.Dec.{T}
 use lib.ListN.{length, getD, take, replicate}
 use lib.IntN.{ℤ, pos}
 use Rattle.lp.specs.declared.Constraint.{Constraint}
 use Rattle.lp.specs.declared.Functional.{Functional}
 use Rattle.lp.specs.declared.Certificate.{Certificate}
-use Rattle.lp.specs.declared.Outcome.{Outcome}
 use Rattle.lp.specs.Program.{constraint, floorX, floorY, system}
 use Rattle.lp.specs.Certificate.{isZero}
 use Rattle.lp.specs.Document.{Lawful, leastXThenY, zeroFloors}
 use Rattle.book.specs.Layout.{v1}
-use Rattle.book.specs.Reading.{Reading, accepted, Entry, readOf}
+use Rattle.book.specs.Reading.{accepted, Entry, readOf}
 use Rattle.book.specs.Answers.{padded, indexIn}
 use Rattle.report.specs.declared.Plan.{Plan}
-use Rattle.model.specs.declared.Best.{Best}
 use Rattle.model.specs.declared.Best.the-variants as best
 use Rattle.model.specs.declared.Gain.{Gain}
 use Rattle.model.specs.declared.Gain.the-variants as gain
@@ -27,13 +24,13 @@ use Rattle.model.specs.declared.State.{State}
 use Rattle.model.specs.declared.State.the-variants.{Ended, Going}
 use Rattle.model.specs.Step.{walk, said, saidRay, gaining, placeOf}
 use Rattle.theory.proofs.Ties.{least-x-then-y-good}
-use Rattle.theory.proofs.Walk.{Stands, Over}
+use Rattle.theory.proofs.Walk.{Stands}
 use Rattle.theory.proofs.Meaning.{walk-stands}
 use Rattle.theory.proofs.Theorems.{walk-is-defined}
-use Rattle.planner.specs.Witness.{nobody, codeAt, codeOf, coded, rising}
+use Rattle.planner.specs.Witness.{codeAt, codeOf, coded, rising}
 use Rattle.planner.specs.Verdict.{verdictOf, witnessOf}
-use Rattle.planner.specs.Planning.{rulesOf, recordsOf, Proves, Witnessed, PlannedAs}
-use Rattle.planner.proofs.Chains.{rule-lawful}
+use Rattle.planner.specs.Planning.{rulesOf, Witnessed, PlannedAs}
+use Rattle.planner.proofs.Chains.{length-rules, rule-lawful}
 
 -- zeros after a list change no reading of it
 getD-zeros : (n i : ℕ) → _≡_ {A = ℕ} (getD (replicate n 0) i 0) 0
@@ -84,10 +81,6 @@ taken : (p : ℕ) (l : List Constraint) (r : Constraint) → List·Memᴰ r (tak
 taken zero l r i = absurd (List·Memᴰ·not-nil i)
 taken (suc p) [] r i = i
 taken (suc p) (x ∷ l) r i = ⊎-elim (λ e. List·Memᴰ·head e) (λ j. List·Memᴰ·tail (taken p l r j)) (List·Memᴰ·cases-cons i)
-
-length-rules : (es : List Entry) → length (rulesOf es) ≡ length es
-length-rules [] = refl
-length-rules (x ∷ es) = ap suc (length-rules es)
 
 module _ (s : List ℕ) (o : Functional) (es : List Entry) (e : readOf v1 s ≡ accepted o es) where
   system-lawful : (p : ℕ) (r : Constraint) → List·Memᴰ r (system zeroFloors (take p (rulesOf es))) → Lawful r

@@ -1,7 +1,7 @@
 -- Laying out: the loop's record, and what stands at each entry of the run in the end.
 use mathlib.Core.Path.{_≡_, refl, sym, _∙_, ap, ap₂, subst}
 use mathlib.Core.List.{List, [], _∷_}
-use Prim.Native.Nat.{ℕ, zero, suc, _+_, _*_, _-_, _≤_, _<_}
+use Prim.Native.Nat.{ℕ, zero, suc, _+_, _*_, _≤_, _<_}
 use native.Mathlib.Numerals.{add-one}
 use native.Mathlib.Omega.{arith}
 use native.Mathlib.Decide.{decLt}
@@ -10,7 +10,7 @@ use lib.Seq.{getD-set-same, getD-set-other}
 use lib.IntN.{ℤ, pos}
 use Rattle.lp.specs.declared.Constraint.{Constraint}
 use Rattle.planner.specs.Entries.{entry, entries}
-use Rattle.planner.specs.Layout.{putEntry, laid, Laying}
+use Rattle.planner.specs.Layout.{putEntry, laid}
 
 pub record Filled (f : ℕ → Constraint) (n : ℕ) (l₀ l : List ℤ) (i : ℕ) : Type 0 where
   pub state : l ≡ laid f i l₀

@@ -1,10 +1,9 @@
 -- A witness's entries are in the printed order: no entry goes before the one ahead of it, so used entries come first and their codes rise.
 use mathlib.Core.Path.{_≡_, refl, sym, subst}
 use mathlib.Core.Bool.{Bool, true, false, not, _&&_, _||_}
-use Prim.Native.Nat.{ℕ, _≤_}
+use Prim.Native.Nat.{ℕ}
 use native.Mathlib.Omega.{arith}
 use lib.Dec.{T, ltb, ltb→lt, nltb→le, not-T}
-use lib.IntN.{ℤ}
 use Rattle.lp.specs.declared.Certificate.{Certificate}
 use Rattle.lp.specs.Certificate.{isZero}
 use Rattle.planner.specs.Witness.{goesBefore, orderFirst, orderLast, rising}

@@ -1,7 +1,7 @@
 -- The plan of an accepted book, from the chain that was read off it: what each call asks, and what the answer is.
 use mathlib.Core.Path.{_≡_, refl, sym, _∙_, ap, subst}
 use mathlib.Core.List.{List, map}
-use Prim.Native.Nat.{ℕ, _+_, _-_, _≤_, _<_}
+use Prim.Native.Nat.{ℕ, _+_, _-_, _≤_}
 use native.Mathlib.Omega.{arith}
 use lib.ListN.{length, replicate, length-append, length-replicate}
 use lib.IntN.{ℤ}
@@ -14,9 +14,7 @@ use Rattle.book.specs.declared.Chain.{Chain}
 use Rattle.book.specs.Layout.{v1}
 use Rattle.book.specs.Reading.{Reading, refused, accepted, Entry, readOf}
 use Rattle.book.specs.Answers.{Reads, chainOf, padded, indexIn}
-use Rattle.book.specs.Causes.{Applies, cause-1, cause-2, cause-3, cause-4, cause-5, cause-6, cause-7, cause-8, cause-9, cause-10}
-use Rattle.book.proofs.Causes.{refusal-applies}
-use Rattle.report.specs.declared.Answer.{Answer}
+use Rattle.book.proofs.Causes.{refusal-applies, cause-number}
 use Rattle.report.specs.declared.Answer.the-variants.{Refused, Planned}
 use Rattle.report.specs.declared.Plan.{Plan}
 use Rattle.model.specs.Step.{walk}
@@ -80,17 +78,8 @@ module _ (s : List ℕ) (chain : Chain) (h : Chained s chain) where
 -- ---- which books are planned
 
 -- no cause has the number 0
-cause-number : {s : List ℕ} {n r : ℕ} → Applies v1 s n r → n ≡ 0 → ⊥
-cause-number (cause-1 a) e = omega arith
-cause-number (cause-2 a b) e = omega arith
-cause-number (cause-3 a b c) e = omega arith
-cause-number (cause-4 a b c d) e = omega arith
-cause-number (cause-5 a b c d f) e = omega arith
-cause-number (cause-6 a b) e = omega arith
-cause-number (cause-7 a b c d) e = omega arith
-cause-number (cause-8 a b) e = omega arith
-cause-number (cause-9 a b c) e = omega arith
-cause-number (cause-10 a b c d) e = omega arith
+not-zero : {n : ℕ} → 1 ≤ n → n ≡ 0 → ⊥
+not-zero h e = omega arith
 
 module _ (s : List ℕ) (chain : Chain) (h : Reads s chain) where
   pub zero-chained : chain .number ≡ 0 → Chained s chain
@@ -99,7 +88,7 @@ module _ (s : List ℕ) (chain : Chain) (h : Reads s chain) where
     where
       go : (r : Reading) → readOf v1 s ≡ r → Chained s chain
       go (refused n i) e =
-          absurd (cause-number (refusal-applies v1 s e) (sym (ap (λ (c : Chain). c .number) (h .answer ∙ ap chainOf e)) ∙ z))
+          absurd (not-zero (cause-number (refusal-applies v1 s e) .0) (sym (ap (λ (c : Chain). c .number) (h .answer ∙ ap chainOf e)) ∙ z))
       go (accepted o es) e = record { objective = o; entries = es; accepts = e; chain = h .answer ∙ ap chainOf e }
 
   pub other-refused : (chain .number ≡ 0 → ⊥) → Answers s (Refused (chain .number) (chain .at))
