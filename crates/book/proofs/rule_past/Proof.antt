@@ -1,11 +1,11 @@
--- `book::rule_at` meets its contract: each field, at its offset.
+-- `book::rule_past` meets its contract: each field, at its offset.
 use borrow.Author.Needs.{needs}
 use mathlib.Core.Path.{_≡_, _∙_, ap}
 use mir.Syntax.{w16, w32, w64}
 use mir.Val.{toZ, ofZ}
 use Rattle.book.proofs.Fields.{kind-at, a-at, b-at, c-at, label-at}
-use Rattle.book.proofs.rule_at.Statement.{statement}
-use Rattle.book.proofs.rule_at.Tie as tie
+use Rattle.book.proofs.rule_past.Statement.{statement}
+use Rattle.book.proofs.rule_past.Tie as tie
 
 mul-at : tie.Need-mul-at
 mul-at c = search needs
@@ -66,8 +66,8 @@ returns c =
     let pl = c .number23 .ensures ∙ label-at s i in
     record { answer = λ j. record { kind = pk j; a = pa j; b = pb j; c = pc j; label = pl j } }
 
-pub rule-at-spec : {M : Type 1} → statement M
-rule-at-spec =
+pub rule-past-spec : {M : Type 1} → statement M
+rule-past-spec =
     tie.close
     (tie.spec
     mul-at
