@@ -30,8 +30,13 @@ pub enum Outcome {
 }
 
 impl Line {
+    /// How far a pair is from the line, times D: below 0 where the rule is broken.
+    pub fn slack(&self, v: &Pair) -> i128 {
+        self.c * v.d - self.a * v.x - self.b * v.y
+    }
+
     pub fn kept_by(&self, v: &Pair) -> bool {
-        self.a * v.x + self.b * v.y <= self.c * v.d
+        self.slack(v) >= 0
     }
 }
 
@@ -102,7 +107,7 @@ fn reduced(v: &Pair) -> Pair {
 }
 
 /// The greatest common divisor of two numbers, not both 0, by halving and subtracting.
-fn divisor(m: i128, n: i128) -> i128 {
+pub fn divisor(m: i128, n: i128) -> i128 {
     let (mut m, mut n) = (m.unsigned_abs(), n.unsigned_abs());
     if m == 0 || n == 0 {
         return (m + n) as i128;

@@ -1,5 +1,6 @@
 //! Tests of the planner from outside. Books are made at random or from a table (`book`, `families`, `damage`, `stored`), read again by an
-//! independent reader (`read`), searched exhaustively (`exact`, `prefixes`), and the planner's line is judged (`judge`).
+//! independent reader (`read`), searched exhaustively (`exact`, `prefixes`), and the planner's line is judged (`judge`), as
+//! are the lines of the panel (`panel`).
 //! Nothing here shares a step with the planner: no walk, no incremental state, 128-bit integers throughout.
 
 pub mod book;
@@ -7,6 +8,7 @@ pub mod damage;
 pub mod exact;
 pub mod families;
 pub mod judge;
+pub mod panel;
 pub mod planner;
 pub mod prefixes;
 pub mod program;

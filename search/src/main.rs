@@ -1,10 +1,12 @@
 //! `search` plans stored and random books, judges each line and ends with one summary line; a mismatch prints the book in hexadecimal with
-//! both lines and fails. The environment's SEED repeats a run; SHORT, LONG, DAMAGED and ORDERS say how many books.
+//! both lines and fails. The environment's SEED repeats a run; SHORT, LONG, DAMAGED, ORDERS and PANELS say how many books.
 //! `search program PATH` runs the plan program on stored and some random books.
+//! `search panel PATH` runs the panel program likewise.
 //! `search look` reads books in hexadecimal, one a line, and prints for each the right line, the planner's and the verdict.
 
 use search::book::from_hex;
 use search::judge::expected;
+use search::panel;
 use search::planner;
 use search::prefixes::Depth;
 use search::program::program;
@@ -17,8 +19,9 @@ fn main() -> ExitCode {
     let result = match &words.iter().map(String::as_str).collect::<Vec<_>>()[..] {
         [] => seed().and_then(run),
         ["program", path] => seed().and_then(|seed| run_program(path, seed)),
+        ["panel", path] => seed().and_then(|seed| run_panel(path, seed)),
         ["look"] => look(),
-        _ => Err("usage: search [look | program PATH]".into()),
+        _ => Err("usage: search [look | program PATH | panel PATH]".into()),
     };
     if let Err(message) = &result {
         eprintln!("{message}");
@@ -41,15 +44,21 @@ fn run(seed: u64) -> Result<(), String> {
     let long = timed("LONG", 1_200, |n| random_books(&mut tally, seed ^ 1 << 61, n, 255, 80))?;
     let damaged = timed("DAMAGED", 20_000, |n| damaged_books(&mut tally, seed ^ 1 << 62, n))?;
     let shuffled = timed("ORDERS", 1_000, |n| orders(seed ^ 1 << 63, n))?;
+    let panels = timed("PANELS", 20_000, |n| panel::panels(seed ^ 1 << 60, n))?;
     println!(
         "search: all right: {stored} stored books, {short} of 0 to 12 rules, {long} of 0 to 255, {damaged} damaged ({tally}), \
-         {shuffled} in ten orders; SEED={seed}"
+         {shuffled} in ten orders, {panels} panels; SEED={seed}"
     );
     Ok(())
 }
 
 fn run_program(path: &str, seed: u64) -> Result<(), String> {
     println!("search: all right: {} books through the program", program(path, seed)?);
+    Ok(())
+}
+
+fn run_panel(path: &str, seed: u64) -> Result<(), String> {
+    println!("search: all right: {} books through the panel program", panel::program(path, seed)?);
     Ok(())
 }
 

@@ -1,32 +1,57 @@
 //! The planner under test: the static library's function, or the twin in its place.
 
-/// Long enough for every line.
+/// Long enough for every line, and for the lines of every panel.
 pub const LINE: usize = 256;
+pub const PANEL: usize = 16_384;
 
 #[cfg(not(feature = "standin"))]
 mod linked {
     extern "C" {
         fn vishalneq_plan_line(book: *const u8, book_len: usize, out: *mut u8, out_len: usize) -> usize;
+        fn vishalneq_panel_lines(book: *const u8, book_len: usize, out: *mut u8, out_len: usize) -> usize;
     }
 
     pub fn plan_line(book: &[u8], out: &mut [u8]) -> usize {
         // SAFETY: both slices are live for the call, and `out` is lent for writing to this call alone.
         unsafe { vishalneq_plan_line(book.as_ptr(), book.len(), out.as_mut_ptr(), out.len()) }
     }
+
+    pub fn panel_lines(book: &[u8], out: &mut [u8]) -> usize {
+        // SAFETY: as above.
+        unsafe { vishalneq_panel_lines(book.as_ptr(), book.len(), out.as_mut_ptr(), out.len()) }
+    }
 }
 
 #[cfg(not(feature = "standin"))]
-pub use linked::plan_line;
+pub use linked::{panel_lines, plan_line};
 #[cfg(feature = "standin")]
 pub use twin::plan_line;
 
-/// The planner's line for a book. Bytes of the buffer after the line must stay as they were.
+/// The twin makes no panels: with it in the planner's place the right lines are handed back.
+#[cfg(feature = "standin")]
+pub fn panel_lines(book: &[u8], out: &mut [u8]) -> usize {
+    let lines = crate::panel::right(book);
+    out[..lines.len()].copy_from_slice(lines.as_bytes());
+    lines.len()
+}
+
+/// The planner's line for a book.
 pub fn line(book: &[u8]) -> Result<Vec<u8>, String> {
-    let mut out = [0xA5; LINE];
-    let length = plan_line(book, &mut out);
+    written(LINE, |out| plan_line(book, out))
+}
+
+/// The lines of a book's panel.
+pub fn panel(book: &[u8]) -> Result<Vec<u8>, String> {
+    written(PANEL, |out| panel_lines(book, out))
+}
+
+/// What a call writes into a buffer. Bytes of the buffer after it must stay as they were.
+fn written(size: usize, write: impl FnOnce(&mut [u8]) -> usize) -> Result<Vec<u8>, String> {
+    let mut out = vec![0xA5; size];
+    let length = write(&mut out);
     match out.get(length..) {
-        None => Err(format!("a line of {length} bytes in a buffer of {LINE}")),
-        Some(rest) if rest.iter().any(|b| *b != 0xA5) => Err("bytes after the line were changed".into()),
+        None => Err(format!("{length} bytes in a buffer of {size}")),
+        Some(rest) if rest.iter().any(|b| *b != 0xA5) => Err("bytes after what was written were changed".into()),
         Some(_) => Ok(out[..length].to_vec()),
     }
 }

@@ -25,7 +25,7 @@ pub fn program(path: &str, seed: u64) -> Result<u64, String> {
 }
 
 /// What the program prints for a book that arrives in two pieces. It must end normally and print no error.
-fn printed(path: &str, book: &[u8], first: usize) -> Result<Vec<u8>, String> {
+pub fn printed(path: &str, book: &[u8], first: usize) -> Result<Vec<u8>, String> {
     let mut command = Command::new(path);
     command.stdin(Stdio::piped()).stdout(Stdio::piped()).stderr(Stdio::piped());
     let mut child = command.spawn().map_err(|e| format!("{path}: {e}"))?;

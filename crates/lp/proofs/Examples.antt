@@ -1,6 +1,6 @@
--- The class examples marked * in document 01 hold of the definitions, and so do its slips: one computation over each table, and every row follows.
+-- The class examples marked * in document 01 hold of the definitions, and so do its slips and the slacks: one computation over each table, and every row follows.
 use mathlib.Core.Path.{_≡_, refl}
-use mathlib.Core.List.{List, [], _∷_, List·Memᴰ, List·Memᴰ·cases-cons, List·Memᴰ·not-nil}
+use mathlib.Core.List.{List, [], _∷_, map, List·Memᴰ, List·Memᴰ·cases-cons, List·Memᴰ·not-nil}
 use mathlib.Core.Bool.{Bool, true, false}
 use mathlib.Core.Logic.{⊎-elim}
 use mathlib.Core.Path.{sym, subst}
@@ -8,7 +8,8 @@ use lib.Dec.{T}
 use Rattle.ints.specs.Gcd.{gcd}
 use Rattle.lp.specs.Outcome.{every}
 use Rattle.lp.specs.Document.{Example, holds}
-use Rattle.lp.specs.Examples.{classExamples, slips}
+use Rattle.lp.specs.Slack.{slackOf}
+use Rattle.lp.specs.Examples.{classExamples, slips, Slack, slacks}
 
 pub class-examples-hold : T (every holds classExamples)
 unfolding gcd
@@ -17,6 +18,10 @@ class-examples-hold = tt
 pub slips-hold : T (every holds slips)
 unfolding gcd
 slips-hold = tt
+
+pub slacks-hold : map (λ (e : Slack). slackOf (e .rule) (e .at)) slacks ≡ map (λ (e : Slack). e .left) slacks
+unfolding gcd
+slacks-hold = refl
 
 -- what holds of a table holds of its rows
 at-row : (test : Example → Bool) (table : List Example) → T (every test table) → (e : Example) → List·Memᴰ e table → T (test e)

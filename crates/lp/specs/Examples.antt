@@ -1,11 +1,14 @@
--- The ten class examples marked * in document 01, and what its list of slips warns of. In a witness 0 is floor x, 1 floor y, and 2 the first rule.
+-- The ten class examples marked * in document 01, and what its list of slips warns of; and slacks. In a witness 0 is floor x, 1 floor y, and 2 the first rule.
 use mathlib.Core.List.{List, [], _∷_}
 use Prim.Native.Nat.{ℕ}
 use lib.IntN.{ℤ, pos, negsuc, negℤ}
 use Rattle.lp.specs.declared.Constraint.{Constraint}
 use Rattle.lp.specs.declared.Outcome.{Outcome}
 use Rattle.lp.specs.declared.Outcome.the-variants.{Infeasible, Unbounded, Optimal}
+use Rattle.lp.specs.declared.Point.{Point}
+use Rattle.lp.specs.declared.Amount.{Amount}
 use Rattle.lp.specs.Program.{constraint, functional, point, ray}
+use Rattle.lp.specs.Slack.{amount}
 use Rattle.lp.specs.Certificate.{Weighted}
 use Rattle.lp.specs.Document.{Example}
 
@@ -50,4 +53,25 @@ slips =
     ∷ example (atLeast (pos 2) (pos 1) (pos 4) ∷ []) (negsuc 1) (negsuc 0) (Optimal (point (pos 0) (pos 4) (pos 1))) 1 0
     ∷ example (atLeast (pos 1) (pos 1) (pos 4) ∷ atMost (pos 1) (pos 1) (pos 6) ∷ []) (pos 1) (pos 1) (Optimal (point (pos 0) (pos 6) (pos 1))) 0 2
     ∷ impossible (atMost (pos 1) (pos 0) (negsuc 0) ∷ atMost (pos 0) (pos 1) (pos 5) ∷ []) (pos 0) (pos 0) 1 (once 0 ∷ once 2 ∷ []) 1 0
+    ∷ []
+
+-- ---- slacks: a rule, a pair and the amount
+
+pub record Slack : Type 0 where
+  pub rule : Constraint
+  pub at : Point
+  pub left : Amount
+
+abbrev slackRow : Constraint → Point → Amount → Slack
+slackRow r v a = record { rule = r; at = v; left = a }
+
+-- spare; spare in lowest terms; tight; broken; a rule of kind 2 turned round, of which 9/5 is left; the same of a pair that is not reduced
+abbrev pub slacks : List Slack
+slacks =
+    slackRow (atMost (pos 1) (pos 0) (pos 4)) (point (pos 7) (pos 7) (pos 5)) (amount (pos 13) (pos 5))
+    ∷ slackRow (atMost (pos 10) (pos 0) (pos 16)) (point (pos 7) (pos 7) (pos 5)) (amount (pos 2) (pos 1))
+    ∷ slackRow (atMost (pos 2) (pos 3) (pos 7)) (point (pos 7) (pos 7) (pos 5)) (amount (pos 0) (pos 1))
+    ∷ slackRow (atMost (pos 1) (pos 1) (pos 2)) (point (pos 7) (pos 7) (pos 5)) (amount (negsuc 3) (pos 5))
+    ∷ slackRow (atLeast (pos 1) (pos 1) (pos 1)) (point (pos 7) (pos 7) (pos 5)) (amount (pos 9) (pos 5))
+    ∷ slackRow (atLeast (pos 1) (pos 1) (pos 1)) (point (pos 14) (pos 14) (pos 10)) (amount (pos 9) (pos 5))
     ∷ []

@@ -33,6 +33,12 @@ pub struct Point {
     pub d: i64,
 }
 
+// A fraction with its sign: how far a point is from a rule's line.
+pub struct Amount {
+    pub numerator: i64,
+    pub denominator: i64,
+}
+
 // A direction of document 01.
 pub struct Ray {
     pub dx: i64,

@@ -32,7 +32,7 @@ abbrev none : Constraint
 none = constraint (pos 0) (pos 0) (pos 0)
 
 -- what the code makes of a lawful rule is what is planned
-code-is-planned : (r : Rule) → LawfulRule r → constraintOf r ≡ plannedRule r
+pub code-is-planned : (r : Rule) → LawfulRule r → constraintOf r ≡ plannedRule r
 code-is-planned r l =
     ⊎-elim (λ k. at-most-planned r k ∙ one k) (λ k. at-least-planned r l k ∙ two k) (l .kind)
   where
@@ -42,7 +42,7 @@ code-is-planned r l =
     two : r .kind ≡ 2 → constraint (negℤ (r .a)) (negℤ (r .b)) (negℤ (r .c)) ≡ plannedRule r
     two k = rw (eq-eqb (r .kind) 2 k)
 
-small-of : (r : Constraint) → LawfulConstraint r → SmallConstraint r
+pub small-of : (r : Constraint) → LawfulConstraint r → SmallConstraint r
 small-of r h = record { a-small = record { small = h .a }; b-small = record { small = h .b }; c-small = record { small = h .c } }
 
 pub lawful-of : (r : Constraint) → LawfulConstraint r → Lawful r
@@ -87,7 +87,7 @@ module _ (s : List ℕ) (o : Functional) (es : List Entry) (e : readOf v1 s ≡ 
       ∙ sym (rule-of-map s (map indexIn es) k (omega (arith, length-index es)))
       ∙ ap (λ (l : List Entry). getD (rulesOf l) k none) (sym (accepted-entries v1 s e))
 
-  rule-small : (k : ℕ) → k < length es → LawfulConstraint (ruleFor s records k)
+  pub rule-small : (k : ℕ) → k < length es → LawfulConstraint (ruleFor s records k)
   rule-small k h =
       subst (λ (i : ℕ). LawfulConstraint (constraintOf (ruleOf v1 (recordAt v1 s i)))) (sym (record-at k h)) (planned-lawful (ruleOf v1 (recordAt v1 s (getD (map indexIn es) k 0))) (entry-lawful v1 s e k h))
 

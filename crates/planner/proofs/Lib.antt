@@ -11,5 +11,7 @@ pub mod Chains
 pub mod Finish
 pub mod Plans
 pub mod Ordered
+pub mod Amounts
+pub mod Shown
 pub mod Demands
 pub mod Witnesses

@@ -12,13 +12,13 @@ use mir.Val.{Fits, SFits, toZ}
 use mir.Facts.{toZ-ofZ}
 use Rattle.ints.specs.Within.{Within}
 use Rattle.ints.specs.Gcd.{gcd, gcd2, gcd3}
-use Rattle.ints.proofs.Gcd.{gcd-zero, gcd-le-right, gcd3-le, gcd3-pos}
-use Rattle.ints.proofs.Machine.{within-fits, within-read, within-neg, within-quot, weaken}
-use Rattle.ints.proofs.Divides.{natAbs-neg}
+use Rattle.ints.proofs.Gcd.{gcd-zero, gcd-le-right, gcd-pos-right, gcd3-le, gcd3-pos}
+use Rattle.ints.proofs.Machine.{within-fits, within-read, within-neg, within-sub, within-numeral, within-quot, weaken}
+use Rattle.ints.proofs.Divides.{natAbs-neg, natAbs-pos}
 use Rattle.lp.specs.declared.Point.{Point}
 use Rattle.lp.specs.declared.Ray.{Ray}
 use Rattle.model.specs.Bounds.{SmallPoint, SmallRay}
-use Rattle.planner.specs.Sizes.{Quotient, Reducible}
+use Rattle.planner.specs.Sizes.{Quotient, Reducible, Fraction}
 use Rattle.planner.proofs.Sizes.{read, result-read, within-unread, opposite-is}
 
 -- ---- casts to magnitudes
@@ -35,9 +35,12 @@ natAbs-opposite : (z : ℤ) → natAbs (negℤ z) ≡ natAbs z
 natAbs-opposite (pos n) = natAbs-neg n
 natAbs-opposite (negsuc n) = refl
 
-module _ {z : ℤ} (h : Within 65534000000000 z) where
+module _ {z : ℤ} (h : Within 6442057734000000000 z) where
   magnitude-fits : Fits w64 (natAbs z)
   magnitude-fits = record { fits = omega (arith, h .small) }
+
+  pub minus-fits : SFits w64 (pos 0 -ℤ read z)
+  minus-fits = within-fits (within-sub {m = 0} {a = pos 0} (within-numeral tt) (within-read h tt)) tt
 
   pub minus-cast : ltZ (read z) (pos 0) ≡ true → T (nonNeg (read (pos 0 -ℤ read z))) × Fits w64 (natAbs (read (pos 0 -ℤ read z)))
   minus-cast e =
@@ -65,7 +68,7 @@ module _ {z : ℤ} {g : ℕ} (h : Quotient z g) where
   quot-is = toZ-ofZ {w = w64} quot-fits ∙ quot-unread
 
 -- what a call returned, for a divisor that is known to be k
-pub quotient-read : {z : ℤ} → Within 65534000000000 z → {g k : ℕ} → g ≡ k → {q : ℤ} → mag q < 2 ^ 63 → q ≡ quotZ (read z) (pos g) → read q ≡ quotZ z (pos k)
+pub quotient-read : {z : ℤ} → Within 6442057734000000000 z → {g k : ℕ} → g ≡ k → {q : ℤ} → mag q < 2 ^ 63 → q ≡ quotZ (read z) (pos g) → read q ≡ quotZ z (pos k)
 quotient-read h eg b e = result-read b ∙ e ∙ ap₂ (λ y (n : ℕ). quotZ y (pos n)) (within-unread h tt) eg
 
 gcd-small : (m n : ℕ) → m ≤ 32767 → n ≤ 32767 → gcd m n < 2 ^ 63
@@ -89,7 +92,7 @@ module _ {d : Ray} (h : SmallRay d) {mx my g : ℕ} where
       eg ∙ ap₂ gcd (ex ∙ ap natAbs (within-unread (h .dx-small) tt)) (ey ∙ ap natAbs (within-unread (h .dy-small) tt))
 
 -- it fits, and is not 0
-pub point-quotient : {v : Point} → SmallPoint v → {g : ℕ} → g ≡ gcd3 (v .x) (v .y) (v .d) → {z : ℤ} → Within 65534000000000 z → Quotient (read z) g
+pub point-quotient : {v : Point} → SmallPoint v → {g : ℕ} → g ≡ gcd3 (v .x) (v .y) (v .d) → {z : ℤ} → Within 6442057734000000000 z → Quotient (read z) g
 point-quotient {v} h e s =
     record {
       z-small = within-read s tt;
@@ -106,3 +109,21 @@ ray-quotient {d} h e s =
           (gcd-small (natAbs (d .dx)) (natAbs (d .dy)) (h .ray .dx-small .small) (h .ray .dy-small .small));
       g-proper = subst (λ (n : ℕ). 0 < n) (sym e) (h .g-proper);
     }
+
+-- ---- a fraction in lowest terms
+
+module _ {n d : ℤ} (h : Fraction n d) where
+  fraction-le : gcd2 n d ≤ 2147352578
+  fraction-le = omega (arith, gcd-le-right (natAbs n) (natAbs d) (natAbs-pos (h .d-proper)), h .d-small .small)
+
+  pub fraction-divisor : {mn md g : ℕ} → mn ≡ natAbs (read n) → md ≡ natAbs (read d) → g ≡ gcd mn md → g ≡ gcd2 n d
+  fraction-divisor en ed eg =
+      eg ∙ ap₂ gcd (en ∙ ap natAbs (within-unread (h .n-small) tt)) (ed ∙ ap natAbs (within-unread (h .d-small) tt))
+
+  pub fraction-quotient : {g : ℕ} → g ≡ gcd2 n d → {z : ℤ} → Within 6442057734000000000 z → Quotient (read z) g
+  fraction-quotient e s =
+      record {
+        z-small = within-read s tt;
+        g-small = subst (λ (n : ℕ). n < 2 ^ 63) (sym e) (omega (arith, fraction-le));
+        g-proper = subst (λ (n : ℕ). 0 < n) (sym e) (gcd-pos-right (natAbs n) (natAbs d) (natAbs-pos (h .d-proper)));
+      }

@@ -16,6 +16,7 @@ use Rattle.lp.specs.declared.Functional.{Functional}
 use Rattle.lp.specs.declared.Point.{Point}
 use Rattle.lp.specs.declared.Ray.{Ray}
 use Rattle.lp.specs.Program.{constraint, point, ray}
+use Rattle.lp.specs.Slack.{amount}
 use Rattle.lp.specs.Certificate.{isZero}
 use Rattle.model.specs.Bounds.{SmallConstraint, SmallPoint}
 use Rattle.planner.specs.Sizes.{Factors, Distance, Lines, Risen, Gained}
@@ -156,12 +157,15 @@ point-same ex ey ed = λ i. point (ex i) (ey i) (ed i)
 pub ray-same : {x y x′ y′ : ℤ} → x ≡ x′ → y ≡ y′ → ray x y ≡ ray x′ y′
 ray-same ex ey = λ i. ray (ex i) (ey i)
 
+pub amount-same : {n d n′ d′ : ℤ} → n ≡ n′ → d ≡ d′ → amount n d ≡ amount n′ d′
+amount-same en ed = λ i. amount (en i) (ed i)
+
 pub constraint-same : {a b c a′ b′ c′ : ℤ} → a ≡ a′ → b ≡ b′ → c ≡ c′ → constraint a b c ≡ constraint a′ b′ c′
 constraint-same ea eb ec = λ i. constraint (ea i) (eb i) (ec i)
 
 -- ---- the opposite of a number, and a number's being 0
 
-pub opposite-is : {z : ℤ} → Within 65534000000000 z → read (pos 0 -ℤ read z) ≡ negℤ z
+pub opposite-is : {z : ℤ} → Within 6442057734000000000 z → read (pos 0 -ℤ read z) ≡ negℤ z
 opposite-is {z} h =
     within-unread (within-sub {m = 0} {a = pos 0} (within-numeral tt) (within-read h tt)) tt
     ∙ ap (λ y. pos 0 -ℤ y) (within-unread h tt)

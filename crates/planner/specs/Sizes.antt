@@ -3,8 +3,9 @@ use mathlib.Core.Path.{_≡_}
 use mathlib.Core.List.{List}
 use Prim.Native.Nat.{ℕ, _+_, _*_, _^_, _≤_, _<_}
 use lib.ListN.{length}
-use lib.IntN.{ℤ}
+use lib.IntN.{ℤ, pos}
 use Rattle.ints.specs.Gcd.{gcd2}
+use Rattle.ints.specs.Order.{_<ᶻ_}
 use Rattle.ints.specs.Within.{Within}
 use Rattle.lp.specs.declared.Constraint.{Constraint}
 use Rattle.lp.specs.declared.Functional.{Functional}
@@ -37,6 +38,11 @@ pub record Distance (a x b y c d : ℤ) : Type 0 where
   pub c-small : Within 1000000000 c
   pub d-small : Within 2147352578 d
 
+-- of a point's slack against a constraint
+pub record Measured (r : Constraint) (v : Point) : Type 0 where
+  pub constraint : SmallConstraint r
+  pub point : SmallPoint v
+
 pub record Lines (r s : Constraint) : Type 0 where
   pub first : SmallConstraint r
   pub second : SmallConstraint s
@@ -49,11 +55,17 @@ pub record Gained (f : Functional) (d : Ray) : Type 0 where
   pub functional : SmallFunctional f
   pub ray : SmallRay d
 
--- of z / g
+-- of z / g, where z may be as large as a slack
 pub record Quotient (z : ℤ) (g : ℕ) : Type 0 where
-  pub z-small : Within 65534000000000 z
+  pub z-small : Within 6442057734000000000 z
   pub g-small : g < 2 ^ 63
   pub g-proper : 0 < g
+
+-- of n/d in lowest terms
+pub record Fraction (n d : ℤ) : Type 0 where
+  pub n-small : Within 6442057734000000000 n
+  pub d-small : Within 2147352578 d
+  pub d-proper : pos 0 <ᶻ d
 
 -- a ray other than 0
 pub record Reducible (d : Ray) : Type 0 where

@@ -29,7 +29,7 @@ fn zero_floors() -> Floors
 }
 
 // The plan of an accepted book. The run has room for two floors and 255 rules.
-fn planned(book: &[u8], chain: Chain) -> Plan
+pub fn planned(book: &[u8], chain: Chain) -> Plan
     requires { ⌜ Chained (now book) chain ⌝ }
     ensures { λ r. ⌜ Answers (now (book .entry)) (Answer.Planned r) ⌝ }
 {

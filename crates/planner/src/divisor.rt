@@ -1,4 +1,5 @@
-// Points and rays in lowest terms. The greatest common divisor is worked out by repeated remainders, on magnitudes.
+// Points, rays and amounts in lowest terms. The greatest common divisor is worked out by repeated remainders, on magnitudes.
+use lp::Amount;
 use lp::Point;
 use lp::Ray;
 ghost use mathlib.Core.Path.{_≡_};
@@ -8,7 +9,8 @@ ghost use Rattle.ints.specs.Within.{Within};
 ghost use Rattle.ints.specs.Gcd.{gcd, gcd2, gcd3};
 ghost use Rattle.lp.specs.Outcome.{reduce as reduceOf, reduceRay};
 ghost use Rattle.model.specs.Bounds.{SmallPoint, SmallRay};
-ghost use Rattle.planner.specs.Sizes.{Quotient, Reducible};
+ghost use Rattle.lp.specs.Slack.{lowest as lowestOf};
+ghost use Rattle.planner.specs.Sizes.{Quotient, Reducible, Fraction};
 
 // Euclid's: the second number falls.
 fn divisor(m: u64, n: u64) -> u64
@@ -18,7 +20,7 @@ fn divisor(m: u64, n: u64) -> u64
 }
 
 fn magnitude(z: i64) -> u64
-    requires { ⌜ Within 65534000000000 z ⌝ }
+    requires { ⌜ Within 6442057734000000000 z ⌝ }
     ensures { λ r. ⌜ r ≡ natAbs z ⌝ }
 {
     if z < 0 { (0 - z) as u64 } else { z as u64 }
@@ -67,5 +69,17 @@ pub fn reduce_ray(d: Ray) -> Ray
     Ray {
         dx: quotient(d.dx, g),
         dy: quotient(d.dy, g),
+    }
+}
+
+// n/d in lowest terms.
+pub fn lowest(n: i64, d: i64) -> Amount
+    requires { ⌜ Fraction n d ⌝ }
+    ensures { λ a. ⌜ a ≡ lowestOf n d ⌝ }
+{
+    let g = divisor(magnitude(n), magnitude(d));
+    Amount {
+        numerator: quotient(n, g),
+        denominator: quotient(d, g),
     }
 }

@@ -9,7 +9,7 @@ ghost use mathlib.Core.Bool.{_&&_};
 ghost use lib.IntN.{pos, _+ℤ_, _-ℤ_, _*ℤ_, negℤ};
 ghost use lib.Signed.{leZ, ltZ};
 ghost use Rattle.ints.specs.Within.{Within};
-ghost use Rattle.lp.specs.Program.{ray, rise, along};
+ghost use Rattle.lp.specs.Program.{ray, rise, along, slack as slackOf};
 ghost use Rattle.lp.specs.Outcome.{det as detOf, meet as meetOf, keeps as keepsOf};
 ghost use Rattle.lp.specs.Certificate.{isZero};
 ghost use Rattle.model.specs.Bounds.{SmallConstraint};
@@ -89,11 +89,19 @@ pub fn crosses(m: Constraint, line: Constraint) -> bool
     0 < difference(m.a, line.b, line.a, m.b)
 }
 
+// How far a point is from a constraint's line, times d. Its sign decides; only what is shown is reduced.
+pub fn slack(r: Constraint, v: Point) -> i64
+    requires { ⌜ Distance (r .a) (v .x) (r .b) (v .y) (r .c) (v .d) ⌝ }
+    ensures { λ z. ⌜ z ≡ slackOf r v ⌝ }
+{
+    distance(r.a, v.x, r.b, v.y, r.c, v.d)
+}
+
 pub fn keeps(r: Constraint, v: Point) -> bool
     requires { ⌜ Distance (r .a) (v .x) (r .b) (v .y) (r .c) (v .d) ⌝ }
     ensures { λ t. ⌜ t ≡ keepsOf r v ⌝ }
 {
-    0 <= distance(r.a, v.x, r.b, v.y, r.c, v.d)
+    0 <= slack(r, v)
 }
 
 // A point that is not at infinity.

@@ -7,6 +7,7 @@ mod exact;
 mod layout;
 mod optimum;
 mod order;
+mod panel;
 mod scan;
 mod start;
 mod verdict;
@@ -14,7 +15,9 @@ mod walk;
 mod witness;
 
 use report::Answer;
+use report::panel::Panel;
 ghost use Rattle.planner.specs.Planning.{Answers, PlanLine};
+ghost use Rattle.planner.specs.Panel.{Panels, PanelLines};
 
 // The plan of a book, or its refusal. Every field is fixed by the bytes but the witness, which is any valid one.
 pub fn plan(book: &[u8]) -> Answer
@@ -30,4 +33,20 @@ pub extern "C" fn vishalneq_plan_line(book: &[u8], out: &mut [u8]) -> usize
     ensures { λ r. ⌜ PlanLine (now (book .entry)) (now (out .entry)) (now (out .exit)) r ⌝ }
 {
     report::write_line(plan(book), out)
+}
+
+// How far a book's best pair is from each rule, or its refusal. Every field is fixed by the bytes.
+pub fn slacks(book: &[u8]) -> Panel
+    ensures { λ r. ⌜ Panels (now (book .entry)) r ⌝ }
+{
+    panel::panel(book)
+}
+
+// The lines of a book's panel, for programs in other languages: written at the start of a buffer of at least 16,384 bytes, with their length. A
+// smaller buffer is left as it is, and 0 handed back.
+#[no_mangle]
+pub extern "C" fn vishalneq_panel_lines(book: &[u8], out: &mut [u8]) -> usize
+    ensures { λ r. ⌜ PanelLines (now (book .entry)) (now (out .entry)) (now (out .exit)) r ⌝ }
+{
+    report::panel::write_panel(slacks(book), out)
 }

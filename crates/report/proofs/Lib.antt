@@ -3,6 +3,7 @@
 pub mod Decimal
 pub mod Reading
 pub mod Put
+pub mod Rows
 pub mod Integer
 pub mod Witness
 pub mod Examples

@@ -12,6 +12,7 @@ ghost use Rattle.lp.specs.Certificate.{weighted, named};
 ghost use Rattle.report.specs.Line.{pair, direction, counts, entry, entries, witness, fields, answerFields};
 ghost use Rattle.report.specs.Append.{Room, Appended, Written};
 
+pub mod panel;
 mod text;
 
 // What an accepted book gets: its outcome, the two counts, and, where it is impossible, the place and a witness (else both zero). A witness's

@@ -25,3 +25,4 @@ pub mod Place
 pub mod Meaning
 pub mod Tops
 pub mod Theorems
+pub mod Slack

@@ -1,11 +1,10 @@
 use borrow.Author.Needs.{needs}
-use Rattle.ints.proofs.Machine.{sizes}
-use Rattle.planner.proofs.Quotients.{minus-cast, plus-cast, minus-magnitude}
+use Rattle.planner.proofs.Quotients.{minus-fits, minus-cast, plus-cast, minus-magnitude}
 use Rattle.planner.proofs.divisor.magnitude.Statement.{statement}
 use Rattle.planner.proofs.divisor.magnitude.Tie as tie
 
 sub-result : tie.Need-sub-result
-sub-result c = search sizes depth 8
+sub-result c = minus-fits (c .before .pre)
 
 cast-result : tie.Need-cast-result
 cast-result c = minus-cast (c .before .pre) (c .if1 .taken)

@@ -5,10 +5,10 @@ use Rattle.planner.proofs.divisor.point_divisor.Statement.{statement}
 use Rattle.planner.proofs.divisor.point_divisor.Tie as tie
 
 magnitude-requires : tie.Need-magnitude-requires
-magnitude-requires c κs = search needs
+magnitude-requires c κs = within-read (weaken tt (c .before .pre .x-small)) tt
 
 magnitude-requires-2 : tie.Need-magnitude-requires-2
-magnitude-requires-2 c κs = search needs
+magnitude-requires-2 c κs = within-read (weaken tt (c .before .before .before .pre .y-small)) tt
 
 divisor-requires : tie.Need-divisor-requires
 divisor-requires c κs = search needs

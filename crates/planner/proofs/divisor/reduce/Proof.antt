@@ -9,10 +9,10 @@ point-divisor-requires : tie.Need-point-divisor-requires
 point-divisor-requires c κs = search needs
 
 quotient-requires : tie.Need-quotient-requires
-quotient-requires c κs = point-quotient (c .before .before .pre) (c .before .point-divisor .ensures) (c .before .before .pre .x-small)
+quotient-requires c κs = point-quotient (c .before .before .pre) (c .before .point-divisor .ensures) (weaken tt (c .before .before .pre .x-small))
 
 quotient-requires-2 : tie.Need-quotient-requires-2
-quotient-requires-2 c κs = point-quotient (c .before .before .before .before .pre) (c .before .before .before .point-divisor .ensures) (c .before .before .before .before .pre .y-small)
+quotient-requires-2 c κs = point-quotient (c .before .before .before .before .pre) (c .before .before .before .point-divisor .ensures) (weaken tt (c .before .before .before .before .pre .y-small))
 
 quotient-requires-3 : tie.Need-quotient-requires-3
 quotient-requires-3 c κs =
@@ -25,7 +25,7 @@ returns c =
     let x = c .before .before .before .before .quotient in
     let y = c .before .before .quotient2 in
     let d = c .quotient3 in
-    point-same (quotient-read (h .x-small) g (x .ok) (x .ensures)) (quotient-read (h .y-small) g (y .ok) (y .ensures))
+    point-same (quotient-read (weaken tt (h .x-small)) g (x .ok) (x .ensures)) (quotient-read (weaken tt (h .y-small)) g (y .ok) (y .ensures))
     (quotient-read (weaken tt (h .d-small)) g (d .ok) (d .ensures))
 
 pub reduce-spec : {M : Type 1} → statement M

@@ -1,17 +1,16 @@
-use mathlib.Core.Path.{ap}
+use mathlib.Core.Path.{_∙_, ap}
 use lib.IntN.{pos}
 use lib.Signed.{leZ}
-use Rattle.planner.proofs.Sizes.{distance-args, distance-read}
+use Rattle.planner.proofs.Sizes.{result-read}
+use borrow.Author.Needs.{needs}
 use Rattle.planner.proofs.exact.keeps.Statement.{statement}
 use Rattle.planner.proofs.exact.keeps.Tie as tie
 
-distance-requires : tie.Need-distance-requires
-distance-requires c κs = distance-args (c .before .before .before .before .before .before .pre)
+slack-requires : tie.Need-slack-requires
+slack-requires c κs = search needs
 
 returns : tie.Need-returns
-returns c =
-    ap (leZ (pos 0))
-    (distance-read (c .before .before .before .before .before .before .before .pre) (c .distance .ok) (c .distance .ensures))
+returns c = ap (leZ (pos 0)) (result-read (c .slack .ok) ∙ c .slack .ensures)
 
 pub keeps-spec : {M : Type 1} → statement M
-keeps-spec = tie.close (tie.spec distance-requires returns)
+keeps-spec = tie.close (tie.spec slack-requires returns)

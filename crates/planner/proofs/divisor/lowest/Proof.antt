@@ -1,0 +1,44 @@
+use borrow.Author.Needs.{needs}
+use Rattle.ints.proofs.Machine.{within-read, weaken}
+use Rattle.planner.proofs.Quotients.{fraction-divisor, fraction-quotient, quotient-read}
+use Rattle.planner.proofs.Sizes.{amount-same}
+use Rattle.planner.proofs.divisor.lowest.Statement.{statement}
+use Rattle.planner.proofs.divisor.lowest.Tie as tie
+
+magnitude-requires : tie.Need-magnitude-requires
+magnitude-requires c κs = within-read (c .pre .n-small) tt
+
+magnitude-requires-2 : tie.Need-magnitude-requires-2
+magnitude-requires-2 c κs = within-read (weaken tt (c .before .pre .d-small)) tt
+
+divisor-requires : tie.Need-divisor-requires
+divisor-requires c κs = search needs
+
+quotient-requires : tie.Need-quotient-requires
+quotient-requires c κs =
+    let h = c .before .before .before .pre in
+    fraction-quotient h (fraction-divisor h (c .before .before .magnitude .ensures) (c .before .magnitude2 .ensures) (c .divisor .ensures)) (h .n-small)
+
+quotient-requires-2 : tie.Need-quotient-requires-2
+quotient-requires-2 c κs =
+    let h = c .before .before .before .before .pre in
+    fraction-quotient h (fraction-divisor h (c .before .before .before .magnitude .ensures) (c .before .before .magnitude2 .ensures) (c .before .divisor .ensures)) (weaken tt (h .d-small))
+
+returns : tie.Need-returns
+returns c =
+    let h = c .before .before .before .before .before .pre in
+    let g = fraction-divisor h (c .before .before .before .before .magnitude .ensures) (c .before .before .before .magnitude2 .ensures) (c .before .before .divisor .ensures) in
+    let n = c .before .quotient in
+    let d = c .quotient2 in
+    amount-same (quotient-read (h .n-small) g (n .ok) (n .ensures)) (quotient-read (weaken tt (h .d-small)) g (d .ok) (d .ensures))
+
+pub lowest-spec : {M : Type 1} → statement M
+lowest-spec =
+    tie.close
+    (tie.spec
+    magnitude-requires
+    magnitude-requires-2
+    divisor-requires
+    quotient-requires
+    quotient-requires-2
+    returns)

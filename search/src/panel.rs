@@ -1,0 +1,114 @@
+//! The panel: how far the best pair is from each rule, by the search's own arithmetic, against the library's lines and the panel program's.
+
+use crate::book::{to_hex, Rule, Source, MOST_RULES};
+use crate::damage::damage;
+use crate::exact::{divisor, outcome, Line, Outcome, Pair};
+use crate::families::source;
+use crate::program::printed;
+use crate::random::Random;
+use crate::read::{read, Accepted, Entry};
+use crate::{planner, stored};
+
+/// What a book's panel must print: a line a rule for a best outcome, nothing for any other, and the line of a refusal.
+pub fn right(book: &[u8]) -> String {
+    let Accepted { p, q, rules } = match read(book) {
+        Ok(accepted) => accepted,
+        Err(r) => return format!("refused {} {}\n", r.number, r.record),
+    };
+    let lines: Vec<Line> = rules.iter().map(|r| r.line).collect();
+    match outcome(p, q, &lines) {
+        Outcome::Best(v) => rules.iter().map(|r| row(book, r, &v)).collect(),
+        _ => String::new(),
+    }
+}
+
+/// Label, numerator and denominator.
+fn row(book: &[u8], rule: &Entry, v: &Pair) -> String {
+    let label = usize::from(book[12 * rule.record + 6]) + 256 * usize::from(book[12 * rule.record + 7]);
+    let left = rule.line.slack(v);
+    let g = divisor(left, v.d);
+    format!("{label} {} {}\n", left / g, v.d / g)
+}
+
+/// Objective, rules (kind, a, b, c), labelled from 101 on, and the panel.
+type Stored = (&'static str, (i16, i16), &'static [(u8, i16, i16, i32)], &'static str);
+
+/// The largest numerator that three lawful rules can make is 4·32,767²·10⁹, some 4.29·10¹⁸; the last book comes
+/// within a millionth of it.
+const PANELS: &[Stored] = &[
+    ("panel: no rules", (0, 0), &[], ""),
+    ("panel: two links", (1, 1), &[(1, 1, 2, 8), (1, 3, 1, 9)], "101 0 1\n102 0 1\n"),
+    ("panel: fifths", (1, 1), &[(1, 2, 3, 7), (1, 3, 2, 7), (2, 1, 1, 1)], "101 0 1\n102 0 1\n103 9 5\n"),
+    ("panel: reduced", (1, 1), &[(1, 10, 0, 14), (1, 0, 10, 14), (1, 10, 0, 16)], "101 0 1\n102 0 1\n103 2 1\n"),
+    ("panel: kind 2 is turned round", (-1, -1), &[(2, 1, 0, 3), (2, 0, 2, -3)], "101 0 1\n102 3 1\n"),
+    ("panel: 0 at most 5", (0, 0), &[(1, 0, 0, 5)], "101 5 1\n"),
+    ("panel: unlimited", (1, 0), &[(1, 1, -1, 2)], ""),
+    ("panel: impossible", (0, 0), &[(1, 1, 0, -1)], ""),
+    ("panel: refused", (0, 0), &[(1, 0, 0, 0), (0, 0, 0, 0)], "refused 8 2\n"),
+    (
+        "panel: the largest numerator",
+        (1, 0),
+        &[(1, 32767, -32767, 1_000_000_000), (1, 32765, 32767, 999_999_999), (1, -32767, -32766, 1_000_000_000)],
+        "101 0 1\n102 0 1\n103 4294705151852680189 2147287044\n",
+    ),
+];
+
+fn books() -> Vec<(&'static str, Vec<u8>)> {
+    let packed = |&(name, (p, q), rules, _): &Stored| {
+        let rule = |(i, &(kind, a, b, c)): (usize, &(u8, i16, i16, i32))| Rule { kind, a, b, c, label: 101 + i as u16 };
+        (name, Source { p, q, rules: rules.iter().enumerate().map(rule).collect() }.packed())
+    };
+    PANELS.iter().map(packed).collect()
+}
+
+/// Compares what was printed with what is right.
+fn judge(name: &str, book: &[u8], printed: Result<Vec<u8>, String>) -> Result<(), String> {
+    let right = right(book);
+    match printed {
+        Ok(lines) if lines == right.as_bytes() => Ok(()),
+        other => {
+            let shown = other.map_or_else(|why| why, |lines| String::from_utf8_lossy(&lines).into_owned());
+            Err(format!("mismatch: {name}: another panel\nbook    {}\nright   {right}\nprinted {shown}", to_hex(book)))
+        }
+    }
+}
+
+/// The stored panels, the stored books, and random books of 0 to 12 rules, one in fifty of up to 255, one in six damaged.
+pub fn panels(seed: u64, random_books: u64) -> Result<u64, String> {
+    let mut random = Random::new(seed);
+    for ((name, book), &(_, _, _, panel)) in books().iter().zip(PANELS) {
+        judge(name, book, planner::panel(book))?;
+        if right(book) != panel {
+            return Err(format!("mismatch: {name}: stored {panel}, searched {}", right(book)));
+        }
+    }
+    for s in stored::books() {
+        judge(s.name, &s.book, planner::panel(&s.book))?;
+    }
+    for i in 0..random_books {
+        let n = random.below(if i % 50 == 0 { MOST_RULES + 1 } else { 13 });
+        let (name, source) = source(&mut random, n);
+        let mut book = source.scattered(3, &mut random);
+        if random.one_in(6) {
+            damage(&mut random, &mut book);
+        }
+        judge(name, &book, planner::panel(&book))?;
+    }
+    Ok(random_books)
+}
+
+/// The panel program on the stored panels, the stored books and some random books.
+pub fn program(path: &str, seed: u64) -> Result<u64, String> {
+    let mut random = Random::new(seed);
+    let mut all = books();
+    all.extend(stored::books().into_iter().map(|s| (s.name, s.book)));
+    for _ in 0..100 {
+        let n = random.below(30);
+        let (name, source) = source(&mut random, n);
+        all.push((name, source.scattered(9, &mut random)));
+    }
+    for (name, book) in &all {
+        judge(name, book, printed(path, book, random.below(book.len() + 1)))?;
+    }
+    Ok(all.len() as u64)
+}
