@@ -1,7 +1,7 @@
 #!/usr/bin/env python3
 """Writes the stored books of crates/book_vectors (stdin) and what the program must say of them (stdout).
 
-The reader and the repacker below are written from document 01 alone, over Python's bytes: nothing is shared with the crate
+The reader and the repacker below are written from documents 01 and 02 alone, over Python's bytes: nothing is shared with the crate
 `book`. Run from the repository's root: python3 tools/book_vectors.py"""
 import random
 import struct
@@ -30,7 +30,7 @@ def read(book):
         return ("refused", 4, 0)
     if book[8:12] != bytes(4):
         return ("refused", 5, 0)
-    at, link, seen, chain = 0, first, set(), []
+    at, link, seen, labels, chain = 0, first, set(), set(), []
     while link:
         if link > count:
             return ("refused", 6, at)
@@ -44,6 +44,9 @@ def read(book):
             return ("refused", 9, link)
         if abs(c) > 1000000000:
             return ("refused", 10, link)
+        if label in labels:
+            return ("refused", 12, link)
+        labels.add(label)
         chain.append((link, kind, a, b, c, label))
         at, link = link, nxt
     return ("accepted", (p, q), chain)
@@ -90,11 +93,11 @@ def edges():
         case(f"header byte {byte} set", bytes(book))
     case("first link above the count", header(2, 1) + rule(0))
     case("first link at the count", header(2, 2) + rule(0) + rule(0))
-    case("later link above the count", header(1, 2) + rule(2) + rule(3))
-    case("later link at the count", header(1, 2) + rule(2) + rule(0))
+    case("later link above the count", header(1, 2) + rule(2) + rule(3, label=1))
+    case("later link at the count", header(1, 2) + rule(2) + rule(0, label=1))
     case("link to itself", header(1, 1) + rule(1))
-    case("link to a visited record", header(1, 3) + rule(2) + rule(3) + rule(2))
-    case("link to the first of a cycle", header(3, 3) + rule(3) + rule(1) + rule(2))
+    case("link to a visited record", header(1, 3) + rule(2) + rule(3, label=1) + rule(2, label=2))
+    case("link to the first of a cycle", header(3, 3) + rule(3) + rule(1, label=1) + rule(2, label=2))
     for kind in (0, 1, 2, 3, 255):
         case(f"kind {kind}", header(1, 1) + rule(0, kind=kind))
     for a in (-32768, -32767, 32767):
@@ -116,7 +119,7 @@ def pairs():
     case("3 before 4", header(0, 1, p=-32768))
     case("4 before 5", header(0, 0, q=-32768, tail=1))
     case("5 before 6", header(1, 0, tail=1))
-    case("6 before 7", header(1, 2) + rule(2) + rule(200))
+    case("6 before 7", header(1, 2) + rule(2) + rule(200, label=1))
     case("7 at a record before 8 of none", header(1, 1) + rule(1))
     case("6 before 8 of a spare record", header(2, 1) + rule(0, kind=9))
     case("8 before the 6 of its own link", header(1, 1) + rule(9, kind=9))
@@ -130,12 +133,41 @@ def pairs():
     case("1 before 11", b"", (0,))
 
 
+def labels():
+    """A label typed twice."""
+    two = header(1, 2) + rule(2, label=7)
+    bad = dict(label=7)
+    case("a label at neighbours, higher index", two + rule(0, **bad))
+    case("a label at neighbours, lower index", header(2, 2) + rule(0, **bad) + rule(1, **bad))
+    case("label 0 twice", header(1, 2) + rule(2) + rule(0))
+    case("label 65535 twice", header(1, 2) + rule(2, label=65535) + rule(0, label=65535))
+    case("a label with others between", header(1, 4) + rule(2, **bad) + rule(3, label=8) + rule(4, label=9) + rule(0, **bad))
+    case("a label with others between, lower index", header(4, 4) + rule(0, **bad) + rule(1, label=8) + rule(2, label=9) + rule(3, **bad))
+    case("a label three times", header(3, 3) + rule(0, **bad) + rule(1, **bad) + rule(2, **bad))
+    case("two labels twice", header(1, 4) + rule(2, label=8) + rule(3, **bad) + rule(4, **bad) + rule(0, label=8))
+    case("labels that differ in one byte", header(1, 3) + rule(2, label=0x0107) + rule(3, label=0x0207) + rule(0, label=0x0108))
+    case("one rule with two labels", header(1, 2) + rule(2, label=1) + rule(0, label=2))
+    case("a label in spare records only", header(2, 4) + rule(0, **bad) + rule(0, label=8) + rule(0, **bad) + rule(1, **bad))
+    case("a label on the chain and in spare records", header(2, 4) + rule(0, **bad) + rule(0, **bad) + rule(0, **bad) + rule(2, **bad))
+    case("8 before 12", two + rule(0, kind=0, **bad))
+    case("9 before 12", two + rule(0, b=-32768, **bad))
+    case("10 before 12", two + rule(0, c=-1000000001, **bad))
+    case("12 before the 6 of its own link", two + rule(3, **bad))
+    case("12 before the 7 of its own link, to itself", two + rule(2, **bad))
+    case("12 before the 7 of its own link, to the first", two + rule(1, **bad))
+    case("6 before 12 of none", two + rule(3, label=8))
+    case("7 before 12 of the record visited", header(1, 1) + rule(1, **bad))
+    case("12 of an earlier record before 8 of a later", header(1, 3) + rule(2, **bad) + rule(3, **bad) + rule(0, kind=0))
+    case("10 of an earlier record before 12 of a later", header(1, 3) + rule(2, **bad) + rule(3, c=1000000001, label=8) + rule(0, **bad))
+    case("12 before 11", two + rule(0, **bad), (0, 4096))
+
+
 def spare():
     junk = bytes(range(200, 212))
     case("junk in a spare record", header(2, 2) + junk + rule(0))
     case("zeros in a spare record", header(2, 2) + bytes(12) + rule(0))
     case("spare records alone", header(0, 3) + junk + junk + junk)
-    case("junk between and after", header(4, 5) + junk + rule(0, c=2) + junk + rule(2, c=1) + junk)
+    case("junk between and after", header(4, 5) + junk + rule(0, c=2) + junk + rule(2, c=1, label=1) + junk)
 
 
 def chains():
@@ -144,8 +176,9 @@ def chains():
     case("one rule, scattered", header(7, 9) + b"".join(rule(0, label=7) if k == 7 else bytes(12) for k in range(1, 10)), (23, 24, 25, 100))
     order = list(range(1, 256))
     rng.shuffle(order)
+    labels = dict(zip(order, rng.sample(range(65536), 255)))
     nxt = {order[k]: order[k + 1] if k + 1 < 255 else 0 for k in range(255)}
-    rules = {k: rule(nxt[k], rng.randint(-32767, 32767), rng.randint(-32767, 32767), rng.randint(-10**9, 10**9), rng.choice((1, 2)), rng.randint(0, 65535)) for k in order}
+    rules = {k: rule(nxt[k], rng.randint(-32767, 32767), rng.randint(-32767, 32767), rng.randint(-10**9, 10**9), rng.choice((1, 2)), labels[k]) for k in order}
     full = header(order[0], 255, -32767, 32767) + b"".join(rules[k] for k in range(1, 256))
     case("255 rules, scattered", full, (3071, 3072, 3073))
     broken = bytearray(full)
@@ -154,6 +187,12 @@ def chains():
     broken = bytearray(full)
     broken[12 * order[-1] + 1] = 3
     case("255 rules, the last of no kind", bytes(broken))
+    for name, later, earlier in (("first at the last", -1, 0), ("first at the second", 1, 0), ("middle at the last", -1, 127), ("last but one at the last", -1, -2)):
+        broken = bytearray(full)
+        broken[12 * order[later] + 6:12 * order[later] + 8] = struct.pack("<H", labels[order[earlier]])
+        case(f"255 rules, the label of the {name}", bytes(broken))
+    case("255 labels, each in its own word", header(1, 255) + b"".join(rule((k + 1) % 256, label=64 * k) for k in range(1, 256)))
+    case("255 labels, the highest", header(1, 255) + b"".join(rule((k + 1) % 256, label=65536 - k) for k in range(1, 256)))
     three = header(5, 6, -4, 9) + rule(3, c=3, label=3) + bytes(12) + rule(0, a=-1, b=2, c=-3, kind=2, label=65535) + bytes(12) + rule(1, c=5) + bytes(12)
     case("three rules, scattered", three, (0, 12, 47, 48, 49, 64))
     case("three rules, repacked", repack(three, 4096)[2], (48, 64))
@@ -175,6 +214,7 @@ def show(name, book, room):
 def main():
     edges()
     pairs()
+    labels()
     spare()
     chains()
     data = b"".join(struct.pack("<H", len(n.encode())) + n.encode() + struct.pack("<H", len(b)) + b + struct.pack("<H", r) for n, b, r in CASES)

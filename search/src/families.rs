@@ -27,7 +27,7 @@ const FAMILIES: [(&str, Family); 15] = [
     ("uniform", uniform),
 ];
 
-/// A random source of n rules with the name of its family; labels are distinct but for one book in eight.
+/// A random source of n rules with the name of its family; labels are distinct but in one book in sixteen.
 pub fn source(random: &mut Random, n: usize) -> (&'static str, Source) {
     let (name, family) = random.pick(&FAMILIES);
     let mut rules = family(random, n);
@@ -38,7 +38,11 @@ pub fn source(random: &mut Random, n: usize) -> (&'static str, Source) {
         twist(random, &mut rules);
     }
     let (p, q) = objective(random, &rules);
-    (name, Source { p: p as i16, q: q as i16, rules: labelled(random, &rules) })
+    let mut rules = labelled(random, &rules);
+    if random.one_in(16) {
+        repeat_label(random, &mut rules);
+    }
+    (name, Source { p: p as i16, q: q as i16, rules })
 }
 
 /// The last rules bound what was open or contradict each other, so that much happens late.
@@ -60,7 +64,7 @@ fn twist(random: &mut Random, rules: &mut [Numbers]) {
 /// Records for the rules: kinds at random, kind 2 written the other way round.
 fn labelled(random: &mut Random, rules: &[Numbers]) -> Vec<Rule> {
     let first = random.word() as u16;
-    let step = if random.one_in(8) { 0 } else { 2 * random.below(30_000) as u16 + 1 };
+    let step = 2 * random.below(30_000) as u16 + 1;
     let mut label = first;
     rules
         .iter()
@@ -71,6 +75,20 @@ fn labelled(random: &mut Random, rules: &[Numbers]) -> Vec<Rule> {
             Rule { kind, a: (sign * a) as i16, b: (sign * b) as i16, c: (sign * c) as i32, label }
         })
         .collect()
+}
+
+/// A label typed twice: at neighbours, anywhere, or at every rule.
+fn repeat_label(random: &mut Random, rules: &mut [Rule]) {
+    if rules.len() < 2 {
+        return;
+    }
+    let from = random.below(rules.len());
+    let label = rules[from].label;
+    match random.below(4) {
+        0 => rules.iter_mut().for_each(|r| r.label = label),
+        1 => rules[(from + 1) % rules.len()].label = label,
+        _ => rules[random.below(rules.len())].label = label,
+    }
 }
 
 /// Small, zero, extreme, or tied with a rule.

@@ -7,6 +7,7 @@ use crate::exact::Line;
 pub struct Entry {
     pub line: Line,
     pub record: usize,
+    pub label: [u8; 2],
 }
 
 /// An accepted book: the objective and the rules in chain order.
@@ -66,7 +67,11 @@ fn follow(book: &[u8]) -> Result<Vec<Entry>, Refused> {
             return Err(Refused { number: 7, record: holder });
         }
         let line = rule(&book[12 * link..12 * link + 12]).map_err(|number| Refused { number, record: link })?;
-        rules.push(Entry { line, record: link });
+        let label = [book[12 * link + 6], book[12 * link + 7]];
+        if rules.iter().any(|r| r.label == label) {
+            return Err(Refused { number: 12, record: link });
+        }
+        rules.push(Entry { line, record: link, label });
         holder = link;
     }
 }

@@ -70,15 +70,30 @@ const BYTES: &[(&str, &str, &str)] = &[
     ("6: the first link", "010100000000000000000000", "refused 6 0"),
     ("6: a rule's link", "010100000000010000000000 020100000000000000000000", "refused 6 1"),
     ("7: a record leads to itself", "010100000000010000000000 010100000000000000000000", "refused 7 1"),
-    ("7: round", "020100000000020000000000 020100000000000000000000 010100000000000000000000", "refused 7 1"),
+    ("7: round", "020100000000020000000000 020100000000010000000000 010100000000000000000000", "refused 7 1"),
     ("10 before 7 in one record", "010100000000010000000000 01010000000000000000ff7f", "refused 10 1"),
+    ("12: neighbours", "010100000000020000000000 020100000000070000000000 000100000000070000000000", "refused 12 2"),
+    ("12: the later has the lower index", "020100000000020000000000 000100000000070000000000 010100000000070000000000", "refused 12 1"),
+    ("12: label 0 is a label", "010100000000020000000000 020100000000000000000000 000100000000000000000000", "refused 12 2"),
+    (
+        "12: with another between",
+        "030100000000030000000000 0001000000000a0b00000000 010100000000000b00000000 0201000000000a0b00000000",
+        "refused 12 1",
+    ),
+    ("12: half a label is none", "010100000000020000000000 020100000000070000000000 000100000000070100000000", "best 0 0 1 0 0"),
+    ("12: before the 6 of its link", "010100000000020000000000 020100000000070000000000 090100000000070000000000", "refused 12 2"),
+    ("12: before the 7 of its link", "020100000000020000000000 020100000000000000000000 010100000000000000000000", "refused 12 1"),
+    ("12: after 8", "010100000000020000000000 020100000000070000000000 000300000000070000000000", "refused 8 2"),
+    ("12: after 9", "010100000000020000000000 020100000000070000000000 000100800000070000000000", "refused 9 2"),
+    ("12: after 10", "010100000000020000000000 020100000000070000000000 00010000000007000000ff7f", "refused 10 2"),
+    ("12: a spare record's label is free", "010100000000020000000000 000100000000070000000000 000100000000070000000000", "best 0 0 1 0 0"),
     ("spare records are not looked at", "000100000000010000000000 ffffffffffffffffffffffff", "best 0 0 1 0 0"),
 ];
 
 pub fn books() -> Vec<Stored> {
     let plain = BOOKS.iter().map(|&(name, (p, q), rules, line)| Stored { name, book: source(p, q, rules).packed(), line });
     let bytes = BYTES.iter().map(|&(name, hex, line)| Stored { name, book: from_hex(hex).unwrap(), line });
-    plain.chain(bytes).chain(longest()).collect()
+    plain.chain(bytes).chain(longest()).chain(far_apart()).collect()
 }
 
 /// The longest book, and one record more.
@@ -88,6 +103,19 @@ fn longest() -> [Stored; 2] {
     [
         Stored { name: "edge: 3,072 bytes", book, line: "best 0 2 1 1 0" },
         Stored { name: "edge: 3,084 bytes", book: longer, line: "refused 1 0" },
+    ]
+}
+
+/// The label of the first of 255 rules at the last, and at the last but one.
+fn far_apart() -> [Stored; 2] {
+    let repeated = |at: usize| {
+        let mut all = source(0, 0, &[(2, 1, 1, 2); 255]);
+        all.rules[at].label = all.rules[0].label;
+        all.packed()
+    };
+    [
+        Stored { name: "12: far apart", book: repeated(254), line: "refused 12 255" },
+        Stored { name: "12: far apart, another after it", book: repeated(253), line: "refused 12 254" },
     ]
 }
 

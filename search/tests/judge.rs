@@ -7,7 +7,7 @@ use search::random::Random;
 use search::read::read;
 
 fn source(p: i16, q: i16, rules: &[(u8, i16, i16, i32)]) -> Source {
-    let rules = rules.iter().map(|&(kind, a, b, c)| Rule { kind, a, b, c, label: 7 }).collect();
+    let rules = rules.iter().zip(7..).map(|(&(kind, a, b, c), label)| Rule { kind, a, b, c, label }).collect();
     Source { p, q, rules }
 }
 

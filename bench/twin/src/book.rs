@@ -27,6 +27,7 @@ pub fn read(book: &[u8], chain: &mut Chain) -> Result<(), (u8, u8)> {
     chain.p = short(book, 2);
     chain.q = short(book, 4);
     let mut seen = [false; 256];
+    let mut labels = [0u64; 1024];
     let mut at = 0;
     while book[12 * at] != 0 {
         let link = usize::from(book[12 * at]);
@@ -39,6 +40,11 @@ pub fn read(book: &[u8], chain: &mut Chain) -> Result<(), (u8, u8)> {
         seen[link] = true;
         at = link;
         chain.entries[chain.count] = decode(&book[12 * at..12 * at + 12]).map_err(|number| (number, at as u8))?;
+        let label = usize::from(u16::from_le_bytes([book[12 * at + 6], book[12 * at + 7]]));
+        if labels[label / 64] >> (label % 64) & 1 == 1 {
+            return Err((12, at as u8));
+        }
+        labels[label / 64] |= 1 << (label % 64);
         chain.records[chain.count] = at as u8;
         chain.count += 1;
     }

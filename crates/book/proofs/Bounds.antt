@@ -1,16 +1,16 @@
--- What holds of every accepted book: its chain has no more entries than the header counts, each of them a record after the header, none twice,
+-- What holds of every accepted book: its chain has no more entries than the header counts, each of them a record after the header, none twice, no label twice,
 -- and its numbers are within document 01's ranges.
 use Prim.Native.Nat.{ℕ, zero, suc, _-_, _≤_, _<_}
 use mathlib.Core.Path.{_≡_, refl, sym, ap, _∙_, subst, subst⁻¹}
-use mathlib.Core.Bool.{Bool, true, false, _||_}
+use mathlib.Core.Bool.{Bool, true, false}
 use mathlib.Core.List.{List, [], _∷_, _++_, map}
 use mathlib.Core.Logic.{_⊎_, inl, inr}
 use native.Mathlib.Omega.{arith}
 use native.Mathlib.Decide.{ℕ-discrete, decLt}
-use borrow.Author.Tests.{ltb-true, ltb-false, eq-eqb}
+use borrow.Author.Tests.{ltb-true, ltb-false}
 use lib.ListN.{length, getD, length-append, length-map, List·getD-append}
 use lib.Seq.{getD-at}
-use lib.Dec.{eqb, ltb, lt→ltb}
+use lib.Dec.{ltb, lt→ltb}
 use lib.IntN.{ℤ, pos, negsuc, natAbs}
 use lib.Signed.{_<ℤ_}
 use mir.Syntax.{w16}
@@ -18,10 +18,11 @@ use mir.Val.{toZ, sel}
 use Rattle.lp.specs.declared.Functional.{Functional}
 use Rattle.book.specs.Layout.{Layout}
 use Rattle.book.specs.Record.{recordAt, kindOf, aOf, bOf, ruleOf}
-use Rattle.book.specs.Reading.{accepted, Entry, objectiveOf, countOf, entryAt, memb, readOf}
+use Rattle.book.specs.Reading.{accepted, Entry, objectiveOf, countOf, entryAt, labelAt, readOf}
 use Rattle.book.specs.Answers.{indexIn}
 use Rattle.book.specs.Causes.{WrongKind, WrongSlope, WrongBound, p-lowest, q-lowest, neither, a-lowest, b-lowest, low, high, Walked, header, visit, Accepts}
 use Rattle.book.specs.Lawful.{LawfulObjective, LawfulRule}
+use Rattle.book.proofs.Members.{map-same, not-there, apart-snoc}
 use Rattle.book.proofs.Walking.{indices}
 use Rattle.book.proofs.Causes.{acceptance-means, walked-length, walked-count}
 
@@ -64,18 +65,8 @@ module _ (L : Layout) where
 
 -- ---- each record of the chain
 
-memb-at : (l : List ℕ) (k : ℕ) → k < length l → memb (getD l k 0) l ≡ true
-unfolding memb
-memb-at [] k h = absurd (let z : ⊥ = omega arith in z)
-memb-at (x ∷ l) zero h = rw (eq-eqb x x refl)
-memb-at (x ∷ l) (suc k) h = rw (memb-at l k (omega arith)) (or-true (eqb (getD l k 0) x))
-  where
-    or-true : (b : Bool) → b || true ≡ true
-    or-true true = refl
-    or-true false = refl
-
 -- a fact of every place of a list and of one more is a fact of every place of the longer list
-each-snoc : (P : ℕ → Type 0) (l : List ℕ) (i : ℕ) → ((k : ℕ) → k < length l → P (getD l k 0)) → P i → (k : ℕ) → k < length (l ++ (i ∷ [])) → P (getD (l ++ (i ∷ [])) k 0)
+pub each-snoc : (P : ℕ → Type 0) (l : List ℕ) (i : ℕ) → ((k : ℕ) → k < length l → P (getD l k 0)) → P i → (k : ℕ) → k < length (l ++ (i ∷ [])) → P (getD (l ++ (i ∷ [])) k 0)
 each-snoc P l i f p k h = go (decLt k (length l))
   where
     go : Dec (k < length l) → P (getD (l ++ (i ∷ [])) k 0)
@@ -87,38 +78,28 @@ each-snoc P l i f p k h = go (decLt k (length l))
 module _ (L : Layout) (s : List ℕ) where
   walked-within : {done : List ℕ} {at : ℕ} → Walked L s done at → (k : ℕ) → k < length done → (1 ≤ getD done k 0) × (getD done k 0 ≤ countOf L s)
   walked-within (header a b c d f) = λ k h. absurd (let z : ⊥ = omega arith in z)
-  walked-within (visit {done = done} w i e z h m ka kb kc) =
+  walked-within (visit {done = done} w i e z h m ka kb kc q) =
       each-snoc (λ j. (1 ≤ j) × (j ≤ countOf L s)) done i (walked-within w) (omega arith, h)
 
   walked-lawful : {done : List ℕ} {at : ℕ} → Walked L s done at → (k : ℕ) → k < length done → LawfulRule (ruleOf L (recordAt L s (getD done k 0)))
   walked-lawful (header a b c d f) = λ k h. absurd (let z : ⊥ = omega arith in z)
-  walked-lawful (visit {done = done} w i e z h m ka kb kc) =
+  walked-lawful (visit {done = done} w i e z h m ka kb kc q) =
       each-snoc (λ j. LawfulRule (ruleOf L (recordAt L s j))) done i (walked-lawful w) (lawful-rule L (recordAt L s i) ka kb kc)
 
   walked-distinct : {done : List ℕ} {at : ℕ} → Walked L s done at → (k : ℕ) → k < length done → (j : ℕ) → j < k → getD done j 0 ≡ getD done k 0 → ⊥
-  walked-distinct (header a b c d f) k l j g p = let z : ⊥ = omega arith in z
-  walked-distinct (visit {done = done} w i e z h m ka kb kc) k l j g p =
-      go (decLt k (length done)) (λ q r. walked-distinct w k q j g r)
-    where
-      earlier : j < length done
-      earlier = omega (arith, length-append done (i ∷ []))
+  walked-distinct (header a b c d f) = λ k l j g p. let z : ⊥ = omega arith in z
+  walked-distinct (visit {done = done} w i e z h m ka kb kc q) =
+      apart-snoc (λ n. n) done i (not-there (λ n. n) done i (rw (map-same done) m)) (walked-distinct w)
 
-      before : getD (done ++ (i ∷ [])) j 0 ≡ getD done j 0
-      before = List·getD-append done (i ∷ []) 0 j earlier
-
-      go : Dec (k < length done) → (k < length done → getD done j 0 ≡ getD done k 0 → ⊥) → ⊥
-      go (yes q) ih = ih q (sym before ∙ p ∙ List·getD-append done (i ∷ []) 0 k q)
-      go (no n) ih =
-          let end : length done ≡ k = omega (arith, length-append done (i ∷ [])) in
-          let same : getD done j 0 ≡ i = sym before ∙ p ∙ getD-at done i [] 0 k end in
-          let seen : memb i done ≡ true = subst (λ (x : ℕ). memb x done ≡ true) same (memb-at done j earlier) in
-          let y : _≡_ {A = ℕ} 0 1 = cc in
-          omega arith
+  pub walked-labels : {done : List ℕ} {at : ℕ} → Walked L s done at → (k : ℕ) → k < length done → (j : ℕ) → j < k → labelAt L s (getD done j 0) ≡ labelAt L s (getD done k 0) → ⊥
+  walked-labels (header a b c d f) = λ k l j g p. let z : ⊥ = omega arith in z
+  walked-labels (visit {done = done} w i e z h m ka kb kc q) =
+      apart-snoc (labelAt L s) done i (not-there (labelAt L s) done (labelAt L s i) q) (walked-labels w)
 
   walked-objective : {done : List ℕ} {at : ℕ} → Walked L s done at → LawfulObjective (objectiveOf L s)
   walked-objective (header a b c d f) =
       record { p = sixteen (aOf L (recordAt L s 0)) (λ e. d (p-lowest e)); q = sixteen (bOf L (recordAt L s 0)) (λ e. d (q-lowest e)) }
-  walked-objective (visit w i e z h m ka kb kc) = walked-objective w
+  walked-objective (visit w i e z h m ka kb kc q) = walked-objective w
 
   -- an accepted book
   module _ {o : Functional} {es : List Entry} (e : readOf L s ≡ accepted o es) where
@@ -154,6 +135,10 @@ module _ (L : Layout) (s : List ℕ) where
 
     pub index-distinct : (j k : ℕ) → j < k → k < length es → getD (map indexIn es) j 0 ≡ getD (map indexIn es) k 0 → ⊥
     index-distinct j k g h p = walked-distinct (meant .walked) k (omega (arith, counted)) j g (rw listed at p)
+
+    -- no label stands twice on the chain
+    pub label-distinct : (j k : ℕ) → j < k → k < length es → labelAt L s (getD (map indexIn es) j 0) ≡ labelAt L s (getD (map indexIn es) k 0) → ⊥
+    label-distinct j k g h p = walked-labels (meant .walked) k (omega (arith, counted)) j g (rw listed at p)
 
     pub entry-lawful : (k : ℕ) → k < length es → LawfulRule (ruleOf L (recordAt L s (getD (map indexIn es) k 0)))
     entry-lawful k h = rw listed (walked-lawful (meant .walked) k (omega (arith, counted)))

@@ -3,7 +3,7 @@
 use Prim.Native.Nat.{ℕ, zero, suc, _+_, _-_, _*_, _/_, _≤_, _<_}
 use mathlib.Core.Path.{_≡_, refl, sym, ap, _∙_, subst, ap₂}
 use mathlib.Core.Bool.{Bool, true, false, cond}
-use mathlib.Core.List.{List, [], _∷_, _++_}
+use mathlib.Core.List.{List, [], _∷_, _++_, map}
 use native.Mathlib.Omega.{arith}
 use native.Mathlib.Decide.{ℕ-discrete}
 use native.Mathlib.Nat.{div-le-of-le-mul, le-div-iff-mul-le, one-mul}
@@ -14,10 +14,10 @@ use Rattle.lp.specs.declared.Functional.{Functional}
 use Rattle.book.specs.declared.Decoded.the-variants.{Sound, Kind, Slope, Bound}
 use Rattle.book.specs.Layout.{Layout, width}
 use Rattle.book.specs.Record.{recordAt, linkOf, padOf, ruleOf, badKind, badSlope, badBound, checked, decodedOf, numberOf}
-use Rattle.book.specs.Reading.{refused, accepted, Entry, countOf, memb, headerFault, badLength, badVersion, badCount, badObjective, badTail, walk, readOf}
-use Rattle.book.specs.Causes.{WrongLength, WrongVersion, WrongCount, WrongObjective, WrongTail, WrongKind, WrongSlope, WrongBound, short, long, differs, Walked, header, visit, Reached, Applies, cause-1, cause-2, cause-3, cause-4, cause-5, cause-6, cause-7, cause-8, cause-9, cause-10, Accepts, Meets}
+use Rattle.book.specs.Reading.{refused, accepted, Entry, countOf, labelAt, memb, headerFault, badLength, badVersion, badCount, badObjective, badTail, walk, readOf}
+use Rattle.book.specs.Causes.{WrongLength, WrongVersion, WrongCount, WrongObjective, WrongTail, WrongKind, WrongSlope, WrongBound, short, long, differs, Walked, header, visit, Reached, Applies, cause-1, cause-2, cause-3, cause-4, cause-5, cause-6, cause-7, cause-8, cause-9, cause-10, cause-12, Accepts, Meets}
 use Rattle.book.proofs.Decided.{refutes, refuted, length-test, version-test, count-test, objective-test, tail-test, kind-test, slope-test, bound-test}
-use Rattle.book.proofs.Walking.{walk-ends, walk-over, walk-again, walk-fault, walk-on, Marked, marked-start, marked-step}
+use Rattle.book.proofs.Walking.{walk-ends, walk-over, walk-again, walk-fault, walk-repeat, walk-on, Marked, marked-start, marked-step}
 
 -- a value of Bool, with its equation
 by-test : (b : Bool) {X : Type 0} → (b ≡ true → X) → (b ≡ false → X) → X
@@ -148,13 +148,13 @@ module _ (L : Layout) (s : List ℕ) where
   -- the marks of the records visited
   walked-marks : {done : List ℕ} {at : ℕ} → Walked L s done at → (seen : List Bool) × Marked (countOf L s) done seen
   walked-marks (header a b c d f) = (true ∷ replicate (countOf L s) false, marked-start (countOf L s))
-  walked-marks (visit w i e z h m ka kb kc) =
+  walked-marks (visit w i e z h m ka kb kc q) =
       let rest = walked-marks w in
       (set (rest .0) i true, marked-step (rest .1) i (omega arith) h m)
 
   pub walked-count : {done : List ℕ} {at : ℕ} → Walked L s done at → countOf L s < L .records
   walked-count (header a b c d f) = count-below a c
-  walked-count (visit w i e z h m ka kb kc) = walked-count w
+  walked-count (visit w i e z h m ka kb kc q) = walked-count w
 
   pub walked-length : {done : List ℕ} {at : ℕ} → Walked L s done at → length done ≤ countOf L s
   walked-length w = omega (arith, walked-marks w .1 .counted)
@@ -167,12 +167,13 @@ module _ (L : Layout) (s : List ℕ) where
       (λ z. by-test (ltb (countOf L s) i) (over z)
       (λ b. by-test (memb i done) (again z b)
       (λ m. by-test (eqb (numberOf (decodedOf L (recordAt L s i))) 0)
-      (λ f.
+      (λ f. by-test (memb (labelAt L s i) (map (labelAt L s) done)) (repeated z b m f)
+      (λ q.
       let good = rule-good (recordAt L s i) (eqb-true (numberOf (decodedOf L (recordAt L s i))) 0 f) in
-      subst (Meets L s) (sym (walk-on L s links done at i refl (eqb-false i 0 z) (ltb-false (countOf L s) i b) m (eqb-true (numberOf (decodedOf L (recordAt L s i))) 0 f)))
+      subst (Meets L s) (sym (walk-on L s links done at i refl (eqb-false i 0 z) (ltb-false (countOf L s) i b) m (eqb-true (numberOf (decodedOf L (recordAt L s i))) 0 f) q))
       (walk-meets links (done ++ (i ∷ [])) i
-      (visit w i refl (eqb-false i 0 z) (ltb-false (countOf L s) i b) m (good .0) (good .1) (good .2))
-      (omega (arith, length-append done (i ∷ [])))))
+      (visit w i refl (eqb-false i 0 z) (ltb-false (countOf L s) i b) m (good .0) (good .1) (good .2) q)
+      (omega (arith, length-append done (i ∷ []))))))
       (fault z b m))))
     where
       i : ℕ
@@ -190,6 +191,12 @@ module _ (L : Layout) (s : List ℕ) where
       again : eqb i 0 ≡ false → ltb (countOf L s) i ≡ false → memb i done ≡ true → Meets L s (walk L s (suc links) done at)
       again z b m =
           subst (Meets L s) (sym (walk-again L s links done at i refl (eqb-false i 0 z) (ltb-false (countOf L s) i b) m)) (cause-7 w (eqb-false i 0 z) (ltb-false (countOf L s) i b) m)
+
+      repeated : eqb i 0 ≡ false → ltb (countOf L s) i ≡ false → memb i done ≡ false → eqb (numberOf (decodedOf L (recordAt L s i))) 0 ≡ true → memb (labelAt L s i) (map (labelAt L s) done) ≡ true → Meets L s (walk L s (suc links) done at)
+      repeated z b m f q =
+          let good = rule-good (recordAt L s i) (eqb-true (numberOf (decodedOf L (recordAt L s i))) 0 f) in
+          subst (Meets L s) (sym (walk-repeat L s links done at i refl (eqb-false i 0 z) (ltb-false (countOf L s) i b) m (eqb-true (numberOf (decodedOf L (recordAt L s i))) 0 f) q))
+          (cause-12 (record { done = done; at = at; walked = w; link = refl; some = eqb-false i 0 z; within = ltb-false (countOf L s) i b; new = m }) (good .0) (good .1) (good .2) q)
 
       fault : eqb i 0 ≡ false → ltb (countOf L s) i ≡ false → memb i done ≡ false → eqb (numberOf (decodedOf L (recordAt L s i))) 0 ≡ false → Meets L s (walk L s (suc links) done at)
       fault z b m f =
@@ -234,9 +241,9 @@ module _ (L : Layout) (s : List ℕ) where
 
   walked-reads : {done : List ℕ} {at : ℕ} → Walked L s done at → readOf L s ≡ walk L s (L .records - length done) done at
   walked-reads (header a b c d f) = reads-clear (header-clear a b c d f) ∙ ap (λ n. walk L s n [] 0) (omega arith)
-  walked-reads (visit {done = done} {at = at} w i e z h m ka kb kc) =
+  walked-reads (visit {done = done} {at = at} w i e z h m ka kb kc q) =
       let left : L .records - length done ≡ suc (L .records - length (done ++ (i ∷ []))) = omega (arith, walked-length w, walked-count w, length-append done (i ∷ [])) in
-      walked-reads w ∙ ap (λ n. walk L s n done at) left ∙ walk-on L s _ done at i e z h m (rule-clear (recordAt L s i) ka kb kc)
+      walked-reads w ∙ ap (λ n. walk L s n done at) left ∙ walk-on L s _ done at i e z h m (rule-clear (recordAt L s i) ka kb kc) q
 
   -- the same, with a link to follow
   walked-next : {done : List ℕ} {at : ℕ} → Walked L s done at → readOf L s ≡ walk L s (suc (L .records - suc (length done))) done at
@@ -266,6 +273,9 @@ module _ (L : Layout) (s : List ℕ) where
   applies-refused (cause-8 {i = i} r a) = reached-refused r 7 (rule-8 (recordAt L s i) a)
   applies-refused (cause-9 {i = i} r a b) = reached-refused r 8 (rule-9 (recordAt L s i) a b)
   applies-refused (cause-10 {i = i} r a b c) = reached-refused r 9 (rule-10 (recordAt L s i) a b c)
+  applies-refused (cause-12 {i = i} r a b c q) =
+      walked-next (r .walked)
+      ∙ walk-repeat L s _ (r .done) (r .at) i (r .link) (r .some) (r .within) (r .new) (rule-clear (recordAt L s i) a b c) q
 
   -- where the chain ends with no cause on the way, the book is accepted
   pub accepts-accepted : {o : Functional} {es : List Entry} → Accepts L s o es → readOf L s ≡ accepted o es
@@ -278,15 +288,16 @@ module _ (L : Layout) (s : List ℕ) where
   pub accepted-no-cause : {o : Functional} {es : List Entry} → readOf L s ≡ accepted o es → {k i : ℕ} → Applies L s k i → ⊥
   accepted-no-cause e a = let p = applies-refused a in let z : _≡_ {A = ℕ} 0 1 = cc in omega arith
 
--- the table's numbers
-pub cause-number : {L : Layout} {s : List ℕ} {k i : ℕ} → Applies L s k i → (1 ≤ k) × (k ≤ 10)
-cause-number (cause-1 a) = (lit≤ tt, lit≤ tt)
-cause-number (cause-2 a b) = (lit≤ tt, lit≤ tt)
-cause-number (cause-3 a b c) = (lit≤ tt, lit≤ tt)
-cause-number (cause-4 a b c d) = (lit≤ tt, lit≤ tt)
-cause-number (cause-5 a b c d f) = (lit≤ tt, lit≤ tt)
-cause-number (cause-6 w h) = (lit≤ tt, lit≤ tt)
-cause-number (cause-7 w z h m) = (lit≤ tt, lit≤ tt)
-cause-number (cause-8 r a) = (lit≤ tt, lit≤ tt)
-cause-number (cause-9 r a b) = (lit≤ tt, lit≤ tt)
-cause-number (cause-10 r a b c) = (lit≤ tt, lit≤ tt)
+-- none of the table's numbers is 0, and 11 is the repacker's alone
+pub cause-number : {L : Layout} {s : List ℕ} {k i : ℕ} → Applies L s k i → (1 ≤ k) × (k ≡ 11 → ⊥)
+cause-number (cause-1 a) = (lit≤ tt, λ e. omega arith)
+cause-number (cause-2 a b) = (lit≤ tt, λ e. omega arith)
+cause-number (cause-3 a b c) = (lit≤ tt, λ e. omega arith)
+cause-number (cause-4 a b c d) = (lit≤ tt, λ e. omega arith)
+cause-number (cause-5 a b c d f) = (lit≤ tt, λ e. omega arith)
+cause-number (cause-6 w h) = (lit≤ tt, λ e. omega arith)
+cause-number (cause-7 w z h m) = (lit≤ tt, λ e. omega arith)
+cause-number (cause-8 r a) = (lit≤ tt, λ e. omega arith)
+cause-number (cause-9 r a b) = (lit≤ tt, λ e. omega arith)
+cause-number (cause-10 r a b c) = (lit≤ tt, λ e. omega arith)
+cause-number (cause-12 r a b c q) = (lit≤ tt, λ e. omega arith)

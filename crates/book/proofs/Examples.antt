@@ -29,3 +29,18 @@ c-beyond = refl
 pub a-lowest : readOf v1 (1 ∷ 1 ∷ 1 ∷ 0 ∷ 1 ∷ 0 ∷ 1 ∷ 0 ∷ 0 ∷ 0 ∷ 0 ∷ 0 ∷ 0 ∷ 1 ∷ 0 ∷ 128 ∷ 1 ∷ 0 ∷ 0 ∷ 0 ∷ 1 ∷ 0 ∷ 0 ∷ 0 ∷ []) ≡ refused 9 1
 unfolding number recordAt checked decodedOf headerFault memb follow walk readOf
 a-lowest = refl
+
+-- the label of record 2, the first of the chain, again at record 1, whose own link is above the count; the spare record 3 has it too
+pub label-again : readOf v1 (2 ∷ 1 ∷ 1 ∷ 0 ∷ 1 ∷ 0 ∷ 3 ∷ 0 ∷ 0 ∷ 0 ∷ 0 ∷ 0 ∷ 9 ∷ 1 ∷ 1 ∷ 0 ∷ 1 ∷ 0 ∷ 7 ∷ 0 ∷ 1 ∷ 0 ∷ 0 ∷ 0 ∷ 1 ∷ 1 ∷ 1 ∷ 0 ∷ 1 ∷ 0 ∷ 7 ∷ 0 ∷ 2 ∷ 0 ∷ 0 ∷ 0 ∷ 0 ∷ 1 ∷ 1 ∷ 0 ∷ 1 ∷ 0 ∷ 7 ∷ 0 ∷ 2 ∷ 0 ∷ 0 ∷ 0 ∷ []) ≡ refused 12 1
+unfolding number recordAt checked decodedOf headerFault memb follow walk readOf
+label-again = refl
+
+-- 10 comes before 12 of the same record
+pub bound-before-label : readOf v1 (1 ∷ 1 ∷ 1 ∷ 0 ∷ 1 ∷ 0 ∷ 2 ∷ 0 ∷ 0 ∷ 0 ∷ 0 ∷ 0 ∷ 2 ∷ 1 ∷ 1 ∷ 0 ∷ 1 ∷ 0 ∷ 7 ∷ 0 ∷ 1 ∷ 0 ∷ 0 ∷ 0 ∷ 9 ∷ 1 ∷ 1 ∷ 0 ∷ 1 ∷ 0 ∷ 7 ∷ 0 ∷ bytesOf 4 1000000001) ≡ refused 10 2
+unfolding number bytesOf recordAt checked decodedOf headerFault memb follow walk readOf
+bound-before-label = refl
+
+-- a spare record's label is free
+pub spare-label : readOf v1 (1 ∷ 1 ∷ 1 ∷ 0 ∷ 1 ∷ 0 ∷ 2 ∷ 0 ∷ 0 ∷ 0 ∷ 0 ∷ 0 ∷ 0 ∷ 1 ∷ 1 ∷ 0 ∷ 1 ∷ 0 ∷ 7 ∷ 0 ∷ 8 ∷ 0 ∷ 0 ∷ 0 ∷ 0 ∷ 1 ∷ 1 ∷ 0 ∷ 1 ∷ 0 ∷ 7 ∷ 0 ∷ 1 ∷ 0 ∷ 0 ∷ 0 ∷ []) ≡ accepted (record { p = pos 1; q = pos 1 }) (record { index = 1; rule = record { kind = 1; a = pos 1; b = pos 1; c = pos 8; label = 7 } } ∷ [])
+unfolding number recordAt checked decodedOf headerFault memb follow walk readOf
+spare-label = refl

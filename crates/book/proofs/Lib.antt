@@ -3,6 +3,9 @@ pub mod Numbers
 pub mod Checks
 pub mod Fields
 pub mod HeaderTests
+pub mod LabelSize
+pub mod Members
+pub mod LabelTable
 pub mod Walking
 pub mod Decided
 pub mod Causes
@@ -10,6 +13,7 @@ pub mod Packed
 pub mod Output
 pub mod Spare
 pub mod Bounds
+pub mod OneLabel
 pub mod Readback
 pub mod RepackLaws
 pub mod Planned

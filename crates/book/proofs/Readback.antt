@@ -22,12 +22,12 @@ use Rattle.book.specs.declared.Rule.{Rule}
 use Rattle.book.specs.Layout.{Layout, width, Usable}
 use Rattle.book.specs.Number.{number, bytesOf}
 use Rattle.book.specs.Record.{recordAt, linkOf, kindOf, padOf, aOf, bOf, labelOf, cOf, ruleOf}
-use Rattle.book.specs.Reading.{Entry, objectiveOf, countOf, entryAt, memb, readOf, accepted}
+use Rattle.book.specs.Reading.{Entry, objectiveOf, countOf, entryAt, labelAt, memb, readOf, accepted}
 use Rattle.book.specs.Repacking.{recordBytes, headerBytes, ruleBytes, nextOf, chainBytes, bookOf, numbered, ruleIn}
 use Rattle.book.specs.Causes.{WrongLength, WrongVersion, WrongCount, WrongObjective, WrongTail, WrongKind, WrongSlope, WrongBound, short, long, uneven, other, differs, p-lowest, q-lowest, set, neither, a-lowest, b-lowest, low, high, Walked, header, visit}
 use Rattle.book.specs.Lawful.{LawfulObjective, LawfulRule}
 use Rattle.book.proofs.Packed.{length-bytesOf, length-recordBytes, length-bookOf, chain-record, next-is}
-use Rattle.book.proofs.Walking.{memb-snoc}
+use Rattle.book.proofs.Members.{memb-snoc, absent}
 use Rattle.book.proofs.Causes.{accepts-accepted}
 
 -- ---- a record's fields
@@ -208,7 +208,7 @@ numbered-rules k (r ∷ rs) = ap (λ l. r ∷ l) (numbered-rules (suc k) rs)
 
 -- ---- the book
 
-module _ (L : Layout) (u : Usable L) (o : Functional) (rs : List Rule) (room : length rs < L .records) (goal : LawfulObjective o) (lawful : (j : ℕ) (d : Rule) → j < length rs → LawfulRule (getD rs j d) × (getD rs j d .label < 65536)) where
+module _ (L : Layout) (u : Usable L) (o : Functional) (rs : List Rule) (room : length rs < L .records) (goal : LawfulObjective o) (lawful : (j : ℕ) (d : Rule) → j < length rs → LawfulRule (getD rs j d) × (getD rs j d .label < 65536)) (apart : (j k : ℕ) (d : Rule) → j < k → k < length rs → getD rs j d .label ≡ getD rs k d .label → ⊥) where
   book : List ℕ
   book = bookOf L o rs
 
@@ -292,6 +292,19 @@ module _ (L : Layout) (u : Usable L) (o : Functional) (rs : List Rule) (room : l
   plain : Rule
   plain = record { kind = 0; a = pos 0; b = pos 0; c = pos 0; label = 0 }
 
+  label-is : (j : ℕ) → j < length rs → labelAt L book (suc j) ≡ getD rs j plain .label
+  label-is j h =
+      let good = lawful j plain h in
+      ap (λ (r : Rule). r .label) (ap (ruleOf L) (body j plain h) ∙ rule-back L _ (getD rs j plain) (good .0) (good .1))
+
+  label-new : (j : ℕ) → j < length rs → memb (labelAt L book (suc j)) (map (labelAt L book) (upTo j)) ≡ false
+  label-new j h = absent (labelAt L book) (upTo j) (labelAt L book (suc j)) go
+    where
+      go : (k : ℕ) → k < length (upTo j) → labelAt L book (getD (upTo j) k 0) ≡ labelAt L book (suc j) → ⊥
+      go k g e =
+          let l : k < j = rw (upTo-length j) at g in
+          apart k j plain l h (sym (ap (labelAt L book) (upTo-at j k l) ∙ label-is k (omega arith)) ∙ e ∙ label-is j h)
+
   walked : (j : ℕ) → j ≤ length rs → Walked L book (upTo j) j
   unfolding upTo
   walked zero h = header no-length no-version no-count no-objective no-tail
@@ -303,6 +316,7 @@ module _ (L : Layout) (u : Usable L) (o : Functional) (rs : List Rule) (room : l
       (λ w. rule-kind L (nextOf (suc j) (drop (suc j) rs)) (getD rs j plain) (good .0) (good .1) (subst (WrongKind L) r w))
       (λ w. rule-slope L (nextOf (suc j) (drop (suc j) rs)) (getD rs j plain) (good .0) (good .1) (subst (WrongSlope L) r w))
       (λ w. rule-bound L (nextOf (suc j) (drop (suc j) rs)) (getD rs j plain) (good .0) (good .1) (subst (WrongBound L) r w))
+      (label-new j h)
 
   entries : numbered 1 rs ≡ map (entryAt L book) (upTo (length rs))
   entries =

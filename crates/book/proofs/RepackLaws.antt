@@ -5,48 +5,27 @@ use mathlib.Core.Path.{_≡_, refl, sym, ap, _∙_}
 use mathlib.Core.Bool.{Bool, true, false, cond}
 use mathlib.Core.List.{List, [], _∷_, map}
 use native.Mathlib.Omega.{arith}
-use native.Mathlib.Decide.{decLt}
 use borrow.Author.Tests.{lt-ltb, le-ltb, ltb-false, ltb-true}
-use lib.ListN.{length, take, drop, getD, length-map, List·getD-eq-default, length-take}
-use lib.Seq.{getD-take, getD-drop}
+use lib.ListN.{length, getD, length-map}
 use lib.Dec.{ltb, lit≤, lit<}
 use Rattle.lp.specs.declared.Functional.{Functional}
 use Rattle.book.specs.declared.Rule.{Rule}
-use Rattle.book.specs.Layout.{Layout, width, atLabel, v1, Usable}
-use Rattle.book.specs.Number.{number, Bytes}
+use Rattle.book.specs.Layout.{Layout, width, v1, Usable}
+use Rattle.book.specs.Number.{Bytes}
 use Rattle.book.specs.Record.{recordAt, ruleOf}
 use Rattle.book.specs.Reading.{Reading, refused, accepted, Entry, readOf}
 use Rattle.book.specs.Repacking.{bookOf, declined, packed, ruleIn, numbered, packOf, repackOf, ReadAlike}
 use Rattle.book.specs.Answers.{indexIn}
 use Rattle.book.specs.Lawful.{LawfulRule}
 use Rattle.book.proofs.Causes.{cause-number, refusal-applies}
-use Rattle.book.proofs.Numbers.{two-bytes}
-use Rattle.book.proofs.Bounds.{chain-count, count-room, lawful-objective, accepted-entries, entry-lawful}
+use Rattle.book.proofs.LabelSize.{label-small}
+use Rattle.book.proofs.Bounds.{chain-count, count-room, lawful-objective, accepted-entries, entry-lawful, label-distinct}
 use Rattle.book.proofs.Output.{rules-of}
 use Rattle.book.proofs.Readback.{book-reads, numbered-rules, numbered-length}
 use Rattle.book.proofs.Packed.{length-bookOf}
 
 pub usable-v1 : Usable v1
 usable-v1 = record { links = lit≤ tt; counts = lit≤ tt; versions = lit< tt }
-
--- ---- labels are sixteen bits
-
-bytes-drop : (n : ℕ) (s : List ℕ) → Bytes s → Bytes (drop n s)
-bytes-drop n s b i = rw (getD-drop n s i 0) (b (n + i))
-
-bytes-take : (n : ℕ) (s : List ℕ) → Bytes s → Bytes (take n s)
-bytes-take n s b i = go (decLt i n)
-  where
-    go : Dec (i < n) → getD (take n s) i 0 < 256
-    go (yes h) = rw (getD-take n s i 0 h) (b i)
-    go (no h) = rw (List·getD-eq-default (take n s) 0 {n = i} (omega (arith, length-take n s))) (lit< tt)
-
-two-small : (s : List ℕ) → Bytes s → number 2 s < 65536
-two-small s b = omega (arith, two-bytes s 0, b 0, b 1)
-
-label-small : (L : Layout) (s : List ℕ) → Bytes s → (i : ℕ) → ruleOf L (recordAt L s i) .label < 65536
-unfolding recordAt
-label-small L s b i = two-small (drop (atLabel L) (take (width L) (drop (i * width L) s))) (bytes-drop (atLabel L) (take (width L) (drop (i * width L) s)) (bytes-take (width L) (drop (i * width L) s) (bytes-drop (i * width L) s b)))
 
 -- ---- from a book to its repacked form
 
@@ -67,11 +46,16 @@ module _ (L : Layout) (u : Usable L) (s : List ℕ) (b : Bytes s) {o : Functiona
       let k : j < length es = rw length-map at h in
       rw (at-place j d h) (entry-lawful L s e j k, label-small L s b (getD (map indexIn es) j 0))
 
+  all-apart : (j k : ℕ) (d : Rule) → j < k → k < length (map ruleIn es) → getD (map ruleIn es) j d .label ≡ getD (map ruleIn es) k d .label → ⊥
+  all-apart j k d g h p =
+      label-distinct L s e j k g (rw length-map at h)
+      (sym (ap (λ (r : Rule). r .label) (at-place j d (omega arith))) ∙ p ∙ ap (λ (r : Rule). r .label) (at-place k d h))
+
   -- the repacked form is accepted, with the same objective and the same rules, labels and kinds in the same order
   pub packed-reads : readOf L (bookOf L o (map ruleIn es)) ≡ accepted o (numbered 1 (map ruleIn es))
   packed-reads =
       let room : length (map ruleIn es) < L .records = omega (arith, length-map es ruleIn, chain-count L s e, count-room L s e) in
-      book-reads L u o (map ruleIn es) room (lawful-objective L s e) all-lawful
+      book-reads L u o (map ruleIn es) room (lawful-objective L s e) all-lawful all-apart
 
 -- ---- what repacking says
 
@@ -150,7 +134,7 @@ module _ (L : Layout) (s : List ℕ) (room : ℕ) where
   eleven-last {i} e = go (readOf L s) refl e
     where
       go : (x : Reading) → readOf L s ≡ x → packOf L x room ≡ declined 11 i → Crowded L (readOf L s) room
-      go (refused k j) p e = absurd (let t = cause-number (refusal-applies L s p) in let n : k ≡ 11 = cc in let z : ⊥ = omega arith in z)
+      go (refused k j) p e = absurd (cause-number (refusal-applies L s p) .1 cc)
       go (accepted o es) p e = pick (ltb room (width L * (length es + 1))) refl e
         where
           pick : (t : Bool) → ltb room (width L * (length es + 1)) ≡ t → cond t (declined 11 0) (packed (bookOf L o (map ruleIn es))) ≡ declined 11 i → Crowded L (readOf L s) room

@@ -1,19 +1,20 @@
 -- What the reader says, in document 01's words: a number that it says is that of the first cause that applies, with the record that the table names; and
 -- where it says none, no cause applies and the records it gives are the chain.
 use Prim.Native.Nat.{ℕ, _-_, _<_}
-use mathlib.Core.Path.{_≡_, refl, ap, _∙_}
+use mathlib.Core.Path.{_≡_, refl, sym, ap, _∙_}
 use mathlib.Core.List.{List, [], _∷_, map}
+use native.Mathlib.Omega.{arith}
 use lib.ListN.{length, getD, replicate, length-map, List·getD-append}
 use Rattle.book.specs.declared.Chain.{Chain}
 use Rattle.book.specs.Layout.{v1}
 use Rattle.book.specs.Record.{recordAt, ruleOf}
-use Rattle.book.specs.Reading.{entryAt, objectiveOf, readOf}
+use Rattle.book.specs.Reading.{entryAt, labelAt, objectiveOf, readOf}
 use Rattle.book.specs.Answers.{Reads, chainOf, constraintOf, constraintsIn}
 use Rattle.book.specs.Lawful.{LawfulObjective, LawfulRule, LawfulConstraint}
 use Rattle.book.specs.Causes.{Applies}
 use Rattle.book.proofs.Causes.{refusal-applies, applies-refused, accepted-no-cause}
 use Rattle.book.proofs.Walking.{indices}
-use Rattle.book.proofs.Bounds.{entry-lawful, lawful-objective}
+use Rattle.book.proofs.Bounds.{entry-lawful, label-distinct, lawful-objective}
 use Rattle.book.proofs.Planned.{planned-lawful}
 use Rattle.book.proofs.Output.{Chained, chain-refused, chain-accepted}
 
@@ -57,6 +58,14 @@ module _ (s : List ℕ) (ch : Chain) (c : Chained s ch) where
       let es = map (entryAt v1 s) (c .done) in
       let long : k < length es = rw (length-map, ← c .count) h in
       rw (record-at-place k h) (rw (indices v1 s (c .done)) at (entry-lawful v1 s (c .reads) k long))
+
+  -- no two of them have one label
+  pub labels-apart : (j k : ℕ) → j < k → k < ch .n → labelAt v1 s (getD (ch .records) j 0) ≡ labelAt v1 s (getD (ch .records) k 0) → ⊥
+  labels-apart j k g h p =
+      let es = map (entryAt v1 s) (c .done) in
+      let long : k < length es = rw (length-map, ← c .count) h in
+      label-distinct v1 s (c .reads) j k g long
+      (rw (indices v1 s (c .done)) (ap (labelAt v1 s) (sym (record-at-place j (omega arith))) ∙ p ∙ ap (labelAt v1 s) (record-at-place k h)))
 
   pub planned-at-place : (k : ℕ) → k < ch .n → LawfulConstraint (constraintOf (ruleOf v1 (recordAt v1 s (getD (ch .records) k 0))))
   planned-at-place k h = planned-lawful (ruleOf v1 (recordAt v1 s (getD (ch .records) k 0))) (rule-at-place k h)

@@ -5,13 +5,17 @@ use mathlib.Core.List.{List, [], _∷_, _++_, map}
 use lib.ListN.{length}
 use Rattle.book.specs.Layout.{Layout}
 use Rattle.book.specs.Record.{recordAt, linkOf, ruleOf}
-use Rattle.book.specs.Reading.{Reading, Entry, entryAt, headerFault, follow, walk, readOf}
+use Rattle.book.specs.Reading.{Reading, Entry, entryAt, labelAt, headerFault, follow, walk, readOf}
 use Rattle.book.specs.Spare.{OnChain, header, link}
 use Rattle.book.proofs.Walking.{walk-once}
 
 map-snoc : (f : ℕ → Entry) (l : List ℕ) (i : ℕ) → map f (l ++ (i ∷ [])) ≡ map f l ++ (f i ∷ [])
 map-snoc f [] i = refl
 map-snoc f (x ∷ l) i = ap (λ r. f x ∷ r) (map-snoc f l i)
+
+labels-in : (L : Layout) (s done : List ℕ) → map (λ (e : Entry). e .rule .label) (map (entryAt L s) done) ≡ map (labelAt L s) done
+labels-in L s [] = refl
+labels-in L s (i ∷ done) = ap (λ l. labelAt L s i ∷ l) (labels-in L s done)
 
 module _ (L : Layout) (s t : List ℕ) (long : length s ≡ length t) (agree : (i : ℕ) → OnChain L s i → recordAt L s i ≡ recordAt L t i) where
   same-fault : headerFault L s ≡ headerFault L t
@@ -20,7 +24,11 @@ module _ (L : Layout) (s t : List ℕ) (long : length s ≡ length t) (agree : (
 
   same-follow : (done : List ℕ) (at i : ℕ) (x y : Reading) → OnChain L s i → map (entryAt L s) done ≡ map (entryAt L t) done → x ≡ y → follow L s done at i x ≡ follow L t done at i y
   unfolding follow
-  same-follow done at i x y c m p = let r = agree 0 header in let q = agree i c in rw (r, q, m, p)
+  same-follow done at i x y c m p =
+      let r = agree 0 header in
+      let q = agree i c in
+      let l : map (labelAt L s) done ≡ map (labelAt L t) done = sym (labels-in L s done) ∙ ap (map (λ (e : Entry). e .rule .label)) m ∙ labels-in L t done in
+      rw (r, q, m, l, p)
 
   same-walk : (links : ℕ) (done : List ℕ) (at : ℕ) → OnChain L s at → map (entryAt L s) done ≡ map (entryAt L t) done → walk L s links done at ≡ walk L t links done at
   unfolding walk

@@ -1,8 +1,8 @@
 -- The walk along the links, a link at a time, and the marks of the records visited. A mark is set for each record visited, and none is set twice:
 -- so the marks that are left count down, and the walk ends.
 use Prim.Native.Nat.{ℕ, zero, suc, _+_, _-_, _≤_, _<_}
-use mathlib.Core.Path.{_≡_, refl, sym, ap, _∙_, subst⁻¹}
-use mathlib.Core.Bool.{Bool, true, false, _||_}
+use mathlib.Core.Path.{_≡_, refl, sym, ap, _∙_, subst, subst⁻¹}
+use mathlib.Core.Bool.{Bool, true, false}
 use mathlib.Core.List.{List, [], _∷_, _++_, map, append-assoc}
 use native.Mathlib.Omega.{arith}
 use native.Mathlib.Nat.{le-of-suc-le-suc}
@@ -13,25 +13,13 @@ use lib.Seq.{getD-set-same, getD-set-other, set-at}
 use lib.Dec.{eqb}
 use Rattle.book.specs.Layout.{Layout, v1}
 use Rattle.book.specs.Record.{recordAt, linkOf, decodedOf, numberOf}
-use Rattle.book.specs.Reading.{refused, accepted, objectiveOf, countOf, entryAt, memb, follow, walk}
+use Rattle.book.specs.Reading.{refused, accepted, objectiveOf, countOf, entryAt, labelAt, memb, follow, walk}
 use Rattle.lp.specs.declared.Functional.{Functional}
 use Rattle.book.specs.declared.Chain.{Chain}
 use Rattle.book.specs.Answers.{padded, chainOf, indexIn}
-
--- ---- membership
-
-or-false : (b : Bool) → b || false ≡ b
-or-false true = refl
-or-false false = refl
-
-or-assoc : (a b c : Bool) → (a || b) || c ≡ a || (b || c)
-or-assoc true b c = refl
-or-assoc false b c = refl
-
-pub memb-snoc : (i j : ℕ) (l : List ℕ) → memb i (l ++ (j ∷ [])) ≡ memb i l || eqb i j
-unfolding memb
-memb-snoc i j [] = or-false (eqb i j)
-memb-snoc i j (x ∷ l) = ap (λ b. eqb i x || b) (memb-snoc i j l) ∙ sym (or-assoc (eqb i x) (memb i l) (eqb i j))
+use Rattle.book.specs.Labels.{isNoted, noting, Unnoted}
+use Rattle.book.proofs.Members.{or-false, memb-snoc, map-snoc}
+use Rattle.book.proofs.LabelTable.{Noted, noted-start, noted-new, noted-step}
 
 -- ---- a link of the walk: document 01's tests, one by one
 
@@ -61,10 +49,16 @@ module _ (L : Layout) (s : List ℕ) (links : ℕ) (done : List ℕ) (at i : ℕ
         walk-fault f =
             walk-once ∙ rw (ne-eqb i 0 z, le-ltb (countOf L s) i h, m, ne-eqb (numberOf (decodedOf L (recordAt L s i))) 0 f)
 
-        pub walk-on : numberOf (decodedOf L (recordAt L s i)) ≡ 0 → walk L s (suc links) done at ≡ walk L s links (done ++ (i ∷ [])) i
-        unfolding follow
-        walk-on f =
-            walk-once ∙ rw (ne-eqb i 0 z, le-ltb (countOf L s) i h, m, eq-eqb (numberOf (decodedOf L (recordAt L s i))) 0 f)
+        module _ (f : numberOf (decodedOf L (recordAt L s i)) ≡ 0) where
+          pub walk-repeat : memb (labelAt L s i) (map (labelAt L s) done) ≡ true → walk L s (suc links) done at ≡ refused 12 i
+          unfolding follow
+          walk-repeat q =
+              walk-once ∙ rw (ne-eqb i 0 z, le-ltb (countOf L s) i h, m, eq-eqb (numberOf (decodedOf L (recordAt L s i))) 0 f, q)
+
+          pub walk-on : memb (labelAt L s i) (map (labelAt L s) done) ≡ false → walk L s (suc links) done at ≡ walk L s links (done ++ (i ∷ [])) i
+          unfolding follow
+          walk-on q =
+              walk-once ∙ rw (ne-eqb i 0 z, le-ltb (countOf L s) i h, m, eq-eqb (numberOf (decodedOf L (recordAt L s i))) 0 f, q)
 
 -- ---- the marks
 
@@ -131,17 +125,18 @@ module _ {m : ℕ} {done : List ℕ} {seen : List Bool} (marks : Marked m done s
 -- ---- the state of the walk in the code
 
 -- the first `done` of the chain are visited, record `at` is the last of them and holds `link`, and what is left to walk comes to what the whole does
-pub record Walking (s : List ℕ) (seen : List Bool) (records : List ℕ) (n at link : ℕ) : Type 0 where
+pub record Walking (s : List ℕ) (seen : List Bool) (labels records : List ℕ) (n at link : ℕ) : Type 0 where
   pub done : List ℕ
   pub marked : Marked 255 done seen
+  pub met : Noted labels (map (labelAt v1 s) done)
   pub kept : records ≡ padded done
   pub count : n ≡ length done
   pub held : link ≡ linkOf v1 (recordAt v1 s at)
   pub rest : walk v1 s (suc (255 - length done)) done at ≡ walk v1 s 256 [] 0
 
-pub walking-start : (s : List ℕ) (link : ℕ) {seen : List Bool} {records : List ℕ} → seen ≡ true ∷ replicate 255 false → records ≡ replicate 255 0 → link ≡ linkOf v1 (recordAt v1 s 0) → Walking s seen records 0 0 link
-walking-start s link m r e =
-    record { done = []; marked = subst⁻¹ (Marked 255 []) m (marked-start 255); kept = r; count = refl; held = e; rest = refl }
+pub walking-start : (s : List ℕ) (link : ℕ) {seen : List Bool} {labels records : List ℕ} → seen ≡ true ∷ replicate 255 false → labels ≡ replicate 1024 0 → records ≡ replicate 255 0 → link ≡ linkOf v1 (recordAt v1 s 0) → Walking s seen labels records 0 0 link
+walking-start s link m t r e =
+    record { done = []; marked = subst⁻¹ (Marked 255 []) m (marked-start 255); met = subst⁻¹ (λ (l : List ℕ). Noted l []) t noted-start; kept = r; count = refl; held = e; rest = refl }
 
 -- zeros give way to one more record
 padded-snoc : (l : List ℕ) (i : ℕ) → length l < 255 → set (padded l) (length l) i ≡ padded (l ++ (i ∷ []))
@@ -151,7 +146,7 @@ padded-snoc l i h =
     ∙ set-at l 0 (replicate (255 - length (l ++ (i ∷ []))) 0) i (length l) refl
     ∙ sym (append-assoc l (i ∷ []) (replicate (255 - length (l ++ (i ∷ []))) 0))
 
-module _ {s : List ℕ} {seen : List Bool} {records : List ℕ} {n at link : ℕ} (w : Walking s seen records n at link) where
+module _ {s : List ℕ} {seen : List Bool} {labels records : List ℕ} {n at link : ℕ} (w : Walking s seen labels records n at link) where
   pub walking-ends : link ≡ 0 → walk v1 s 256 [] 0 ≡ accepted (objectiveOf v1 s) (map (entryAt v1 s) (w .done))
   walking-ends z = sym (w .rest) ∙ walk-ends v1 s (255 - length (w .done)) (w .done) at link (w .held) z
 
@@ -172,31 +167,68 @@ module _ {s : List ℕ} {seen : List Bool} {records : List ℕ} {n at link : ℕ
         walking-fault f =
             sym (w .rest) ∙ walk-fault v1 s (255 - length (w .done)) (w .done) at link (w .held) z h (sym mark ∙ m) f
 
-        pub walking-room : n < 255
-        walking-room = rw (w .count) (marked-room (w .marked) link (omega arith) k (sym mark ∙ m))
+-- the walk has come to a sound record that was not visited, with this label and this link
+pub record Arrived (s : List ℕ) (seen : List Bool) (labels records : List ℕ) (n at link label next : ℕ) : Type 0 where
+  pub so-far : Walking s seen labels records n at link
+  pub some : link ≡ 0 → ⊥
+  pub within : link ≤ countOf v1 s
+  pub low : link ≤ 255
+  pub new : getD seen link false ≡ false
+  pub sound : numberOf (decodedOf v1 (recordAt v1 s link)) ≡ 0
+  pub label-held : label ≡ labelAt v1 s link
+  pub label-fits : label < 65536
+  pub link-held : next ≡ linkOf v1 (recordAt v1 s link)
 
-        pub walking-step : (next : ℕ) → numberOf (decodedOf v1 (recordAt v1 s link)) ≡ 0 → next ≡ linkOf v1 (recordAt v1 s link) → Walking s (set seen link true) (set records n link) (n + 1) link next
-        walking-step next f e =
-            let room : length (w .done) < 255 = rw (w .count) at walking-room in
-            let left : 255 - length (w .done) ≡ suc (255 - length (w .done ++ (link ∷ []))) = omega (arith, length-append (w .done) (link ∷ [])) in
-            record {
-              done = w .done ++ (link ∷ []);
-              marked = marked-step (w .marked) link (omega arith) k (sym mark ∙ m);
-              kept = rw (w .kept, w .count) (padded-snoc (w .done) link room);
-              count = rw (w .count) (sym (length-append (w .done) (link ∷ [])));
-              held = e;
-              rest =
-                  ap (λ l. walk v1 s l (w .done ++ (link ∷ [])) link) (sym left)
-                  ∙ sym (walk-on v1 s (255 - length (w .done)) (w .done) at link (w .held) z h (sym mark ∙ m) f)
-                  ∙ w .rest;
-            }
+module _ {s : List ℕ} {seen : List Bool} {labels records : List ℕ} {n at link label next : ℕ} (a : Arrived s seen labels records n at link label next) where
+  w : Walking s seen labels records n at link
+  w = a .so-far
+
+  unvisited : memb link (w .done) ≡ false
+  unvisited = sym (mark w (a .some) (a .within) (a .low)) ∙ a .new
+
+  met-before : memb (labelAt v1 s link) (map (labelAt v1 s) (w .done)) ≡ isNoted labels label
+  met-before = ap (λ l. memb l (map (labelAt v1 s) (w .done))) (sym (a .label-held)) ∙ sym (w .met .agrees label (a .label-fits))
+
+  pub arrived-repeat : isNoted labels label ≡ true → walk v1 s 256 [] 0 ≡ refused 12 link
+  arrived-repeat q =
+      sym (w .rest)
+      ∙ walk-repeat v1 s (255 - length (w .done)) (w .done) at link (w .held) (a .some) (a .within) unvisited (a .sound) (met-before ∙ q)
+
+  pub arrived-room : n < 255
+  arrived-room = rw (w .count) (marked-room (w .marked) link (omega (arith, a .some)) (a .low) unvisited)
+
+  module _ (q : isNoted labels label ≡ false) where
+    pub arrived-unnoted : Unnoted labels label
+    arrived-unnoted = noted-new (w .met) label (a .label-fits) q
+
+    listed : map (labelAt v1 s) (w .done) ++ (label ∷ []) ≡ map (labelAt v1 s) (w .done ++ (link ∷ []))
+    listed =
+        ap (λ l. map (labelAt v1 s) (w .done) ++ (l ∷ [])) (a .label-held)
+        ∙ sym (map-snoc (labelAt v1 s) (w .done) link)
+
+    pub arrived-step : {table : List ℕ} → table ≡ noting labels label → Walking s (set seen link true) table (set records n link) (n + 1) link next
+    arrived-step e =
+        let room : length (w .done) < 255 = omega (arith, w .count, arrived-room) in
+        let left : 255 - length (w .done) ≡ suc (255 - length (w .done ++ (link ∷ []))) = omega (arith, length-append (w .done) (link ∷ [])) in
+        record {
+          done = w .done ++ (link ∷ []);
+          marked = marked-step (w .marked) link (omega (arith, a .some)) (a .low) unvisited;
+          met = subst⁻¹ (λ (t : List ℕ). Noted t (map (labelAt v1 s) (w .done ++ (link ∷ [])))) e (subst (Noted (noting labels label)) listed (noted-step (w .met) label (a .label-fits) q));
+          kept = (λ j. set (w .kept j) (w .count j) link) ∙ padded-snoc (w .done) link room;
+          count = ap (λ m. m + 1) (w .count) ∙ sym (length-append (w .done) (link ∷ []));
+          held = a .link-held;
+          rest =
+              ap (λ l. walk v1 s l (w .done ++ (link ∷ [])) link) (sym left)
+              ∙ sym (walk-on v1 s (255 - length (w .done)) (w .done) at link (w .held) (a .some) (a .within) unvisited (a .sound) (met-before ∙ q))
+              ∙ w .rest;
+        }
 
 -- what the code hands back where the chain ends
 pub indices : (L : Layout) (s done : List ℕ) → map indexIn (map (entryAt L s) done) ≡ done
 indices L s [] = refl
 indices L s (i ∷ done) = ap (λ l. i ∷ l) (indices L s done)
 
-pub walked : {s : List ℕ} {seen : List Bool} {records : List ℕ} {n at link : ℕ} (w : Walking s seen records n at link) {goal : Functional} → link ≡ 0 → goal ≡ objectiveOf v1 s → _≡_ {A = Chain} (record { number = 0; at = 0; objective = goal; n = n; records = records }) (chainOf (walk v1 s 256 [] 0))
+pub walked : {s : List ℕ} {seen : List Bool} {labels records : List ℕ} {n at link : ℕ} (w : Walking s seen labels records n at link) {goal : Functional} → link ≡ 0 → goal ≡ objectiveOf v1 s → _≡_ {A = Chain} (record { number = 0; at = 0; objective = goal; n = n; records = records }) (chainOf (walk v1 s 256 [] 0))
 unfolding chainOf
 walked {s} w z g =
     let es = map (entryAt v1 s) (w .done) in

@@ -1,4 +1,4 @@
--- Document 01's table 'Turned back', row by row, as statements: what it means that a cause applies and none before it does. `readOf`
+-- Document 01's table 'Turned back' and 12 of document 02, row by row, as statements: what it means that a cause applies and none before it does. `readOf`
 -- computes a number and a record; that they are those said here, and that an accepted book has none, are theorems (`proofs/Causes.antt`).
 use Prim.Native.Nat.{ℕ, _-_, _*_, _/_, _%_, _≤_, _<_}
 use mathlib.Core.Path.{_≡_}
@@ -10,7 +10,7 @@ use lib.Signed.{_<ℤ_}
 use Rattle.lp.specs.declared.Functional.{Functional}
 use Rattle.book.specs.Layout.{Layout, width}
 use Rattle.book.specs.Record.{recordAt, linkOf, kindOf, padOf, cOf, ruleOf}
-use Rattle.book.specs.Reading.{Reading, refused, accepted, Entry, objectiveOf, countOf, entryAt, memb}
+use Rattle.book.specs.Reading.{Reading, refused, accepted, Entry, objectiveOf, countOf, entryAt, labelAt, memb}
 
 -- ---- the header: 1 to 5
 
@@ -52,7 +52,7 @@ pub data WrongBound (L : Layout) (r : List ℕ) : Type 0 where
 -- as far as it was walked with no cause on the way: the records visited, in order, and the one reached last (0 is the header)
 pub data Walked (L : Layout) (s : List ℕ) : List ℕ → ℕ → Type 0 where
   header : (WrongLength L s → ⊥) → (WrongVersion L s → ⊥) → (WrongCount L s → ⊥) → (WrongObjective L s → ⊥) → (WrongTail L s → ⊥) → Walked L s [] 0
-  visit : {done : List ℕ} {at : ℕ} → Walked L s done at → (i : ℕ) → i ≡ linkOf L (recordAt L s at) → (i ≡ 0 → ⊥) → i ≤ countOf L s → memb i done ≡ false → (WrongKind L (recordAt L s i) → ⊥) → (WrongSlope L (recordAt L s i) → ⊥) → (WrongBound L (recordAt L s i) → ⊥) → Walked L s (done ++ (i ∷ [])) i
+  visit : {done : List ℕ} {at : ℕ} → Walked L s done at → (i : ℕ) → i ≡ linkOf L (recordAt L s at) → (i ≡ 0 → ⊥) → i ≤ countOf L s → memb i done ≡ false → (WrongKind L (recordAt L s i) → ⊥) → (WrongSlope L (recordAt L s i) → ⊥) → (WrongBound L (recordAt L s i) → ⊥) → memb (labelAt L s i) (map (labelAt L s) done) ≡ false → Walked L s (done ++ (i ∷ [])) i
 
 -- a link leads from there to record i, not visited before
 pub record Reached (L : Layout) (s : List ℕ) (i : ℕ) : Type 0 where
@@ -76,6 +76,7 @@ pub data Applies (L : Layout) (s : List ℕ) : ℕ → ℕ → Type 0 where
   cause-8 : {i : ℕ} → Reached L s i → WrongKind L (recordAt L s i) → Applies L s 8 i
   cause-9 : {i : ℕ} → Reached L s i → (WrongKind L (recordAt L s i) → ⊥) → WrongSlope L (recordAt L s i) → Applies L s 9 i
   cause-10 : {i : ℕ} → Reached L s i → (WrongKind L (recordAt L s i) → ⊥) → (WrongSlope L (recordAt L s i) → ⊥) → WrongBound L (recordAt L s i) → Applies L s 10 i
+  cause-12 : {i : ℕ} → (r : Reached L s i) → (WrongKind L (recordAt L s i) → ⊥) → (WrongSlope L (recordAt L s i) → ⊥) → (WrongBound L (recordAt L s i) → ⊥) → memb (labelAt L s i) (map (labelAt L s) (r .done)) ≡ true → Applies L s 12 i
 
 -- the chain ends with no cause on the way
 pub record Accepts (L : Layout) (s : List ℕ) (o : Functional) (es : List Entry) : Type 0 where

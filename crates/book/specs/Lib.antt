@@ -5,6 +5,7 @@ pub mod Record
 pub mod Reading
 pub mod Repacking
 pub mod Answers
+pub mod Labels
 pub mod Causes
 pub mod Spare
 pub mod Lawful

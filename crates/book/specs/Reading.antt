@@ -1,5 +1,5 @@
 -- What a book reads as: refused, with document 01's number and record, or accepted, with the objective and the chain.
--- The causes are tested in document 01's order: 1 to 5 in the header; then, along the chain, 6 and 7 for a link and 8, 9, 10 for the record reached.
+-- The causes are tested in the documents' order: 1 to 5 in the header; then, along the chain, 6 and 7 for a link and 8, 9, 10 and 12 for the record reached.
 use Prim.Native.Nat.{ℕ, zero, suc, _-_, _*_, _/_, _%_}
 use mathlib.Core.Bool.{Bool, false, cond, not, _||_}
 use mathlib.Core.List.{List, [], _∷_, _++_, map}
@@ -31,6 +31,9 @@ module _ (L : Layout) (s : List ℕ) where
 
   abbrev pub entryAt : ℕ → Entry
   entryAt i = record { index = i; rule = ruleOf L (recordAt L s i) }
+
+  abbrev pub labelAt : ℕ → ℕ
+  labelAt i = labelOf L (recordAt L s i)
 
   -- causes 1 to 5
   abbrev pub badLength : Bool
@@ -64,7 +67,8 @@ module _ (L : Layout) (s : List ℕ) where
       cond (eqb i 0) (accepted (objectiveOf L s) (map (entryAt L s) done))
       (cond (ltb (countOf L s) i) (refused 6 at)
       (cond (memb i done) (refused 7 at)
-      (cond (eqb (numberOf (decodedOf L (recordAt L s i))) 0) on
+      (cond (eqb (numberOf (decodedOf L (recordAt L s i))) 0)
+      (cond (memb (labelAt L s i) (map (labelAt L s) done)) (refused 12 i) on)
       (refused (numberOf (decodedOf L (recordAt L s i))) i))))
 
   -- the walk, for as many links as the first number says. There are never more links to follow than records, since none is

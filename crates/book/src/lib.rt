@@ -3,6 +3,7 @@
 mod bytes;
 mod decode;
 mod header;
+mod labels;
 mod links;
 mod pack;
 

@@ -1,10 +1,14 @@
-// The walk along the links, with the causes 6 to 10.
+// The walk along the links, with the causes 6 to 10 and 12.
 use crate::Chain;
 use crate::Decoded;
+use crate::decode::label_at;
 use crate::decode::link_at;
 use crate::decode::number_of;
 use crate::header::count;
 use crate::header::objective;
+use crate::labels::no_labels;
+use crate::labels::note;
+use crate::labels::noted;
 use crate::visit;
 use lp::Functional;
 ghost use mathlib.Core.Path.{_≡_};
@@ -46,6 +50,19 @@ pub fn refused(number: u8, at: u16) -> Chain
     }
 }
 
+// A book that is accepted, with its chain.
+fn accepted(goal: Functional, n: usize, records: [u16; 255]) -> Chain
+    ensures { λ r. ⌜ r ≡ record { number = 0; at = 0; objective = goal; n = n; records = records } ⌝ }
+{
+    Chain {
+        number: 0,
+        at: 0,
+        objective: goal,
+        n,
+        records,
+    }
+}
+
 // The chain from the header's link on. A record that is turned back stops the walk there.
 pub fn walk(book: &[u8]) -> Chain
     requires { ⌜ countOf v1 (now book) ≤ 255 ⌝ }
@@ -53,6 +70,7 @@ pub fn walk(book: &[u8]) -> Chain
 {
     let last = count(book);
     let mut seen = only_header();
+    let mut labels = no_labels();
     let mut records = no_records();
     let mut n: usize = 0;
     let mut at: u16 = 0;
@@ -69,18 +87,16 @@ pub fn walk(book: &[u8]) -> Chain
         let Decoded::Sound(_, next) = decoded else {
             return refused(number_of(decoded), link);
         };
+        let label = label_at(book, link);
+        if noted(&labels, label) {
+            return refused(12, link);
+        }
+        note(&mut labels, label);
         seen[index] = true;
         records[n] = link;
         n += 1;
         at = link;
         link = next;
     }
-    let goal = objective(book);
-    Chain {
-        number: 0,
-        at: 0,
-        objective: goal,
-        n,
-        records,
-    }
+    accepted(objective(book), n, records)
 }

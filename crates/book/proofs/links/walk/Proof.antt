@@ -13,16 +13,18 @@ use Rattle.book.specs.Record.{numberOf}
 use Rattle.book.specs.Layout.{v1}
 use Rattle.book.specs.Reading.{countOf, refused}
 use Rattle.book.specs.Answers.{chainOf}
-use Rattle.book.proofs.Walking.{Walking, walking-start, walking-over, walking-again, walking-fault, walking-room, walking-step, walked}
+use Rattle.book.specs.Number.{Bytes}
+use Rattle.book.proofs.LabelSize.{label-small}
+use Rattle.book.proofs.Walking.{Walking, walking-start, walking-over, walking-again, walking-fault, Arrived, arrived-repeat, arrived-room, arrived-unnoted, arrived-step, walked}
 use Rattle.book.proofs.Checks.{sound-holds}
 use Rattle.book.proofs.links.walk.Statement.{statement}
 use Rattle.book.proofs.links.walk.Tie as tie
 
 abbrev Inv-loop : tie.InvT-loop
-Inv-loop book last seen₀ records₀ n₀ at₀ link₀ seen records n at link = (last ≡ countOf v1 book) × (last ≤ 255) × Walking book seen records n at link
+Inv-loop book last seen₀ labels₀ records₀ n₀ at₀ link₀ seen labels records n at link = (last ≡ countOf v1 book) × (last ≤ 255) × Walking book seen labels records n at link
 
 abbrev μ-loop : tie.MeasureT-loop
-μ-loop book last seen₀ records₀ n₀ at₀ link₀ seen records n at link = 255 - n
+μ-loop book last seen₀ labels₀ records₀ n₀ at₀ link₀ seen labels records n at link = 255 - n
 
 -- what is not sound has a number of its own
 fault : (d : Decoded) → OneOf (1 ∷ 2 ∷ 3 ∷ []) (tagOf the-type d) → numberOf d ≡ 0 → ⊥
@@ -37,6 +39,9 @@ count-requires c κs = tt
 only-header-requires : tie.Need-only-header-requires Inv-loop μ-loop
 only-header-requires c κs = tt
 
+no-labels-requires : tie.Need-no-labels-requires Inv-loop μ-loop
+no-labels-requires c κs = tt
+
 no-records-requires : tie.Need-no-records-requires Inv-loop μ-loop
 no-records-requires c κs = tt
 
@@ -45,9 +50,9 @@ link-at-requires c κs = tt
 
 loop-holds : tie.Need-loop-holds Inv-loop μ-loop
 loop-holds c =
-    let s = c .before .before .before .before .before .args .book .now in
-    let e : c .before .before .before .count .result ≡ countOf v1 s = c .before .before .before .count .ensures in
-    (e, rw e (c .before .before .before .before .before .pre), walking-start s (c .link-at .result) (c .before .before .only-header .ensures) (c .before .no-records .ensures) (c .link-at .ensures))
+    let s = c .before .before .before .before .before .before .args .book .now in
+    let e : c .before .before .before .before .count .result ≡ countOf v1 s = c .before .before .before .before .count .ensures in
+    (e, rw e (c .before .before .before .before .before .before .pre), walking-start s (c .link-at .result) (c .before .before .before .only-header .ensures) (c .before .before .no-labels .ensures) (c .before .no-records .ensures) (c .link-at .ensures))
 
 refused-requires : tie.Need-refused-requires Inv-loop μ-loop
 refused-requires c κs = tt
@@ -94,14 +99,49 @@ returns-3 c =
     (ap (λ k. refused k (l .link)) (c .before .number-of .ensures ∙ ap numberOf (d .ensures))
     ∙ sym (walking-fault (l .inv .2) (c .before .before .before .before .before .before .loop-test .taken) (rw (l .inv .0) at (c .before .before .before .before .before .if1 .left)) (omega arith) (c .before .before .before .before .if2 .left) (rw (d .ensures) at f)))
 
--- the marks leave room for one more record
-room : (c : tie.After-known-told Inv-loop μ-loop) → c .before .before .before .before .before .before .before .loop .n < 255
-room c =
-    let l = c .before .before .before .before .before .before .before .loop in
-    walking-room (l .inv .2) (c .before .before .before .before .before .before .loop-test .taken) (rw (l .inv .0) at (c .before .before .before .before .before .if1 .left)) (omega arith) (c .before .before .before .before .if2 .left)
+-- a sound record that was not visited
+arrived : (c : tie.After-label-at Inv-loop μ-loop) → let l = c .before .before .before .before .before .before .before .before .loop in Arrived (c .before .before .before .before .before .before .before .before .before .before .before .before .before .before .before .args .book .now) (l .seen) (l .labels) (l .records) (l .n) (l .at) (l .link) (c .label-at .result) (c .before .before .decoded .given .0 .1 .0)
+arrived c =
+    let l = c .before .before .before .before .before .before .before .before .loop in
+    let s = c .before .before .before .before .before .before .before .before .before .before .before .before .before .before .before .args .book .now in
+    let d = c .before .before .before .before .visit in
+    let e = c .before .before .decoded .given .1 in
+    let bytes : Bytes s = λ i. c .before .before .before .before .before .before .before .before .before .before .before .before .before .before .shared-slice-known .given i .fits in
+    record {
+      so-far = l .inv .2;
+      some = c .before .before .before .before .before .before .before .loop-test .taken;
+      within = rw (l .inv .0) at (c .before .before .before .before .before .before .if1 .left);
+      low = omega arith;
+      new = c .before .before .before .before .before .if2 .left;
+      sound = ap numberOf (sym (d .ensures) ∙ e);
+      label-held = c .label-at .ensures;
+      label-fits = rw (c .label-at .ensures) (label-small v1 s bytes (l .link));
+      link-held = sound-holds v1 _ _ _ (sym (d .ensures) ∙ e) .1;
+    }
+
+label-at-requires : tie.Need-label-at-requires Inv-loop μ-loop
+label-at-requires c κs = tt
+
+noted-requires : tie.Need-noted-requires Inv-loop μ-loop
+noted-requires c κs = c .before .before .before .before .before .before .before .before .before .loop .inv .2 .met .size
+
+refused-requires-4 : tie.Need-refused-requires-4 Inv-loop μ-loop
+refused-requires-4 c κs = tt
+
+returns-4 : tie.Need-returns-4 Inv-loop μ-loop
+returns-4 c =
+    let a = arrived (c .before .before .before .before) in
+    c .refused4 .ensures ∙ ap chainOf (sym (arrived-repeat a (sym (c .before .before .noted .ensures) ∙ c .before .if3 .taken)))
+
+note-requires : tie.Need-note-requires Inv-loop μ-loop
+note-requires c κs = arrived-unnoted (arrived (c .before .before .before .before)) (sym (c .before .before .noted .ensures) ∙ c .before .if3 .left)
 
 array-write-seen : tie.Need-array-write-seen Inv-loop μ-loop
 array-write-seen c = omega arith
+
+-- the marks leave room for one more record
+room : (c : tie.After-note Inv-loop μ-loop) → c .before .before .before .before .before .before .before .before .before .before .before .before .before .loop .n < 255
+room c = arrived-room (arrived (c .before .before .before .before .before))
 
 mul-records : tie.Need-mul-records Inv-loop μ-loop
 mul-records c = omega (arith, room c)
@@ -117,17 +157,21 @@ loop-less c = omega (arith, room c)
 
 loop-again : tie.Need-loop-again Inv-loop μ-loop
 loop-again c =
-    let l = c .before .before .before .before .before .before .before .loop in
-    let d = c .before .before .before .visit in
-    let e = c .before .decoded .given .1 in
-    let held = sound-holds v1 _ _ _ (sym (d .ensures) ∙ e) .1 in
-    (l .inv .0, l .inv .1, walking-step (l .inv .2) (c .before .before .before .before .before .before .loop-test .taken) (rw (l .inv .0) at (c .before .before .before .before .before .if1 .left)) (omega arith) (c .before .before .before .before .if2 .left) _ (ap numberOf (sym (d .ensures) ∙ e)) held)
+    let l = c .before .before .before .before .before .before .before .before .before .before .before .before .before .loop in
+    let a = arrived (c .before .before .before .before .before) in
+    let new = sym (c .before .before .before .noted .ensures) ∙ c .before .before .if3 .left in
+    (l .inv .0, l .inv .1, arrived-step a new (c .note .ensures))
 
 objective-requires : tie.Need-objective-requires Inv-loop μ-loop
 objective-requires c κs = tt
 
-returns-4 : tie.Need-returns-4 Inv-loop μ-loop
-returns-4 c = walked (c .before .before .loop .inv .2) (c .before .loop-test .left) (c .objective .ensures)
+accepted-requires : tie.Need-accepted-requires Inv-loop μ-loop
+accepted-requires c κs = tt
+
+returns-5 : tie.Need-returns-5 Inv-loop μ-loop
+returns-5 c =
+    c .accepted .ensures
+    ∙ walked (c .before .before .before .loop .inv .2) (c .before .before .loop-test .left) (c .before .objective .ensures)
 
 pub walk-spec : {M : Type 1} → statement M
 walk-spec =
@@ -137,6 +181,7 @@ walk-spec =
     μ-loop
     count-requires
     only-header-requires
+    no-labels-requires
     no-records-requires
     link-at-requires
     loop-holds
@@ -151,6 +196,11 @@ walk-spec =
     number-of-requires
     refused-requires-3
     returns-3
+    label-at-requires
+    noted-requires
+    refused-requires-4
+    returns-4
+    note-requires
     array-write-seen
     mul-records
     array-write-records
@@ -158,4 +208,5 @@ walk-spec =
     loop-less
     loop-again
     objective-requires
-    returns-4)
+    accepted-requires
+    returns-5)

@@ -1,0 +1,72 @@
+-- `book::labels::note` meets its contract: a bit that is not set is added, and the word keeps to its 64 bits.
+use borrow.Author.Needs.{needs}
+use native.Mathlib.Omega.{arith}
+use Prim.Native.Nat.{ℕ, _+_, _/_, _%_, _^_, _<_}
+use mathlib.Core.Path.{ap, subst⁻¹}
+use lib.ListN.{getD, set}
+use Rattle.book.specs.Labels.{noting}
+use Rattle.book.proofs.LabelTable.{one-shifted, fits-64, clear-bit}
+use Rattle.book.proofs.labels.note.Statement.{statement}
+use Rattle.book.proofs.labels.note.Tie as tie
+
+-- src/labels.rt:29:17
+cast-place : tie.Need-cast-place
+cast-place c = search needs
+
+-- src/labels.rt:30:15
+cast-bit : tie.Need-cast-bit
+cast-bit c = search needs
+
+-- src/labels.rt:31:16
+mul-word : tie.Need-mul-word
+mul-word c = search needs
+
+-- src/labels.rt:31:16
+element-copy-out-word : tie.Need-element-copy-out-word
+element-copy-out-word c = search needs
+
+-- src/labels.rt:32:28
+shl-table : tie.Need-shl-table
+shl-table c = search needs
+
+-- src/labels.rt:32:20
+add-table : tie.Need-add-table
+add-table c =
+    let l = c .before .args .label in
+    let t = c .before .args .table .now in
+    let p = c .before .pre in
+    record {
+      fits =
+          subst⁻¹ (λ (b : ℕ). getD t (l / 64) 0 + b < 2 ^ 64) (one-shifted (l % 64) (omega arith))
+          (fits-64 (getD t (l / 64) 0) (l % 64) (omega arith) (clear-bit t l (p .new)) (p .words (l / 64)));
+    }
+
+-- src/labels.rt:32:5
+mul-table : tie.Need-mul-table
+mul-table c = search needs
+
+-- src/labels.rt:32:5
+element-write-table : tie.Need-element-write-table
+element-write-table c = search needs
+
+-- src/labels.rt:25:1
+returns : tie.Need-returns
+unfolding noting
+returns c =
+    let l = c .before .args .label in
+    let t = c .before .args .table .now in
+    ap (λ b. set t (l / 64) (getD t (l / 64) 0 + b)) (one-shifted (l % 64) (omega arith))
+
+pub note-spec : {M : Type 1} → statement M
+note-spec =
+    tie.close
+    (tie.spec
+    cast-place
+    cast-bit
+    mul-word
+    element-copy-out-word
+    shl-table
+    add-table
+    mul-table
+    element-write-table
+    returns)
