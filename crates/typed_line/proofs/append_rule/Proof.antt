@@ -1,0 +1,68 @@
+use Rattle.report.proofs.Put.{followed}
+use Rattle.report.proofs.Integer.{whole}
+use Rattle.typed_line.specs.Line.{ruleFields}
+use borrow.Author.Needs.{needs}
+use Rattle.typed_line.proofs.append_rule.Statement.{statement}
+use Rattle.typed_line.proofs.append_rule.Tie as tie
+use Rattle.typed_line.proofs.append_rule.Reads as reads
+use Rattle.typed_line.proofs.append_rule.Lts as lts
+use Rattle.report.proofs.text.append_integer.Reads as append-integer-reads
+use Rattle.report.proofs.text.append_number.Reads as append-number-reads
+use Rattle.report.proofs.text.append_word.Reads as append-word-reads
+
+-- src/lib.rt:19:28
+slice-aggregate-append-word : tie.Need-slice-aggregate-append-word
+slice-aggregate-append-word c = search needs
+
+-- src/lib.rt:19:9
+append-word-requires : tie.Need-append-word-requires
+append-word-requires c κs = search needs
+
+-- src/lib.rt:20:9
+append-number-requires : tie.Need-append-number-requires
+append-number-requires c κs = search needs
+
+-- src/lib.rt:21:9
+append-integer-requires : tie.Need-append-integer-requires
+append-integer-requires c κs = search needs
+
+-- src/lib.rt:22:9
+append-integer-requires-2 : tie.Need-append-integer-requires-2
+append-integer-requires-2 c κs = search needs
+
+-- src/lib.rt:23:5
+append-integer-requires-3 : tie.Need-append-integer-requires-3
+append-integer-requires-3 c κs = search needs
+
+-- src/lib.rt:15:1
+same-length : tie.Need-same-length
+same-length c = search needs
+
+-- src/lib.rt:15:1
+returns : tie.Need-returns
+unfolding ruleFields
+returns c =
+    let z3 = c .before .before in
+    let z2 = z3 .before .before .before .before .before in
+    let z1 = z2 .before .before .before .before .before in
+    let number = z1 .before .before .before .before .before in
+    let word = number .before .before .before .before in
+    let start = word .before .before .before .before in
+    followed (word .append-word .ensures)
+    (followed (number .append-number .ensures)
+    (followed (whole (start .args .w .a) (record { sfits = z1 .before .struct-told .given .1 .0 .1 }) (z1 .append-integer .ensures))
+    (followed (whole (start .args .w .b) (record { sfits = z2 .before .struct-told2 .given .1 .1 .0 .1 }) (z2 .append-integer2 .ensures))
+    (whole (start .args .w .c) (record { sfits = z3 .before .struct-told3 .given .1 .1 .1 .0 .1 }) (z3 .append-integer3 .ensures)))))
+
+pub append-rule-spec : {M : Type 1} → statement M
+append-rule-spec =
+    tie.close
+    (tie.spec
+    slice-aggregate-append-word
+    append-word-requires
+    append-number-requires
+    append-integer-requires
+    append-integer-requires-2
+    append-integer-requires-3
+    same-length
+    returns)

@@ -1,0 +1,50 @@
+use mathlib.Core.Path.{ap}
+use Rattle.report.proofs.Put.{followed, spelt}
+use Rattle.typed_line.specs.Line.{lineOf}
+use borrow.Author.Needs.{needs}
+use Rattle.typed_line.proofs.typed_line.Statement.{statement}
+use Rattle.typed_line.proofs.typed_line.Tie as tie
+use Rattle.typed_line.proofs.typed_line.Reads as reads
+use Rattle.typed_line.proofs.typed_line.Lts as lts
+use Rattle.report.proofs.text.append_word.Reads as append-word-reads
+use Rattle.typed_line.proofs.append_typed.Reads as append-typed-reads
+use Rattle.typed_rules.proofs.read_rule.Reads as read-rule-reads
+
+-- src/lib.rt:50:9
+read-rule-requires : tie.Need-read-rule-requires
+read-rule-requires c κs = search needs
+
+-- src/lib.rt:51:9
+append-typed-requires : tie.Need-append-typed-requires
+append-typed-requires c κs = search needs
+
+-- src/lib.rt:52:17
+slice-aggregate-append-word : tie.Need-slice-aggregate-append-word
+slice-aggregate-append-word c = search needs
+
+-- src/lib.rt:52:5
+append-word-requires : tie.Need-append-word-requires
+append-word-requires c κs = search needs
+
+-- src/lib.rt:46:1
+same-length : tie.Need-same-length
+same-length c = search needs
+
+-- src/lib.rt:46:1
+returns : tie.Need-returns
+unfolding lineOf
+returns c =
+    let word = c .before .before in
+    let typed = word .before .before .before .before .before in
+    spelt (ap lineOf (typed .before .before .read-rule .ensures)) (followed (typed .append-typed .ensures) (word .append-word .ensures))
+
+pub typed-line-spec : {M : Type 1} → statement M
+typed-line-spec =
+    tie.close
+    (tie.spec
+    read-rule-requires
+    append-typed-requires
+    slice-aggregate-append-word
+    append-word-requires
+    same-length
+    returns)

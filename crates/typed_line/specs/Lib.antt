@@ -1,0 +1,2 @@
+-- The printed line.
+pub mod Line

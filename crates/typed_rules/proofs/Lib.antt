@@ -1,0 +1,14 @@
+-- Lemmas over the definitions: the machine's signed numbers (Integer), values (Values), bytes of a text (Bytes), the parser step by step (Steps), and the readers
+-- against it (Reading, Whole). The language: what the parser hands back is lawful and spells the text (Sound), every lawful tree is handed back (Complete), and the
+-- answer is exact (Language), 13 for nothing else (Refusals). Texts and a tree that the checker computes (Examples).
+pub mod Integer
+pub mod Values
+pub mod Bytes
+pub mod Steps
+pub mod Reading
+pub mod Whole
+pub mod Sound
+pub mod Complete
+pub mod Language
+pub mod Refusals
+pub mod Examples

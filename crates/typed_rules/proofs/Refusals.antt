@@ -1,0 +1,136 @@
+-- The refusals of a tree's value are 14 and 15, so 13 means that no lawful tree spells the text; and an accepted rule is within its limits.
+use mathlib.Core.Path.{_≡_, refl, sym, _∙_}
+use mathlib.Core.Logic.{_⊎_, inl, inr}
+use mathlib.Core.Bool.{Bool, true, false, _&&_}
+use mathlib.Core.List.{List}
+use Prim.Native.Nat.{ℕ, _≤_}
+use native.Mathlib.Omega.{arith}
+use lib.Dec.{leb}
+use lib.IntN.{natAbs}
+use borrow.Author.Tests.{leb-true}
+use Rattle.typed_rules.specs.declared.Form.{Form}
+use Rattle.typed_rules.specs.declared.Value.{Value}
+use Rattle.typed_rules.specs.declared.Value.the-variants.{Linear, Beyond}
+use Rattle.typed_rules.specs.declared.Written.{Written}
+use Rattle.typed_rules.specs.declared.Typed.{Typed}
+use Rattle.typed_rules.specs.declared.Typed.the-variants.{Rule, Refused}
+use Rattle.typed_rules.specs.Grammar as G
+use Rattle.typed_rules.specs.Grammar.{number, rate-x, rate-y, minus, group, factor, times, term, plus, less, at-most, at-least}
+use Rattle.typed_rules.specs.Value.{inside, limit, form, either, checked, decimal, numeral, constant, multiplied, mulForms, addForms, subForms, negated, sum, difference, product, combine, valueFactor, valueTerm, valueSide, kindOf, pickTyped, written, final, then, conclude, valueRule}
+use Rattle.typed_rules.specs.Parser.{answer}
+use Rattle.typed_rules.proofs.Language.{Reads, Refuses, language, answered}
+
+abbrev pub Fault : ℕ → Type 0
+Fault n = (n ≡ 14) ⊎ (n ≡ 15)
+
+abbrev pub Plain : Value → Type 0
+Plain (Linear f) = Unit {0}
+Plain (Beyond n) = Fault n
+
+checked-plain : (f : Form) → Plain (checked f)
+unfolding checked
+checked-plain f = go (inside limit (f .a) && (inside limit (f .b) && inside limit (f .c)))
+  where
+    go : (t : Bool) → Plain (either t (Linear f) (Beyond 15))
+    go true = tt
+    go false = inr refl
+
+numeral-plain : (n : ℕ) → Plain (numeral n)
+unfolding numeral
+numeral-plain n = go (leb n limit)
+  where
+    go : (t : Bool) → Plain (either t (Linear (form (lib.IntN.pos 0) (lib.IntN.pos 0) (lib.IntN.pos n))) (Beyond 15))
+    go true = tt
+    go false = inr refl
+
+multiplied-plain : (f g : Form) → Plain (multiplied f g)
+unfolding multiplied
+multiplied-plain f g = go (constant f) (constant g)
+  where
+    go : (t u : Bool) → Plain (either t (checked (mulForms f g)) (either u (checked (mulForms f g)) (Beyond 14)))
+    go true u = checked-plain (mulForms f g)
+    go false true = checked-plain (mulForms f g)
+    go false false = inl refl
+
+combine-plain : (op : Form → Form → Value) → ((f g : Form) → Plain (op f g)) → (v w : Value) → Plain v → Plain w → Plain (combine op v w)
+combine-plain op h (Linear f) (Linear g) p q = h f g
+combine-plain op h (Linear f) (Beyond n) p q = q
+combine-plain op h (Beyond n) (Linear g) p q = p
+combine-plain op h (Beyond n) (Beyond m) p q = p
+
+negated-plain : (v : Value) → Plain v → Plain (negated v)
+unfolding negated
+negated-plain (Linear f) p = tt
+negated-plain (Beyond n) p = p
+
+product-plain : (v w : Value) → Plain v → Plain w → Plain (product v w)
+unfolding product
+product-plain v w p q = combine-plain multiplied multiplied-plain v w p q
+
+sum-plain : (v w : Value) → Plain v → Plain w → Plain (sum v w)
+unfolding sum
+sum-plain v w p q = combine-plain (λ f g. checked (addForms f g)) (λ f g. checked-plain (addForms f g)) v w p q
+
+difference-plain : (v w : Value) → Plain v → Plain w → Plain (difference v w)
+unfolding difference
+difference-plain v w p q = combine-plain (λ f g. checked (subForms f g)) (λ f g. checked-plain (subForms f g)) v w p q
+
+mutual
+  unfolding valueFactor
+
+  factor-plain : (f : G.Factor) → Plain (valueFactor f)
+  factor-plain (number i ds) = numeral-plain (decimal 0 ds)
+  factor-plain (rate-x i) = tt
+  factor-plain (rate-y i) = tt
+  factor-plain (minus i f) = negated-plain (valueFactor f) (factor-plain f)
+  factor-plain (group i s j) = side-plain s
+
+  term-plain : (t : G.Term) → Plain (valueTerm t)
+  term-plain (factor f) = factor-plain f
+  term-plain (times t i f) = product-plain (valueTerm t) (valueFactor f) (term-plain t) (factor-plain f)
+
+  side-plain : (a : G.Side) → Plain (valueSide a)
+  side-plain (term t) = term-plain t
+  side-plain (plus a i t) = sum-plain (valueSide a) (valueTerm t) (side-plain a) (term-plain t)
+  side-plain (less a i t) = difference-plain (valueSide a) (valueTerm t) (side-plain a) (term-plain t)
+
+-- an accepted rule: kind 1 or 2, a and b at most 32,767 and c at most 1,000,000,000 either way
+pub record InRange (w : Written) : Type 0 where
+  pub a : natAbs (w .a) ≤ 32767
+  pub b : natAbs (w .b) ≤ 32767
+  pub c : natAbs (w .c) ≤ 1000000000
+
+abbrev pub Sound : Typed → Type 0
+Sound (Rule w) = InRange w
+Sound (Refused n) = Fault n
+
+final-sound : (w : Written) → Sound (final w)
+unfolding final
+final-sound w = go (inside 32767 (w .a)) refl (inside 32767 (w .b)) refl (inside limit (w .c)) refl
+  where
+    go : (s : Bool) → inside 32767 (w .a) ≡ s → (t : Bool) → inside 32767 (w .b) ≡ t → (u : Bool) → inside limit (w .c) ≡ u → Sound (pickTyped (s && (t && u)) (Rule w) (Refused 15))
+    go true e true f true g = record { a = leb-true (natAbs (w .a)) 32767 e; b = leb-true (natAbs (w .b)) 32767 f; c = leb-true (natAbs (w .c)) limit g }
+    go true e true f false g = inr refl
+    go true e false f u g = inr refl
+    go false e t f u g = inr refl
+
+conclude-sound : (k : ℕ) (v w : Value) → Plain v → Plain w → Sound (conclude k v w)
+unfolding conclude
+conclude-sound k (Linear f) (Linear g) p q = final-sound (written k f g)
+conclude-sound k (Linear f) (Beyond n) p q = q
+conclude-sound k (Beyond n) (Linear g) p q = p
+conclude-sound k (Beyond n) (Beyond m) p q = p
+
+-- a tree's value is a rule within its limits, or 14, or 15
+pub value-sound : (r : G.Rule) → Sound (valueRule r)
+unfolding valueRule
+value-sound r = conclude-sound (kindOf (r .relation)) (valueSide (r .left)) (valueSide (r .right)) (side-plain (r .left)) (side-plain (r .right))
+
+thirteen : (t : Typed) → Sound t → t ≡ Refused 13 → ⊥
+thirteen (Rule w) h e = let z : _≡_ {A = ℕ} 0 1 = cc in omega arith
+thirteen (Refused n) (inl h) e = let z : n ≡ 13 = cc in omega arith
+thirteen (Refused n) (inr h) e = let z : n ≡ 13 = cc in omega arith
+
+-- 13 exactly if no lawful tree spells the text
+pub refused-13 : (s : List ℕ) → answer s ≡ Refused 13 → (r : G.Rule) → G.Lawful r → s ≡ G.spell r → ⊥
+refused-13 s e r l p = thirteen (valueRule r) (value-sound r) (sym (answered r l) ∙ mathlib.Core.Path.ap answer (sym p) ∙ e)

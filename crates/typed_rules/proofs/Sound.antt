@@ -1,0 +1,266 @@
+-- Soundness: what the parser hands back is a lawful tree, and the text is what the tree spells.
+use mathlib.Core.Path.{_≡_, refl, ap, sym, _∙_, subst}
+use mathlib.Core.Bool.{Bool, true, false, _&&_}
+use mathlib.Core.List.{List, [], _∷_, _++_}
+use Prim.Native.Nat.{ℕ, zero, suc, _+_, _*_, _≤_}
+use native.Mathlib.Omega.{arith}
+use lib.Dec.{leb, eqb}
+use lib.ListN.{length}
+use borrow.Author.Tests.{leb-true, eqb-true}
+use Rattle.typed_rules.specs.Grammar.{Factor, Term, Side, Relation, Rule, number, rate-x, rate-y, minus, group, factor, times, term, plus, less, at-most, at-least, pad, spellFactor, spellTerm, spellSide, spellRelation, spell, Digits, none, more, Number, LawfulFactor, LawfulTerm, LawfulSide, Lawful}
+use Rattle.typed_rules.specs.Parser.{Parsed, fail, got, bind, pickParsed, pickNumber, pickList, first, tail, digit, lead, skip, run, past, next, beyond, inner, closed, numberAt, factorBy, termBy, moreFactors, sideBy, moreTerms, sideOf, ended, rightOf, relationOf, parse}
+use Rattle.typed_rules.proofs.Bytes.{run-some}
+
+-- ---- bytes
+
+-- spaces and what comes after them
+pub led : (s : List ℕ) → s ≡ pad (lead s) (skip s)
+unfolding lead skip pad
+led [] = refl
+led (b ∷ s) = go (eqb b 32) refl (led s)
+  where
+    go : (t : Bool) → eqb b 32 ≡ t → s ≡ pad (lead s) (skip s) → b ∷ s ≡ pad (pickNumber t (suc (lead s)) 0) (pickList t (skip s) (b ∷ s))
+    go true e h = ap (λ (c : ℕ). c ∷ s) (eqb-true b 32 e) ∙ ap (λ (q : List ℕ). 32 ∷ q) h
+    go false e h = refl
+
+-- a byte that is not 0 is the first of a text
+front : (s : List ℕ) (n : ℕ) → first s ≡ suc n → s ≡ suc n ∷ tail s
+front [] n e = absurd (omega (arith, e))
+front (b ∷ s) n e = ap (λ (c : ℕ). c ∷ s) e
+
+-- the next item with the spaces before it
+pub item : (s : List ℕ) (n : ℕ) → next s ≡ suc n → s ≡ pad (lead s) (suc n ∷ beyond s)
+item s n e = led s ∙ ap (pad (lead s)) (front (skip s) n e)
+
+-- digits and what comes after them
+ran : (s : List ℕ) → s ≡ run s ++ past s
+unfolding run past
+ran [] = refl
+ran (b ∷ s) = go (digit b) (ran s)
+  where
+    go : (t : Bool) → s ≡ run s ++ past s → b ∷ s ≡ pickList t (b ∷ run s) [] ++ pickList t (past s) (b ∷ s)
+    go true h = ap (λ (q : List ℕ). b ∷ q) h
+    go false h = refl
+
+digit-range : (b : ℕ) → digit b ≡ true → (48 ≤ b) × (b ≤ 57)
+digit-range b e = go (leb 48 b) refl e
+  where
+    go : (t : Bool) → leb 48 b ≡ t → t && leb b 57 ≡ true → (48 ≤ b) × (b ≤ 57)
+    go true h e = (leb-true 48 b h, leb-true b 57 e)
+    go false h e = absurd (let z : _≡_ {A = ℕ} 0 1 = cc in omega arith)
+
+run-digits : (s : List ℕ) → Digits (run s)
+unfolding run
+run-digits [] = none
+run-digits (b ∷ s) = go (digit b) refl (run-digits s)
+  where
+    go : (t : Bool) → digit b ≡ t → Digits (run s) → Digits (pickList t (b ∷ run s) [])
+    go true e h = more (digit-range b e .0) (digit-range b e .1) h
+    go false e h = none
+
+-- ---- what was parsed
+
+pub record Spelt {A : Type 0} (spelling : A → List ℕ → List ℕ) (lawful : A → Type 0) (s : List ℕ) (a : A) (r : List ℕ) : Type 0 where
+  pub text : s ≡ spelling a r
+  pub law : lawful a
+
+abbrev pub Sound : {A : Type 0} → (A → List ℕ → List ℕ) → (A → Type 0) → List ℕ → Parsed A → Type 0
+Sound spelling lawful s fail = Unit {0}
+Sound spelling lawful s (got a r) = Spelt spelling lawful s a r
+
+abbrev pub SoundFactor : ℕ → List ℕ → Parsed Factor → Type 0
+SoundFactor d s p = Sound spellFactor (λ f. LawfulFactor f d) s p
+
+abbrev pub SoundTerm : ℕ → List ℕ → Parsed Term → Type 0
+SoundTerm d s p = Sound spellTerm (λ t. LawfulTerm t d) s p
+
+abbrev pub SoundSide : ℕ → List ℕ → Parsed Side → Type 0
+SoundSide d s p = Sound spellSide (λ a. LawfulSide a d) s p
+
+number-sound : (d : ℕ) (s : List ℕ) → digit (next s) ≡ true → SoundFactor d s (numberAt (lead s) (skip s))
+unfolding spellFactor LawfulFactor
+number-sound d s e = go (leb (length (run (skip s))) 10) refl
+  where
+    go : (t : Bool) → leb (length (run (skip s))) 10 ≡ t → SoundFactor d s (pickParsed t (got (number (lead s) (run (skip s))) (past (skip s))) fail)
+    go true h =
+        record {
+          text = led s ∙ ap (pad (lead s)) (ran (skip s));
+          law = record { digits = run-digits (skip s); some = run-some (skip s) e; few = leb-true (length (run (skip s))) 10 h };
+        }
+    go false h = tt
+
+rate-x-sound : (d : ℕ) (s : List ℕ) → next s ≡ 120 → SoundFactor d s (got (rate-x (lead s)) (beyond s))
+unfolding spellFactor LawfulFactor
+rate-x-sound d s e = record { text = item s 119 e; law = tt }
+
+rate-y-sound : (d : ℕ) (s : List ℕ) → next s ≡ 121 → SoundFactor d s (got (rate-y (lead s)) (beyond s))
+unfolding spellFactor LawfulFactor
+rate-y-sound d s e = record { text = item s 120 e; law = tt }
+
+minus-sound : (d : ℕ) (s : List ℕ) → next s ≡ 45 → (p : Parsed Factor) → SoundFactor d (beyond s) p → SoundFactor d s (bind p (λ f r. got (minus (lead s) f) r))
+unfolding spellFactor LawfulFactor
+minus-sound d s e fail h = tt
+minus-sound d s e (got f r) h =
+    record { text = item s 44 e ∙ ap (λ (q : List ℕ). pad (lead s) (45 ∷ q)) (h .text); law = h .law }
+
+group-sound : (d : ℕ) (s : List ℕ) → next s ≡ 40 → (p : Parsed Side) → SoundSide d (beyond s) p → SoundFactor (suc d) s (bind p (λ a r. closed (lead s) a r))
+unfolding spellFactor LawfulFactor
+group-sound d s e fail h = tt
+group-sound d s e (got a r) h = go (eqb (next r) 41) refl
+  where
+    go : (t : Bool) → eqb (next r) 41 ≡ t → SoundFactor (suc d) s (pickParsed t (got (group (lead s) a (lead r)) (beyond r)) fail)
+    go true f =
+        record {
+          text = item s 39 e ∙ ap (λ (q : List ℕ). pad (lead s) (40 ∷ q)) (h .text ∙ ap (spellSide a) (item r 40 (eqb-true (next r) 41 f)));
+          law = h .law;
+        }
+    go false f = tt
+
+inner-sound : (d : ℕ) (s : List ℕ) → next s ≡ 40 → (f : ℕ → Parsed Side) → ((e : ℕ) → SoundSide e (beyond s) (f e)) → SoundFactor d s (bind (inner d f) (λ a r. closed (lead s) a r))
+inner-sound zero s e f h = tt
+inner-sound (suc d) s e f h = group-sound d s e (f d) (h d)
+
+-- a test's two branches
+branch : {A : Type 0} (Q : Parsed A → Type 0) (t : Bool) (l r : Parsed A) → (t ≡ true → Q l) → (t ≡ false → Q r) → Q (pickParsed t l r)
+branch Q true l r f g = f refl
+branch Q false l r f g = g refl
+
+module _ (d : ℕ) where
+  times-sound : (t : Term) (s : List ℕ) → LawfulTerm t d → next s ≡ 42 → (f : Factor) (r : List ℕ) → Spelt spellFactor (λ g. LawfulFactor g d) (beyond s) f r → (spellTerm t s ≡ spellTerm (times t (lead s) f) r) × LawfulTerm (times t (lead s) f) d
+  unfolding spellFactor LawfulFactor
+  times-sound t s l e f r h = (ap (spellTerm t) (item s 41 e ∙ ap (λ (q : List ℕ). pad (lead s) (42 ∷ q)) (h .text)), (l, h .law))
+
+  plus-sound : (a : Side) (s : List ℕ) → LawfulSide a d → next s ≡ 43 → (t : Term) (r : List ℕ) → Spelt spellTerm (λ g. LawfulTerm g d) (beyond s) t r → (spellSide a s ≡ spellSide (plus a (lead s) t) r) × LawfulSide (plus a (lead s) t) d
+  unfolding spellFactor LawfulFactor
+  plus-sound a s l e t r h = (ap (spellSide a) (item s 42 e ∙ ap (λ (q : List ℕ). pad (lead s) (43 ∷ q)) (h .text)), (l, h .law))
+
+  less-sound : (a : Side) (s : List ℕ) → LawfulSide a d → next s ≡ 45 → (t : Term) (r : List ℕ) → Spelt spellTerm (λ g. LawfulTerm g d) (beyond s) t r → (spellSide a s ≡ spellSide (less a (lead s) t) r) × LawfulSide (less a (lead s) t) d
+  unfolding spellFactor LawfulFactor
+  less-sound a s l e t r h = (ap (spellSide a) (item s 44 e ∙ ap (λ (q : List ℕ). pad (lead s) (45 ∷ q)) (h .text)), (l, h .law))
+
+-- what follows the first item, and what follows the next, where what follows is sound for every tree
+
+first-factor : (d : ℕ) (s : List ℕ) (p : Parsed Factor) → SoundFactor d s p → (m : Term → List ℕ → Parsed Term) → ((u : Term) (w z : List ℕ) → LawfulTerm u d → z ≡ spellTerm u w → SoundTerm d z (m u w)) → SoundTerm d s (bind p (λ f r. m (factor f) r))
+unfolding spellFactor LawfulFactor
+first-factor d s fail h m g = tt
+first-factor d s (got f r) h m g = g (factor f) r s (h .law) (h .text)
+
+first-term : (d : ℕ) (s : List ℕ) (p : Parsed Term) → SoundTerm d s p → (m : Side → List ℕ → Parsed Side) → ((u : Side) (w z : List ℕ) → LawfulSide u d → z ≡ spellSide u w → SoundSide d z (m u w)) → SoundSide d s (bind p (λ f r. m (term f) r))
+unfolding spellFactor LawfulFactor
+first-term d s fail h m g = tt
+first-term d s (got f r) h m g = g (term f) r s (h .law) (h .text)
+
+next-factor : (d : ℕ) (t : Term) (r q : List ℕ) → LawfulTerm t d → q ≡ spellTerm t r → next r ≡ 42 → (p : Parsed Factor) → SoundFactor d (beyond r) p → (m : Term → List ℕ → Parsed Term) → ((u : Term) (w z : List ℕ) → LawfulTerm u d → z ≡ spellTerm u w → SoundTerm d z (m u w)) → SoundTerm d q (bind p (λ f w. m (times t (lead r) f) w))
+next-factor d t r q l e b fail h m g = tt
+next-factor d t r q l e b (got f w) h m g =
+    let z = times-sound d t r l b f w h in
+    g (times t (lead r) f) w q (z .1) (e ∙ z .0)
+
+next-plus : (d : ℕ) (t : Side) (r q : List ℕ) → LawfulSide t d → q ≡ spellSide t r → next r ≡ 43 → (p : Parsed Term) → SoundTerm d (beyond r) p → (m : Side → List ℕ → Parsed Side) → ((u : Side) (w z : List ℕ) → LawfulSide u d → z ≡ spellSide u w → SoundSide d z (m u w)) → SoundSide d q (bind p (λ f w. m (plus t (lead r) f) w))
+next-plus d t r q l e b fail h m g = tt
+next-plus d t r q l e b (got f w) h m g =
+    let z = plus-sound d t r l b f w h in
+    g (plus t (lead r) f) w q (z .1) (e ∙ z .0)
+
+next-less : (d : ℕ) (t : Side) (r q : List ℕ) → LawfulSide t d → q ≡ spellSide t r → next r ≡ 45 → (p : Parsed Term) → SoundTerm d (beyond r) p → (m : Side → List ℕ → Parsed Side) → ((u : Side) (w z : List ℕ) → LawfulSide u d → z ≡ spellSide u w → SoundSide d z (m u w)) → SoundSide d q (bind p (λ f w. m (less t (lead r) f) w))
+next-less d t r q l e b fail h m g = tt
+next-less d t r q l e b (got f w) h m g =
+    let z = less-sound d t r l b f w h in
+    g (less t (lead r) f) w q (z .1) (e ∙ z .0)
+
+mutual
+  unfolding factorBy
+
+  pub factor-sound : (k d : ℕ) (s : List ℕ) → SoundFactor d s (factorBy k d s)
+  factor-sound zero d s = tt
+  factor-sound (suc k) d s =
+      branch (SoundFactor d s) (digit (next s)) _ _ (number-sound d s)
+      (λ _. branch (SoundFactor d s) (eqb (next s) 120) _ _ (λ e. rate-x-sound d s (eqb-true (next s) 120 e))
+      (λ _. branch (SoundFactor d s) (eqb (next s) 121) _ _ (λ e. rate-y-sound d s (eqb-true (next s) 121 e))
+      (λ _. branch (SoundFactor d s) (eqb (next s) 45) _ _ (λ e. minus-sound d s (eqb-true (next s) 45 e) (factorBy k d (beyond s)) (factor-sound k d (beyond s)))
+      (λ _. branch (SoundFactor d s) (eqb (next s) 40) _ _ (λ e. inner-sound d s (eqb-true (next s) 40 e) (λ j. sideBy k j (beyond s)) (λ j. side-sound k j (beyond s)))
+      (λ _. tt)))))
+
+  pub term-sound : (k d : ℕ) (s : List ℕ) → SoundTerm d s (termBy k d s)
+  term-sound zero d s = tt
+  term-sound (suc k) d s = first-factor d s (factorBy k d s) (factor-sound k d s) (λ t r. moreFactors k d t r) (λ t r q l e. factors-sound k d t r q l e)
+
+  pub factors-sound : (k d : ℕ) (t : Term) (r q : List ℕ) → LawfulTerm t d → q ≡ spellTerm t r → SoundTerm d q (moreFactors k d t r)
+  factors-sound zero d t r q l e = tt
+  factors-sound (suc k) d t r q l e =
+      branch (SoundTerm d q) (eqb (next r) 42) _ _
+      (λ f. next-factor d t r q l e (eqb-true (next r) 42 f) (factorBy k d (beyond r)) (factor-sound k d (beyond r)) (λ u w. moreFactors k d u w) (λ u w p m g. factors-sound k d u w p m g))
+      (λ _. record { text = e; law = l })
+
+  pub side-sound : (k d : ℕ) (s : List ℕ) → SoundSide d s (sideBy k d s)
+  side-sound zero d s = tt
+  side-sound (suc k) d s = first-term d s (termBy k d s) (term-sound k d s) (λ t r. moreTerms k d t r) (λ t r q l e. terms-sound k d t r q l e)
+
+  pub terms-sound : (k d : ℕ) (a : Side) (r q : List ℕ) → LawfulSide a d → q ≡ spellSide a r → SoundSide d q (moreTerms k d a r)
+  terms-sound zero d a r q l e = tt
+  terms-sound (suc k) d a r q l e =
+      branch (SoundSide d q) (eqb (next r) 43) _ _
+      (λ f. next-plus d a r q l e (eqb-true (next r) 43 f) (termBy k d (beyond r)) (term-sound k d (beyond r)) (λ u w. moreTerms k d u w) (λ u w p m g. terms-sound k d u w p m g))
+      (λ _. branch (SoundSide d q) (eqb (next r) 45) _ _
+      (λ f. next-less d a r q l e (eqb-true (next r) 45 f) (termBy k d (beyond r)) (term-sound k d (beyond r)) (λ u w. moreTerms k d u w) (λ u w p m g. terms-sound k d u w p m g))
+      (λ _. record { text = e; law = l }))
+
+-- ---- a whole text
+
+side-of-sound : (s : List ℕ) → SoundSide 8 s (sideOf s)
+unfolding sideOf
+side-of-sound s = side-sound (3 * length s + 3) 8 s
+
+pub record SpeltRule (s : List ℕ) (r : Rule) : Type 0 where
+  pub text : s ≡ spell r
+  pub left : LawfulSide (r .left) 8
+  pub right : LawfulSide (r .right) 8
+
+abbrev pub SoundRule : List ℕ → Parsed Rule → Type 0
+SoundRule s fail = Unit {0}
+SoundRule s (got r q) = SpeltRule s r
+
+abbrev rule : Side → ℕ → Relation → Side → ℕ → Rule
+rule a i k b j = record { left = a; gap = i; relation = k; right = b; end = j }
+
+ended-sound : (s q : List ℕ) (a : Side) (i : ℕ) (k : Relation) (b : Side) → LawfulSide a 8 → LawfulSide b 8 → s ≡ spellSide a (pad i (spellRelation k (spellSide b q))) → (z : List ℕ) → skip q ≡ z → SoundRule s (ended z (rule a i k b (lead q)))
+unfolding spell
+ended-sound s q a i k b l m e [] f =
+    record { text = e ∙ ap (λ (x : List ℕ). spellSide a (pad i (spellRelation k (spellSide b x)))) (led q ∙ ap (pad (lead q)) f); left = l; right = m }
+ended-sound s q a i k b l m e (c ∷ z) f = tt
+
+right-sound : (s : List ℕ) (a : Side) (i : ℕ) (k : Relation) (w : List ℕ) → LawfulSide a 8 → (first w ≡ 61 → s ≡ spellSide a (pad i (spellRelation k (tail w)))) → SoundRule s (rightOf a i k w)
+unfolding rightOf
+right-sound s a i k w l e = go (eqb (first w) 61) refl
+  where
+    after : first w ≡ 61 → (p : Parsed Side) → SoundSide 8 (tail w) p → SoundRule s (bind p (λ b r. ended (skip r) (rule a i k b (lead r))))
+    after f fail h = tt
+    after f (got b q) h = ended-sound s q a i k b l (h .law) (e f ∙ ap (λ (x : List ℕ). spellSide a (pad i (spellRelation k x))) (h .text)) (skip q) refl
+
+    go : (t : Bool) → eqb (first w) 61 ≡ t → SoundRule s (pickParsed t (bind (sideOf (tail w)) (λ b r. ended (skip r) (rule a i k b (lead r)))) fail)
+    go true f = after (eqb-true (first w) 61 f) (sideOf (tail w)) (side-of-sound (tail w))
+    go false f = tt
+
+relation-sound : (s : List ℕ) (a : Side) (r : List ℕ) → LawfulSide a 8 → s ≡ spellSide a r → SoundRule s (relationOf a r)
+unfolding relationOf spellRelation
+relation-sound s a r l e = go (eqb (next r) 60) refl
+  where
+    least : (t : Bool) → eqb (next r) 62 ≡ t → SoundRule s (pickParsed t (rightOf a (lead r) at-least (beyond r)) fail)
+    least true f =
+        right-sound s a (lead r) at-least (beyond r) l
+        (λ g. e ∙ ap (spellSide a) (item r 61 (eqb-true (next r) 62 f) ∙ ap (λ (x : List ℕ). pad (lead r) (62 ∷ x)) (front (beyond r) 60 g)))
+    least false f = tt
+
+    go : (t : Bool) → eqb (next r) 60 ≡ t → SoundRule s (pickParsed t (rightOf a (lead r) at-most (beyond r)) (pickParsed (eqb (next r) 62) (rightOf a (lead r) at-least (beyond r)) fail))
+    go true f =
+        right-sound s a (lead r) at-most (beyond r) l
+        (λ g. e ∙ ap (spellSide a) (item r 59 (eqb-true (next r) 60 f) ∙ ap (λ (x : List ℕ). pad (lead r) (60 ∷ x)) (front (beyond r) 60 g)))
+    go false f = least (eqb (next r) 62) refl
+
+pub parse-sound : (s : List ℕ) → SoundRule s (parse s)
+unfolding parse
+parse-sound s = go (sideOf s) (side-of-sound s)
+  where
+    go : (p : Parsed Side) → SoundSide 8 s p → SoundRule s (bind p (λ a r. relationOf a r))
+    go fail h = tt
+    go (got a r) h = relation-sound s a r (h .law) (h .text)

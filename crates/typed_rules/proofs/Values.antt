@@ -1,0 +1,143 @@
+-- Values: numbers read back from the machine's bits, forms within the limit, and the operations' cases.
+use mathlib.Core.Path.{_≡_, refl, ap, sym, _∙_, subst}
+use mathlib.Core.Bool.{Bool, true, false, _&&_}
+use Prim.Native.Nat.{ℕ, _+_, _*_, _≤_}
+use native.Mathlib.Omega.{arith}
+use lib.Dec.{T, leb, leb→le, le→leb}
+use lib.IntN.{ℤ, pos, natAbs, negℤ, _+ℤ_, _-ℤ_, _*ℤ_, +ℤ-idl}
+use mir.Syntax.{w64}
+use mir.Val.{SFits, toZ, ofZ}
+use mir.Facts.{toZ-ofZ}
+use borrow.Author.Tests.{leb-true, le-leb, lt-leb}
+use Rattle.ints.specs.Within.{Within}
+use Rattle.ints.proofs.Machine.{within-fits, within-add, within-sub, within-mul, within-neg, within-nat, within-numeral}
+use Rattle.typed_rules.specs.declared.Form.{Form}
+use Rattle.typed_rules.specs.declared.Value.{Value}
+use Rattle.typed_rules.specs.declared.Value.the-variants.{Linear, Beyond}
+use Rattle.typed_rules.specs.declared.Written.{Written}
+use Rattle.typed_rules.specs.declared.Typed.{Typed}
+use Rattle.typed_rules.specs.declared.Typed.the-variants.{Rule, Refused}
+use Rattle.typed_rules.specs.Value.{inside, limit, form, checked, numeral, negForm, negated, combine, then}
+use Rattle.typed_rules.specs.Contracts.{SmallForm, SmallForms, Small, Smalls, Valued}
+use Rattle.typed_rules.proofs.Integer.{read}
+
+-- ---- numbers
+
+pub inside-is : (n : ℕ) (z : ℤ) (m : ℕ) → SFits w64 z → m ≡ natAbs (read z) → leb m n ≡ inside n z
+inside-is n z m f e = ap (λ (k : ℕ). leb k n) (e ∙ ap natAbs (toZ-ofZ {w = w64} f))
+
+-- the same of a test of a number that was read back
+pub inside-read : (n : ℕ) (z : ℤ) {t : Bool} → SFits w64 z → t ≡ inside n (read z) → t ≡ inside n z
+inside-read n z f e = e ∙ ap (inside n) (toZ-ofZ {w = w64} f)
+
+small-fits : {z : ℤ} → Within limit z → SFits w64 z
+small-fits h = within-fits h tt
+
+pub add-is : {y z : ℤ} (r : ℤ) → Within limit y → Within limit z → r ≡ read y +ℤ read z → read r ≡ y +ℤ z
+add-is {y} {z} r h k e =
+    let g : r ≡ y +ℤ z = e ∙ ap (λ (t : ℤ). t +ℤ read z) (toZ-ofZ {w = w64} (small-fits h)) ∙ ap (λ (t : ℤ). y +ℤ t) (toZ-ofZ {w = w64} (small-fits k)) in
+    ap read g ∙ toZ-ofZ {w = w64} (within-fits (within-add h k) tt)
+
+pub sub-is : {y z : ℤ} (r : ℤ) → Within limit y → Within limit z → r ≡ read y -ℤ read z → read r ≡ y -ℤ z
+sub-is {y} {z} r h k e =
+    let g : r ≡ y -ℤ z = e ∙ ap (λ (t : ℤ). t -ℤ read z) (toZ-ofZ {w = w64} (small-fits h)) ∙ ap (λ (t : ℤ). y -ℤ t) (toZ-ofZ {w = w64} (small-fits k)) in
+    ap read g ∙ toZ-ofZ {w = w64} (within-fits (within-sub h k) tt)
+
+pub mul-is : {y z : ℤ} (r : ℤ) → Within limit y → Within limit z → r ≡ read y *ℤ read z → read r ≡ y *ℤ z
+mul-is {y} {z} r h k e =
+    let g : r ≡ y *ℤ z = e ∙ ap (λ (t : ℤ). t *ℤ read z) (toZ-ofZ {w = w64} (small-fits h)) ∙ ap (λ (t : ℤ). y *ℤ t) (toZ-ofZ {w = w64} (small-fits k)) in
+    ap read g ∙ toZ-ofZ {w = w64} (within-fits (within-mul h k) tt)
+
+pub cross-is : {p q s t : ℤ} (r : ℤ) → Within limit p → Within limit q → Within limit s → Within limit t → r ≡ read p *ℤ read q +ℤ read s *ℤ read t → read r ≡ p *ℤ q +ℤ s *ℤ t
+cross-is {p} {q} {s} {t} r hp hq hs ht e =
+    let g : r ≡ p *ℤ q +ℤ s *ℤ t =
+    e ∙ ap (λ (z : ℤ). z *ℤ read q +ℤ read s *ℤ read t) (toZ-ofZ {w = w64} (small-fits hp))
+    ∙ ap (λ (z : ℤ). p *ℤ z +ℤ read s *ℤ read t) (toZ-ofZ {w = w64} (small-fits hq))
+    ∙ ap (λ (z : ℤ). p *ℤ q +ℤ z *ℤ read t) (toZ-ofZ {w = w64} (small-fits hs))
+    ∙ ap (λ (z : ℤ). p *ℤ q +ℤ s *ℤ z) (toZ-ofZ {w = w64} (small-fits ht)) in
+    ap read g ∙ toZ-ofZ {w = w64} (within-fits (within-add (within-mul hp hq) (within-mul hs ht)) tt)
+
+pub within-opposite : {z : ℤ} → Within limit z → Within limit (pos 0 -ℤ z)
+within-opposite {z} h = subst (λ (y : ℤ). Within limit y) (sym (+ℤ-idl (negℤ z))) (within-neg h)
+
+pub opposite-is : {z : ℤ} (r : ℤ) → Within limit z → r ≡ pos 0 -ℤ read z → read r ≡ pos 0 -ℤ z
+opposite-is {z} r h e =
+    let g : r ≡ pos 0 -ℤ z = e ∙ ap (λ (t : ℤ). pos 0 -ℤ t) (toZ-ofZ {w = w64} (small-fits h)) in
+    ap read g ∙ toZ-ofZ {w = w64} (small-fits (within-opposite h))
+
+-- ---- tests joined by "and"
+
+pub and-last : {s t u : Bool} → s ≡ true → t ≡ u → t ≡ s && u
+and-last {s} {t} {u} e f = f ∙ sym (ap (λ (b : Bool). b && u) e)
+
+pub and-first : {s t : Bool} (u : Bool) → t ≡ s → t ≡ false → t ≡ s && u
+and-first {s} {t} u e f = f ∙ sym (ap (λ (b : Bool). b && u) (sym e ∙ f))
+
+both : (s t : Bool) → s && t ≡ true → (s ≡ true) × (t ≡ true)
+both true t e = (refl, e)
+both false t e = absurd (let z : _≡_ {A = ℕ} 0 1 = cc in omega arith)
+
+-- ---- forms
+
+pub form-is : {a a′ b b′ c c′ : ℤ} → a ≡ a′ → b ≡ b′ → c ≡ c′ → form a b c ≡ form a′ b′ c′
+form-is {a} {a′} {b} {b′} {c} {c′} p q r = ap (λ (x : ℤ). form x b c) p ∙ ap (λ (x : ℤ). form a′ x c) q ∙ ap (λ (x : ℤ). form a′ b′ x) r
+
+within-is : (z : ℤ) → inside limit z ≡ true → Within limit z
+within-is z e = record { small = leb-true (natAbs z) limit e }
+
+pub same-value : {e g r : Value} → e ≡ g → Valued e r → Valued g r
+same-value p h = record { same = h .same ∙ p; small = h .small }
+
+pub checked-form : {f g : Form} {r : Value} → f ≡ g → Valued (checked f) r → Valued (checked g) r
+checked-form p h = same-value (ap checked p) h
+
+pub checked-yes : (f : Form) {t : Bool} → t ≡ inside limit (f .a) && (inside limit (f .b) && inside limit (f .c)) → t ≡ true → Valued (checked f) (Linear f)
+unfolding checked
+checked-yes f e t =
+    let all = both (inside limit (f .a)) (inside limit (f .b) && inside limit (f .c)) (sym e ∙ t) in
+    let rest = both (inside limit (f .b)) (inside limit (f .c)) (all .1) in
+    record {
+      same = rw (sym e ∙ t);
+      small = record { a = within-is (f .a) (all .0); b = within-is (f .b) (rest .0); c = within-is (f .c) (rest .1) };
+    }
+
+pub checked-no : (f : Form) {t : Bool} → t ≡ inside limit (f .a) && (inside limit (f .b) && inside limit (f .c)) → t ≡ false → Valued (checked f) (Beyond 15)
+unfolding checked
+checked-no f e t = record { same = rw (sym e ∙ t); small = tt }
+
+pub numeral-yes : (n : ℕ) (z : ℤ) → n ≤ limit → z ≡ pos n → Valued (numeral n) (Linear (form (pos 0) (pos 0) z))
+unfolding numeral
+numeral-yes n z h e =
+    record {
+      same = rw (e, le-leb n limit h);
+      small = rw e (record { a = within-numeral tt; b = within-numeral tt; c = within-nat h });
+    }
+
+-- ---- values
+
+pub small-form : {v : Value} {f : Form} → Small v → v ≡ Linear f → SmallForm f
+small-form {v} {f} h e = subst Small e h
+
+pub small-forms : {v w : Value} {f g : Form} → Smalls v w → v ≡ Linear f → w ≡ Linear g → SmallForms f g
+small-forms h e k = record { left = small-form (h .left) e; right = small-form (h .right) k }
+
+module _ (op : Form → Form → Value) (v w : Value) where
+  pub left-refused : {n : ℕ} → v ≡ Beyond n → Valued (combine op v w) (Beyond n)
+  left-refused e = record { same = rw e; small = tt }
+
+  pub right-refused : {f : Form} {n : ℕ} → v ≡ Linear f → w ≡ Beyond n → Valued (combine op v w) (Beyond n)
+  right-refused e k = record { same = rw (e, k); small = tt }
+
+  pub both-forms : {f g : Form} {r : Value} → v ≡ Linear f → w ≡ Linear g → Valued (op f g) r → Valued (combine op v w) r
+  both-forms e k h = record { same = rw (e, k) (h .same); small = h .small }
+
+pub turned-small : {f g : Form} → SmallForm f → g ≡ negForm f → SmallForm g
+turned-small {f} h e =
+    subst SmallForm (sym e) (record { a = within-opposite (h .a); b = within-opposite (h .b); c = within-opposite (h .c) })
+
+abbrev writing : ℕ → ℤ → ℤ → ℤ → Written
+writing k a b c = record { kind = k; a = a; b = b; c = c }
+
+pub written-is : (k : ℕ) {a a′ b b′ c c′ : ℤ} → a ≡ a′ → b ≡ b′ → c ≡ c′ → _≡_ {A = Written} (record { kind = k; a = a; b = b; c = c }) (record { kind = k; a = a′; b = b′; c = c′ })
+written-is k {a} {a′} {b} {b′} {c} {c′} p q r =
+    ap (λ (x : ℤ). writing k x b c) p ∙ ap (λ (x : ℤ). writing k a′ x c) q ∙ ap (λ (x : ℤ). writing k a′ b′ x) r

@@ -1,0 +1,152 @@
+-- The whole text: the left side, the relation, the right side and the end, against the parser.
+use mathlib.Core.Path.{_≡_, refl, ap, sym, _∙_, subst}
+use mathlib.Core.Bool.{Bool, true, false}
+use mathlib.Core.List.{List, [], _∷_}
+use Prim.Native.Nat.{ℕ, suc, _+_, _*_, _-_, _≤_, _<_}
+use native.Mathlib.Omega.{arith}
+use lib.Dec.{ltb, eqb}
+use lib.ListN.{length, drop, length-drop, drop-of-length-le, getD}
+use borrow.Author.Tests.{ltb-true, ltb-false, ne-eqb}
+use Rattle.typed_rules.specs.declared.Value.{Value}
+use Rattle.typed_rules.specs.declared.Lexed.{Lexed}
+use Rattle.typed_rules.specs.declared.Step.{Step}
+use Rattle.typed_rules.specs.declared.Step.the-variants.{Got, Fail}
+use Rattle.typed_rules.specs.declared.Typed.{Typed}
+use Rattle.typed_rules.specs.declared.Typed.the-variants.{Refused}
+use Rattle.typed_rules.specs.Grammar.{Side, Relation, Rule, at-most, at-least}
+use Rattle.typed_rules.specs.Value.{conclude, kindOf, valueSide, valueRule}
+use Rattle.typed_rules.specs.Parser.{Parsed, fail, got, bind, pickParsed, first, tail, lead, skip, next, beyond, sideBy, sideOf, ended, rightOf, relationOf, parse, judged}
+use Rattle.typed_rules.specs.Contracts.{Skips, Lexes, valued, view, ReadsSide, JudgesRight, Judges}
+use Rattle.typed_rules.proofs.Bytes.{here}
+use Rattle.typed_rules.proofs.Reading.{inv-got, inv-fail}
+
+pub side-of : (text : List ℕ) (n : ℕ) (r : Step) → ReadsSide text n 8 r → valued valueSide (sideOf (drop n text)) ≡ view text r
+unfolding sideOf
+side-of text n r f = f .same (3 * length (drop n text) + 3) (omega (arith, length-drop n text))
+
+-- a byte that is not 0 stands in the text
+pub byte-inside : (s : List ℕ) (i b : ℕ) → first (drop i s) ≡ b → 0 < b → i < length s
+byte-inside s i b e h = go (ltb i (length s)) refl
+  where
+    go : (t : Bool) → ltb i (length s) ≡ t → i < length s
+    go true k = ltb-true i (length s) k
+    go false k = absurd (omega (arith, e, ap first (drop-of-length-le s (ltb-false i (length s) k))))
+
+pub after-byte : (s : List ℕ) (i : ℕ) → i < length s → drop (i + 1) s ≡ tail (drop i s)
+after-byte s i h = sym (ap tail (here s i h))
+
+abbrev pub rule : Side → ℕ → Relation → Side → ℕ → Rule
+rule a i k b j = record { left = a; gap = i; relation = k; right = b; end = j }
+
+module _ (a : Side) (i : ℕ) (k : Relation) (s : List ℕ) where
+  pub right-got : (b : Side) (q : List ℕ) → first s ≡ 61 → sideOf (tail s) ≡ got b q → rightOf a i k s ≡ ended (skip q) (rule a i k b (lead q))
+  unfolding rightOf
+  right-got b q e p = rw e (ap (λ (z : Parsed Side). bind z (λ b r. ended (skip r) (rule a i k b (lead r)))) p)
+
+  pub right-none : first s ≡ 61 → sideOf (tail s) ≡ fail → rightOf a i k s ≡ fail
+  unfolding rightOf
+  right-none e p = rw e (ap (λ (z : Parsed Side). bind z (λ b r. ended (skip r) (rule a i k b (lead r)))) p)
+
+  pub right-other : eqb (first s) 61 ≡ false → rightOf a i k s ≡ fail
+  unfolding rightOf
+  right-other e = rw e
+
+module _ (a : Side) (s : List ℕ) where
+  pub relation-most : next s ≡ 60 → relationOf a s ≡ rightOf a (lead s) at-most (beyond s)
+  unfolding relationOf
+  relation-most e = rw e
+
+  pub relation-least : next s ≡ 62 → relationOf a s ≡ rightOf a (lead s) at-least (beyond s)
+  unfolding relationOf
+  relation-least e = rw e
+
+  pub relation-other : eqb (next s) 60 ≡ false → eqb (next s) 62 ≡ false → relationOf a s ≡ fail
+  unfolding relationOf
+  relation-other e f = rw (e, f)
+
+module _ (text : List ℕ) (at kind : ℕ) (v : Value) where
+  equals : (b : ℕ) → b ≡ first (drop at text) → b ≡ 61 → first (drop at text) ≡ 61
+  equals b e f = sym e ∙ f
+
+  right-tail : first (drop at text) ≡ 61 → drop (at + 1) text ≡ tail (drop at text)
+  right-tail e = after-byte text at (byte-inside text at 61 e (omega arith))
+
+  pub right-more : (b : ℕ) (s : Step) (w : Value) (n e : ℕ) → b ≡ first (drop at text) → b ≡ 61 → s ≡ Got w n → ReadsSide text (at + 1) 8 s → Skips text n e → e < length text → JudgesRight text at kind v (Refused 13)
+  right-more b s w n e x y g f k h =
+      record {
+        same = λ a i r p q.
+            let z = inv-got valueSide (sideOf (drop (at + 1) text)) (side-of text (at + 1) s f ∙ ap (view text) g) in
+            sym
+            (ap judged
+            (right-got a i r (drop at text) (z .0) (drop n text) (equals b x y) (ap sideOf (sym (right-tail (equals b x y))) ∙ z .1)
+            ∙ ap (λ (l : List ℕ). ended l (rule a i r (z .0) (lead (drop n text)))) (sym (k .same) ∙ here text e h)));
+      }
+
+  pub right-ends : (b : ℕ) (s : Step) (w : Value) (n e : ℕ) (t : Typed) → b ≡ first (drop at text) → b ≡ 61 → s ≡ Got w n → ReadsSide text (at + 1) 8 s → Skips text n e → length text ≤ e → t ≡ conclude kind v w → JudgesRight text at kind v t
+  unfolding valueRule
+  right-ends b s w n e t x y g f k h c =
+      record {
+        same = λ a i r p q.
+            let z = inv-got valueSide (sideOf (drop (at + 1) text)) (side-of text (at + 1) s f ∙ ap (view text) g) in
+            c
+            ∙ ap (λ (m : ℕ). conclude m v w) (sym q)
+            ∙ ap (λ (u : Value). conclude (kindOf r) u w) (sym p)
+            ∙ ap (conclude (kindOf r) (valueSide a)) (sym (z .2))
+            ∙ sym
+            (ap judged
+            (right-got a i r (drop at text) (z .0) (drop n text) (equals b x y) (ap sideOf (sym (right-tail (equals b x y))) ∙ z .1)
+            ∙ ap (λ (l : List ℕ). ended l (rule a i r (z .0) (lead (drop n text)))) (sym (k .same) ∙ drop-of-length-le text h)));
+      }
+
+  pub right-fails : (b : ℕ) (s : Step) → b ≡ first (drop at text) → b ≡ 61 → s ≡ Fail → ReadsSide text (at + 1) 8 s → JudgesRight text at kind v (Refused 13)
+  right-fails b s x y g f =
+      record {
+        same = λ a i r p q.
+            let z = inv-fail valueSide (sideOf (drop (at + 1) text)) (side-of text (at + 1) s f ∙ ap (view text) g) in
+            sym (ap judged (right-none a i r (drop at text) (equals b x y) (ap sideOf (sym (right-tail (equals b x y))) ∙ z)));
+      }
+
+  pub right-no : (b : ℕ) → b ≡ first (drop at text) → (b ≡ 61 → ⊥) → JudgesRight text at kind v (Refused 13)
+  right-no b x y =
+      record {
+        same = λ a i r p q.
+            sym (ap judged (right-other a i r (drop at text) (ap (λ (z : ℕ). eqb z 61) (sym x) ∙ ne-eqb b 61 y)));
+      }
+
+module _ (text : List ℕ) (at : ℕ) (v : Value) (l : Lexed) (x : Lexes text at l) where
+  pub judges-most : (t : Typed) → l .byte ≡ 60 → JudgesRight text (l .next) 1 v t → Judges text at v t
+  judges-most t b j =
+      record {
+        same = λ a y.
+            j .same a (lead (drop at text)) at-most y refl
+            ∙ ap (λ (s : List ℕ). judged (rightOf a (lead (drop at text)) at-most s)) (x .goes-on)
+            ∙ sym (ap judged (relation-most a (drop at text) (sym (x .same) ∙ b)));
+      }
+
+  pub judges-least : (t : Typed) → l .byte ≡ 62 → JudgesRight text (l .next) 2 v t → Judges text at v t
+  judges-least t b j =
+      record {
+        same = λ a y.
+            j .same a (lead (drop at text)) at-least y refl
+            ∙ ap (λ (s : List ℕ). judged (rightOf a (lead (drop at text)) at-least s)) (x .goes-on)
+            ∙ sym (ap judged (relation-least a (drop at text) (sym (x .same) ∙ b)));
+      }
+
+  pub judges-other : (l .byte ≡ 60 → ⊥) → (l .byte ≡ 62 → ⊥) → Judges text at v (Refused 13)
+  judges-other b c =
+      record {
+        same = λ a y.
+            sym (ap judged (relation-other a (drop at text) (ap (λ (z : ℕ). eqb z 60) (sym (x .same)) ∙ ne-eqb (l .byte) 60 b) (ap (λ (z : ℕ). eqb z 62) (sym (x .same)) ∙ ne-eqb (l .byte) 62 c)));
+      }
+
+pub text-got : (text : List ℕ) (s : Step) (v : Value) (n : ℕ) (t : Typed) → s ≡ Got v n → ReadsSide text 0 8 s → Judges text n v t → t ≡ judged (parse text)
+unfolding parse
+text-got text s v n t g f j =
+    let z = inv-got valueSide (sideOf (drop 0 text)) (side-of text 0 s f ∙ ap (view text) g) in
+    j .same (z .0) (z .2) ∙ sym (ap (λ (p : Parsed Side). judged (bind p (λ a r. relationOf a r))) (z .1))
+
+pub text-fails : (text : List ℕ) (s : Step) → s ≡ Fail → ReadsSide text 0 8 s → Refused 13 ≡ judged (parse text)
+unfolding parse
+text-fails text s g f =
+    let z = inv-fail valueSide (sideOf (drop 0 text)) (side-of text 0 s f ∙ ap (view text) g) in
+    sym (ap (λ (p : Parsed Side). judged (bind p (λ a r. relationOf a r))) z)

@@ -1,0 +1,27 @@
+use borrow.Author.Tests.{le-leb, lt-leb}
+use Rattle.typed_rules.specs.Parser.{answer}
+use borrow.Author.Needs.{needs}
+use Rattle.typed_rules.proofs.read_rule.Statement.{statement}
+use Rattle.typed_rules.proofs.read_rule.Tie as tie
+use Rattle.typed_rules.proofs.read_rule.Reads as reads
+use Rattle.typed_rules.proofs.read_rule.Lts as lts
+use Rattle.typed_rules.proofs.readers.read_text.Reads as read-text-reads
+
+-- src/lib.rt:61:9
+read-text-requires : tie.Need-read-text-requires
+read-text-requires c κs = search needs
+
+-- src/lib.rt:57:1
+returns : tie.Need-returns
+unfolding answer
+returns c =
+    rw (le-leb _ 120 (c .before .if1 .taken)) (c .read-text .ensures)
+
+-- src/lib.rt:57:1
+returns-2 : tie.Need-returns-2
+unfolding answer
+returns-2 c =
+    rw (lt-leb _ 120 (c .if1 .left))
+
+pub read-rule-spec : {M : Type 1} → statement M
+read-rule-spec = tie.close (tie.spec read-text-requires returns returns-2)

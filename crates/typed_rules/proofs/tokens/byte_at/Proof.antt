@@ -1,0 +1,21 @@
+use Rattle.typed_rules.proofs.Bytes.{first-here, first-end}
+use borrow.Author.Needs.{needs}
+use Rattle.typed_rules.proofs.tokens.byte_at.Statement.{statement}
+use Rattle.typed_rules.proofs.tokens.byte_at.Tie as tie
+use Rattle.typed_rules.proofs.tokens.byte_at.Reads as reads
+use Rattle.typed_rules.proofs.tokens.byte_at.Lts as lts
+
+-- src/tokens.rt:21:26
+shared-slice-read-result : tie.Need-shared-slice-read-result
+shared-slice-read-result c = search needs
+
+-- src/tokens.rt:18:1
+returns : tie.Need-returns
+returns c = first-here _ (c .before .before .args .at) (c .before .if1 .taken)
+
+-- src/tokens.rt:18:1
+returns-2 : tie.Need-returns-2
+returns-2 c = first-end _ (c .before .args .at) (c .if1 .left)
+
+pub byte-at-spec : {M : Type 1} → statement M
+byte-at-spec = tie.close (tie.spec shared-slice-read-result returns returns-2)

@@ -1,0 +1,19 @@
+use mathlib.Core.Path.{_≡_, refl, ap, sym, _∙_}
+use lib.Dec.{leb}
+use borrow.Author.Tests.{le-leb, lt-leb}
+use Rattle.typed_rules.proofs.Values.{and-last, and-first}
+use Rattle.typed_rules.proofs.tokens.digit.Statement.{statement}
+use Rattle.typed_rules.proofs.tokens.digit.Tie as tie
+use Rattle.typed_rules.proofs.tokens.digit.Reads as reads
+use Rattle.typed_rules.proofs.tokens.digit.Lts as lts
+
+-- src/tokens.rt:11:1
+returns : tie.Need-returns
+returns c = and-last (le-leb 48 (c .before .args .b) (c .if1 .taken)) refl
+
+-- src/tokens.rt:11:1
+returns-2 : tie.Need-returns-2
+returns-2 c = and-first (leb (c .before .args .b) 57) refl (lt-leb 48 (c .before .args .b) (c .if1 .left))
+
+pub digit-spec : {M : Type 1} → statement M
+digit-spec = tie.close (tie.spec returns returns-2)

@@ -1,0 +1,30 @@
+use Rattle.typed_rules.proofs.Bytes.{lex-here, lex-end}
+use borrow.Author.Needs.{needs}
+use Rattle.typed_rules.proofs.tokens.lex.Statement.{statement}
+use Rattle.typed_rules.proofs.tokens.lex.Tie as tie
+use Rattle.typed_rules.proofs.tokens.lex.Reads as reads
+use Rattle.typed_rules.proofs.tokens.lex.Lts as lts
+use Rattle.typed_rules.proofs.tokens.skip.Reads as skip-reads
+
+-- src/tokens.rt:45:9
+skip-requires : tie.Need-skip-requires
+skip-requires c κs = search needs
+
+-- src/tokens.rt:48:19
+shared-slice-read-t8 : tie.Need-shared-slice-read-t8
+shared-slice-read-t8 c = search needs
+
+-- src/tokens.rt:50:19
+add-t9 : tie.Need-add-t9
+add-t9 c = search needs
+
+-- src/tokens.rt:41:1
+returns : tie.Need-returns
+returns c = lex-here _ (c .before .before .before .before .args .at) (c .before .before .skip .result) (c .before .if1 .taken) (c .before .before .skip .ensures)
+
+-- src/tokens.rt:41:1
+returns-2 : tie.Need-returns-2
+returns-2 c = lex-end _ (c .before .before .before .args .at) (c .before .skip .result) (c .if1 .left) (c .before .skip .ensures)
+
+pub lex-spec : {M : Type 1} → statement M
+lex-spec = tie.close (tie.spec skip-requires shared-slice-read-t8 add-t9 returns returns-2)

@@ -1,0 +1,167 @@
+-- What the private functions promise. A place in the text stands for the text from there on.
+use mathlib.Core.Path.{_≡_}
+use mathlib.Core.Bool.{Bool, true, false}
+use mathlib.Core.List.{List, [], _∷_}
+use Prim.Native.Nat.{ℕ, suc, _+_, _*_, _-_, _≤_, _<_}
+use lib.Dec.{leb, eqb}
+use lib.IntN.{ℤ}
+use lib.ListN.{length, drop}
+use Rattle.ints.specs.Within.{Within}
+use Rattle.typed_rules.specs.declared.Form.{Form}
+use Rattle.typed_rules.specs.declared.Value.{Value}
+use Rattle.typed_rules.specs.declared.Value.the-variants.{Linear, Beyond}
+use Rattle.typed_rules.specs.declared.Lexed.{Lexed}
+use Rattle.typed_rules.specs.declared.Digits.{Digits}
+use Rattle.typed_rules.specs.declared.Step.{Step}
+use Rattle.typed_rules.specs.declared.Step.the-variants.{Got, Fail}
+use Rattle.typed_rules.specs.declared.Typed.{Typed}
+use Rattle.typed_rules.specs.Grammar.{Term, Side, Relation}
+use Rattle.typed_rules.specs.Value.{limit, decimal, numeral, negated, valueFactor, valueTerm, valueSide, kindOf}
+use Rattle.typed_rules.specs.Parser.{Parsed, fail, got, first, tail, skip, run, past, next, beyond, bind, pickParsed, numberAt, factorBy, termBy, moreFactors, sideBy, moreTerms, relationOf, rightOf, judged}
+
+-- ---- numbers
+
+-- a form whose numbers are at most 1,000,000,000 either way
+pub record SmallForm (f : Form) : Type 0 where
+  pub a : Within limit (f .a)
+  pub b : Within limit (f .b)
+  pub c : Within limit (f .c)
+
+abbrev pub Small : Value → Type 0
+Small (Linear f) = SmallForm f
+Small (Beyond n) = Unit {0}
+
+pub record SmallForms (f g : Form) : Type 0 where
+  pub left : SmallForm f
+  pub right : SmallForm g
+
+pub record Smalls (v w : Value) : Type 0 where
+  pub left : Small v
+  pub right : Small w
+
+pub record SmallPair (y z : ℤ) : Type 0 where
+  pub left : Within limit y
+  pub right : Within limit z
+
+pub record SmallFour (p q s t : ℤ) : Type 0 where
+  pub p-small : Within limit p
+  pub q-small : Within limit q
+  pub s-small : Within limit s
+  pub t-small : Within limit t
+
+-- a value as said, and small
+pub record Valued (expected result : Value) : Type 0 where
+  pub same : result ≡ expected
+  pub small : Small result
+
+-- ---- bytes
+
+pub record Skips (text : List ℕ) (at r : ℕ) : Type 0 where
+  pub same : drop r text ≡ skip (drop at text)
+  pub low : at ≤ r
+  pub high : r ≤ length text
+
+pub record Lexes (text : List ℕ) (at : ℕ) (r : Lexed) : Type 0 where
+  pub same : r .byte ≡ next (drop at text)
+  pub begins : drop (r .start) text ≡ skip (drop at text)
+  pub goes-on : drop (r .next) text ≡ beyond (drop at text)
+  pub low : at ≤ r .start
+  pub middle : r .start ≤ r .next
+  pub high : r .next ≤ length text
+  pub falls : 0 < r .byte → at < r .next
+
+pub record Runs (text : List ℕ) (at : ℕ) (r : Digits) : Type 0 where
+  pub same : numeral (r .number) ≡ numeral (decimal 0 (run (drop at text)))
+  pub goes-on : drop (r .end) text ≡ past (drop at text)
+  pub count : r .end ≡ at + length (run (drop at text))
+  pub high : r .end ≤ length text
+
+-- ---- readers
+
+abbrev pub valued : {A : Type 0} → (A → Value) → Parsed A → Parsed Value
+valued v fail = fail
+valued v (got a r) = got (v a) r
+
+-- what a step says of the text
+abbrev pub view : List ℕ → Step → Parsed Value
+view text (Got v n) = got v (drop n text)
+view text Fail = fail
+
+pub record Reached (text : List ℕ) (from : ℕ) (v : Value) (n : ℕ) : Type 0 where
+  pub small : Small v
+  pub low : from ≤ n
+  pub high : n ≤ length text
+
+abbrev pub Moved : List ℕ → ℕ → Step → Type 0
+Moved text low (Got v n) = Reached text low v n
+Moved text low Fail = Unit {0}
+
+-- three units of fuel for each byte that is left, and so many more, are enough
+abbrev pub Enough : List ℕ → ℕ → ℕ → ℕ → Type 0
+Enough text at more k = 3 * (length text - at) + more < k
+
+pub record ReadsFactor (text : List ℕ) (at depth : ℕ) (r : Step) : Type 0 where
+  pub same : (k : ℕ) → Enough text at 0 k → valued valueFactor (factorBy k depth (drop at text)) ≡ view text r
+  pub moved : Moved text (suc at) r
+
+pub record ReadsTerm (text : List ℕ) (at depth : ℕ) (r : Step) : Type 0 where
+  pub same : (k : ℕ) → Enough text at 1 k → valued valueTerm (termBy k depth (drop at text)) ≡ view text r
+  pub moved : Moved text (suc at) r
+
+pub record ReadsSide (text : List ℕ) (at depth : ℕ) (r : Step) : Type 0 where
+  pub same : (k : ℕ) → Enough text at 2 k → valued valueSide (sideBy k depth (drop at text)) ≡ view text r
+  pub moved : Moved text (suc at) r
+
+-- after a term or side whose value is v
+pub record Follows (text : List ℕ) (at : ℕ) (v : Value) : Type 0 where
+  pub high : at ≤ length text
+  pub small : Small v
+
+pub record ReadsFactors (text : List ℕ) (at depth : ℕ) (v : Value) (r : Step) : Type 0 where
+  pub same : (k : ℕ) → Enough text at 0 k → (t : Term) → valueTerm t ≡ v → valued valueTerm (moreFactors k depth t (drop at text)) ≡ view text r
+  pub moved : Moved text at r
+
+pub record ReadsTerms (text : List ℕ) (at depth : ℕ) (v : Value) (r : Step) : Type 0 where
+  pub same : (k : ℕ) → Enough text at 0 k → (a : Side) → valueSide a ≡ v → valued valueSide (moreTerms k depth a (drop at text)) ≡ view text r
+  pub moved : Moved text at r
+
+-- ---- parts of the readers
+
+-- a number that begins right here
+pub record ReadsNumber (text : List ℕ) (at : ℕ) (r : Step) : Type 0 where
+  pub same : (i : ℕ) → valued valueFactor (numberAt i (drop at text)) ≡ view text r
+  pub moved : Moved text (at + length (run (drop at text))) r
+
+abbrev pub SmallStep : Step → Type 0
+SmallStep (Got v n) = Small v
+SmallStep Fail = Unit {0}
+
+abbrev pub turnedOf : Step → Step
+turnedOf (Got v n) = Got (negated v) n
+turnedOf Fail = Fail
+
+abbrev pub Placed : List ℕ → Step → Type 0
+Placed text (Got v n) = n ≤ length text
+Placed text Fail = Unit {0}
+
+-- the text after a parenthesis that must come next
+abbrev pub closing : Parsed Value → Parsed Value
+closing p = bind p (λ v r. pickParsed (eqb (next r) 41) (got v (beyond r)) fail)
+
+abbrev pub Onward : Step → Step → ℕ → Type 0
+Onward (Got v n) (Got w m) len = (w ≡ v) × (n < m) × (m ≤ len)
+Onward (Got v n) Fail len = Unit {0}
+Onward Fail (Got w m) len = ⊥
+Onward Fail Fail len = Unit {0}
+
+pub record Closes (text : List ℕ) (s r : Step) : Type 0 where
+  pub same : closing (view text s) ≡ view text r
+  pub onward : Onward s r (length text)
+
+-- ---- the whole text
+
+pub record JudgesRight (text : List ℕ) (at kind : ℕ) (v : Value) (r : Typed) : Type 0 where
+  pub same : (a : Side) (i : ℕ) (k : Relation) → valueSide a ≡ v → kindOf k ≡ kind → r ≡ judged (rightOf a i k (drop at text))
+
+pub record Judges (text : List ℕ) (at : ℕ) (v : Value) (r : Typed) : Type 0 where
+  pub same : (a : Side) → valueSide a ≡ v → r ≡ judged (relationOf a (drop at text))

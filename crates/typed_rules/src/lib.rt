@@ -1,0 +1,65 @@
+// A rule typed as text, read by the language of document 02, #103. Every function that can be called from outside is total: it takes any bytes and answers.
+mod arith;
+mod readers;
+mod tokens;
+
+use readers::read_text;
+ghost use mathlib.Core.Path.{_≡_};
+ghost use Rattle.typed_rules.specs.Parser.{answer};
+
+// What a side comes to: a·x + b·y + c.
+pub struct Form {
+    pub a: i64,
+    pub b: i64,
+    pub c: i64,
+}
+
+// The value of a part of a text: a form, or the refusal of the first number or operation concerned.
+pub enum Value {
+    Linear(Form),
+    Beyond(usize),
+}
+
+// The first byte that is no space, or 0 at the end; where it stands, and where the text goes on after it.
+pub struct Lexed {
+    pub byte: u8,
+    pub start: usize,
+    pub next: usize,
+}
+
+// A run of digits: its number, or some number beyond the limit, and where it ends.
+pub struct Digits {
+    pub number: usize,
+    pub end: usize,
+}
+
+// What a reader found: a value and where the text goes on, or nothing of the language.
+pub enum Step {
+    Got(Value, usize),
+    Fail,
+}
+
+// A rule as written, kind 2 not turned round.
+pub struct Written {
+    pub kind: usize,
+    pub a: i64,
+    pub b: i64,
+    pub c: i64,
+}
+
+// What a text reads as.
+pub enum Typed {
+    Rule(Written),
+    Refused(usize),
+}
+
+// What a text reads as: the rule, or the number of the refusal.
+pub fn read_rule(text: &[u8]) -> Typed
+    ensures { λ r. ⌜ r ≡ answer (now (text .entry)) ⌝ }
+{
+    if text.len() <= 120 {
+        read_text(text)
+    } else {
+        Typed::Refused(13)
+    }
+}
