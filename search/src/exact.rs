@@ -54,6 +54,12 @@ pub fn outcome(p: i128, q: i128, rules: &[Line]) -> Outcome {
     Outcome::Best(reduced(best.unwrap()))
 }
 
+/// The start pair: the first corner by least x, then least y.
+pub fn start(rules: &[Line]) -> Option<Pair> {
+    let entries: Vec<Line> = FLOORS.iter().chain(rules).copied().collect();
+    corners(&entries).iter().min_by(|v, w| by_place(v, w)).map(reduced)
+}
+
 /// Every pair where two entries meet and that keeps all entries.
 fn corners(entries: &[Line]) -> Vec<Pair> {
     let mut found = Vec::new();

@@ -15,4 +15,6 @@ pub mod program;
 pub mod random;
 pub mod read;
 pub mod runs;
+#[cfg(not(feature = "standin"))]
+pub mod starts;
 pub mod stored;

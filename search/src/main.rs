@@ -1,5 +1,5 @@
 //! `search` plans stored and random books, judges each line and ends with one summary line; a mismatch prints the book in hexadecimal with
-//! both lines and fails. The environment's SEED repeats a run; SHORT, LONG, DAMAGED, ORDERS and PANELS say how many books.
+//! both lines and fails. The environment's SEED repeats a run; SHORT, LONG, DAMAGED, ORDERS, PANELS and STARTS say how many books.
 //! `search program PATH` runs the plan program on stored and some random books.
 //! `search panel PATH` runs the panel program likewise.
 //! `search look` reads books in hexadecimal, one a line, and prints for each the right line, the planner's and the verdict.
@@ -45,9 +45,10 @@ fn run(seed: u64) -> Result<(), String> {
     let damaged = timed("DAMAGED", 20_000, |n| damaged_books(&mut tally, seed ^ 1 << 62, n))?;
     let shuffled = timed("ORDERS", 1_000, |n| orders(seed ^ 1 << 63, n))?;
     let panels = timed("PANELS", 20_000, |n| panel::panels(seed ^ 1 << 60, n))?;
+    let starts = timed("STARTS", 20_000, |n| starts(seed ^ 1 << 61, n))?;
     println!(
         "search: all right: {stored} stored books, {short} of 0 to 12 rules, {long} of 0 to 255, {damaged} damaged ({tally}), \
-         {shuffled} in ten orders, {panels} panels; SEED={seed}"
+         {shuffled} in ten orders, {panels} panels, {starts} start pairs; SEED={seed}"
     );
     Ok(())
 }
@@ -60,6 +61,14 @@ fn run_program(path: &str, seed: u64) -> Result<(), String> {
 fn run_panel(path: &str, seed: u64) -> Result<(), String> {
     println!("search: all right: {} books through the panel program", panel::program(path, seed)?);
     Ok(())
+}
+
+/// The start pair after every prefix. The twin has no such view.
+#[cfg(not(feature = "standin"))]
+use search::starts::starts;
+#[cfg(feature = "standin")]
+fn starts(_seed: u64, _books: u64) -> Result<u64, String> {
+    Ok(0)
 }
 
 /// A number from the environment.

@@ -9,6 +9,7 @@ mod linked {
     extern "C" {
         fn vishalneq_plan_line(book: *const u8, book_len: usize, out: *mut u8, out_len: usize) -> usize;
         fn vishalneq_panel_lines(book: *const u8, book_len: usize, out: *mut u8, out_len: usize) -> usize;
+        fn vishalneq_start_after(book: *const u8, book_len: usize, prefix: usize, out: *mut i64, out_len: usize) -> usize;
     }
 
     pub fn plan_line(book: &[u8], out: &mut [u8]) -> usize {
@@ -19,6 +20,39 @@ mod linked {
     pub fn panel_lines(book: &[u8], out: &mut [u8]) -> usize {
         // SAFETY: as above.
         unsafe { vishalneq_panel_lines(book.as_ptr(), book.len(), out.as_mut_ptr(), out.len()) }
+    }
+
+    pub fn view(book: &[u8], prefix: usize, out: &mut [i64]) -> usize {
+        // SAFETY: as above.
+        unsafe { vishalneq_start_after(book.as_ptr(), book.len(), prefix, out.as_mut_ptr(), out.len()) }
+    }
+}
+
+/// What is seen of the start pair after a prefix: the pair or none, and how many rules broke it.
+#[cfg(not(feature = "standin"))]
+#[derive(Debug, PartialEq)]
+pub struct Seen {
+    pub start: Option<crate::exact::Pair>,
+    pub count: u64,
+}
+
+/// The planner's view. The fourth number must stay as it was, and a buffer of two numbers too.
+#[cfg(not(feature = "standin"))]
+pub fn start_after(book: &[u8], prefix: usize) -> Result<Seen, String> {
+    let (mut out, mut short) = ([0x5A5A; 4], [0x5A5A; 2]);
+    let count = linked::view(book, prefix, &mut out) as u64;
+    let [x, y, d, rest] = out;
+    if rest != 0x5A5A {
+        return Err("a number after the pair was changed".into());
+    }
+    if linked::view(book, prefix, &mut short) as u64 != count || short != [0x5A5A; 2] {
+        return Err("a short buffer was changed, or had another count".into());
+    }
+    let [x, y, d] = [x, y, d].map(i128::from);
+    match d {
+        0 if (x, y) == (0, 0) => Ok(Seen { start: None, count }),
+        0 => Err("a pair without a denominator".into()),
+        _ => Ok(Seen { start: Some(crate::exact::Pair { x, y, d }), count }),
     }
 }
 

@@ -10,6 +10,7 @@ use Rattle.lp.specs.Outcome.{every}
 use Rattle.lp.specs.Document.{Example, holds}
 use Rattle.lp.specs.Slack.{slackOf}
 use Rattle.lp.specs.Examples.{classExamples, slips, Slack, slacks}
+use Rattle.lp.specs.Starts.{chains, starts}
 
 pub class-examples-hold : T (every holds classExamples)
 unfolding gcd
@@ -22,6 +23,11 @@ slips-hold = tt
 pub slacks-hold : map (λ (e : Slack). slackOf (e .rule) (e .at)) slacks ≡ map (λ (e : Slack). e .left) slacks
 unfolding gcd
 slacks-hold = refl
+
+-- the start pair and its count
+pub chains-start : T (every starts chains)
+unfolding gcd
+chains-start = tt
 
 -- what holds of a table holds of its rows
 at-row : (test : Example → Bool) (table : List Example) → T (every test table) → (e : Example) → List·Memᴰ e table → T (test e)

@@ -1,10 +1,12 @@
--- What a reader must believe of linear programs: the words (Program), amounts of slack (Slack), the textbook's meaning (Textbook), the same as something to compute (Outcome,
--- Prefixes), witnesses (Certificate), and document 01's own values and examples (Document).
+-- What a reader must believe of linear programs: the words (Program), amounts of slack (Slack), the textbook's meaning (Textbook), the same as something to
+-- compute (Outcome, Prefixes, Start), witnesses (Certificate), and document 01's own values and examples (Document, Examples, Starts).
 pub mod Program
 pub mod Slack
 pub mod Textbook
 pub mod Outcome
 pub mod Prefixes
+pub mod Start
 pub mod Certificate
 pub mod Document
+pub mod Starts
 pub mod Examples

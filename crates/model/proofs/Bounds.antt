@@ -2,7 +2,7 @@
 -- constraints is within them as it is made, and reducing makes nothing larger. `slack-small` then says that no sum of a·X + b·Y − c·D leaves 64 bits.
 use mathlib.Core.Path.{_≡_, refl}
 use mathlib.Core.List.{List, [], _∷_, _++_, List·Memᴰ, List·Memᴰ·head, List·Memᴰ·tail}
-use mathlib.Core.Bool.{Bool, true, false, _&&_}
+use mathlib.Core.Bool.{Bool, true, false, not, _&&_}
 use Prim.Native.Nat.{ℕ, suc, _+_, _≤_}
 use native.Mathlib.Omega.{arith}
 use native.Mathlib.Nat.{zero-add, add-zero}
@@ -244,25 +244,38 @@ module _ (t : Tie) (f : Functional) (S : List Constraint) (ss : SmallSystem S) (
   pub step-small : (k : ℕ) (w : Walk) → SmallWalk k w → SmallWalk (suc k) (step t f S n h w)
   step-small k w sw = from (w .state) (sw .state-small)
     where
-      later : (s : State) (sst : SmallState s) (b : Best) → SmallWalk (suc k) (record { state = s; moves = w .moves + one-if (breaks h b); opened = w .opened })
-      later s sst b = record { state-small = sst; moves-small = one-more (breaks h b) (sw .moves-small); opened-small = omega (arith, sw .opened-small) }
+      later : (s : State) (sst : SmallState s) (b : Best) (u : Bool) → SmallWalk (suc k) (record { state = s; moves = w .moves + one-if (breaks h b); opened = w .opened; restarts = w .restarts + one-if u })
+      later s sst b u =
+          record {
+            state-small = sst;
+            moves-small = one-more (breaks h b) (sw .moves-small);
+            opened-small = omega (arith, sw .opened-small);
+            restarts-small = one-more u (sw .restarts-small);
+          }
 
-      settle : (cone : Cone) → SmallCone cone → (b : Best) → SmallBest b → (r : Restart) → SmallRestart r → SmallWalk (suc k) (settled t f S n h cone b (w .moves) (w .opened) r)
-      settle cone sc b sb (Moved s) sr =
+      settle : (cone : Cone) → SmallCone cone → (b : Best) → SmallBest b → (u : Bool) (r : Restart) → SmallRestart r → SmallWalk (suc k) (settled t f S n h cone b (w .moves) (w .opened) (w .restarts + one-if u) r)
+      settle cone sc b sb u (Moved s) sr =
           record {
             state-small = (sr, narrow-small sh cone sc, improved-small S ss sh (gainOrder f t) f (narrow h cone) b sb);
             moves-small = one-more (breaks h b) (sw .moves-small);
             opened-small = one-more (isOpen (improved (gainOrder f t) f S h (narrow h cone) b)) (sw .opened-small);
+            restarts-small = one-more u (sw .restarts-small);
           }
-      settle cone sc b sb (Failed c) sr = later (Ended _ c) sr b
+      settle cone sc b sb u (Failed c) sr = later (Ended _ c) sr b u
 
       restarted : (s : Point) → SmallPoint s → (u : Bool) → SmallRestart (elim u [ true ↦ Moved s | false ↦ restart t S n h ])
       restarted s sp true = sp
       restarted s sp false = restart-small S ss sh t n
 
-      from : (s : State) → SmallState s → SmallWalk (suc k) (stepped t f S n h (w .moves) (w .opened) s)
-      from (Ended p c) sst = record { state-small = sst; moves-small = omega (arith, sw .moves-small); opened-small = omega (arith, sw .opened-small) }
-      from (Going s cone b) sst = settle cone (sst .1) b (sst .2) (elim (keeps h s) [ true ↦ Moved s | false ↦ restart t S n h ]) (restarted s (sst .0) (keeps h s))
+      from : (s : State) → SmallState s → SmallWalk (suc k) (stepped t f S n h (w .moves) (w .opened) (w .restarts) s)
+      from (Ended p c) sst =
+          record {
+            state-small = sst;
+            moves-small = omega (arith, sw .moves-small);
+            opened-small = omega (arith, sw .opened-small);
+            restarts-small = omega (arith, sw .restarts-small);
+          }
+      from (Going s cone b) sst = settle cone (sst .1) b (sst .2) (not (keeps h s)) (elim (keeps h s) [ true ↦ Moved s | false ↦ restart t S n h ]) (restarted s (sst .0) (keeps h s))
 
 pub corner-small : {floors : Floors} → SmallFloors floors → SmallPoint (point (floors .lx) (floors .ly) (pos 1))
 corner-small h =
@@ -274,9 +287,11 @@ axes-small = (record { dx-small = within-numeral tt; dy-small = within-numeral t
 pub begin-small : (floors : Floors) → SmallFloors floors → (f : Functional) → SmallWalk 0 (begin floors f)
 begin-small floors h f = go (gaining f (Wedge (ray (pos 1) (pos 0)) (ray (pos 0) (pos 1))))
   where
-    go : (g : Gain) → SmallWalk 0 (going (point (floors .lx) (floors .ly) (pos 1)) (Wedge (ray (pos 1) (pos 0)) (ray (pos 0) (pos 1))) (opening f (point (floors .lx) (floors .ly) (pos 1)) (Wedge (ray (pos 1) (pos 0)) (ray (pos 0) (pos 1))) g) 0 0)
-    go (gain.Along d) = record { state-small = (corner-small h, axes-small, tt); moves-small = omega arith; opened-small = omega arith }
-    go gain.Nowhere = record { state-small = (corner-small h, axes-small, corner-small h); moves-small = omega arith; opened-small = omega arith }
+    go : (g : Gain) → SmallWalk 0 (going (point (floors .lx) (floors .ly) (pos 1)) (Wedge (ray (pos 1) (pos 0)) (ray (pos 0) (pos 1))) (opening f (point (floors .lx) (floors .ly) (pos 1)) (Wedge (ray (pos 1) (pos 0)) (ray (pos 0) (pos 1))) g) 0 0 0)
+    go (gain.Along d) =
+        record { state-small = (corner-small h, axes-small, tt); moves-small = omega arith; opened-small = omega arith; restarts-small = omega arith }
+    go gain.Nowhere =
+        record { state-small = (corner-small h, axes-small, corner-small h); moves-small = omega arith; opened-small = omega arith; restarts-small = omega arith }
 
 pub small-append : (S : List Constraint) → SmallSystem S → {h : Constraint} → SmallConstraint h → SmallSystem (S ++ (h ∷ []))
 small-append [] ss sh = (sh, tt)
@@ -290,7 +305,7 @@ walkFrom-small t f S ss n (h ∷ rest) sr k w sw =
     shift : (k m : ℕ) → suc m + k ≡ m + suc k
     shift k m = omega arith
 
--- document 01's bounds, with moves at most n and open at most n + 1, for every chain of lawful rules
+-- document 01's bounds, with moves and restarts at most n and open at most n + 1, for every chain of lawful rules
 pub walk-small : (t : Tie) (floors : Floors) → SmallFloors floors → (f : Functional) (rules : List Constraint) → SmallSystem rules → SmallWalk (length rules) (walk t floors f rules)
 walk-small t floors h f rules sr =
     rw (← add-zero (length rules)) (walkFrom-small t f (system floors []) (floorX-small h, (floorY-small h, tt)) 2 rules sr 0 (begin floors f) (begin-small floors h f))

@@ -9,10 +9,14 @@ use Rattle.lp.specs.Outcome.{every}
 use Rattle.lp.specs.Certificate.{named, certifies}
 use Rattle.lp.specs.Document.{Example, leastXThenY, zeroFloors, sameOutcome}
 use Rattle.lp.specs.Examples.{classExamples, slips}
+use Rattle.lp.specs.Starts.{Chain, chains, saidOf}
 use Rattle.model.specs.declared.State.{State}
 use Rattle.model.specs.declared.State.the-variants.{Ended, Going}
 use Rattle.model.specs.declared.Walk.{Walk}
-use Rattle.model.specs.Step.{walk, said, placeOf}
+use Rattle.lp.specs.declared.Functional.{Functional}
+use Rattle.lp.specs.Program.{functional}
+use lib.IntN.{pos}
+use Rattle.model.specs.Step.{walk, said, placeOf, startHeld}
 
 abbrev witnessed : Example → State → Bool
 witnessed e (Ended p c) = certifies (system zeroFloors (take p (e .rules))) (named c)
@@ -36,3 +40,11 @@ class-examples-walk = tt
 pub slips-walk : T (every walks slips)
 unfolding gcd
 slips-walk = tt
+
+-- the start pair and its count, whatever the objective
+abbrev startsBy : Functional → Chain → Bool
+startsBy f c = saidOf c (startHeld (walk leastXThenY zeroFloors f (c .rules) .state)) (walk leastXThenY zeroFloors f (c .rules) .restarts)
+
+pub chains-start : T (every (startsBy (functional (pos 0) (pos 0))) chains && every (startsBy (functional (pos 1) (pos 1))) chains)
+unfolding gcd
+chains-start = tt

@@ -98,8 +98,9 @@ abbrev pub SmallState : State → Type 0
 SmallState (Ended p k) = SmallCertificate k
 SmallState (Going s cone b) = SmallPoint s × SmallCone cone × SmallBest b
 
--- after n rules: moves never exceed n, nor open n + 1
+-- after n rules: moves and restarts never exceed n, nor open n + 1
 pub record SmallWalk (n : ℕ) (w : Walk) : Type 0 where
   pub state-small : SmallState (w .state)
   pub moves-small : w .moves ≤ n
   pub opened-small : w .opened ≤ suc n
+  pub restarts-small : w .restarts ≤ n

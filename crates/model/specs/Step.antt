@@ -1,7 +1,7 @@
 -- The step: what the walk holds after one more constraint h. S is the system so far, n its length, and so h's index. At most three passes over S are made,
 -- and none where nothing is broken.
 use mathlib.Core.List.{List, [], _∷_, _++_}
-use mathlib.Core.Bool.{Bool, true, false, _&&_}
+use mathlib.Core.Bool.{Bool, true, false, not, _&&_}
 use Prim.Native.Nat.{ℕ, suc, _+_, _-_}
 use lib.IntN.{ℤ, pos, negℤ}
 use lib.Signed.{leZ, ltZ}
@@ -18,6 +18,7 @@ use Rattle.lp.specs.Program.{point, ray, along, rise, system}
 use Rattle.lp.specs.Outcome.{above, det, keeps, reduce, reduceRay, tieOrder, gainOrder}
 use Rattle.lp.specs.Certificate.{isZero}
 use Rattle.lp.specs.Prefixes.{one-if}
+use Rattle.lp.specs.Start.{Start, none, at}
 use Rattle.model.specs.declared.Found.{Found}
 use Rattle.model.specs.declared.Found.the-variants as found
 use Rattle.model.specs.declared.Broken.{Broken}
@@ -120,22 +121,27 @@ abbrev pub breaks : Constraint → Best → Bool
 breaks h best.Open = false
 breaks h (best.At v) = elim (keeps h v) [ true ↦ false | false ↦ true ]
 
-abbrev pub going : Point → Cone → Best → ℕ → ℕ → Walk
-going s cone b moves opened = record { state = Going s cone b; moves = moves; opened = opened + one-if (isOpen b) }
+abbrev pub going : Point → Cone → Best → ℕ → ℕ → ℕ → Walk
+going s cone b moves opened restarts = record { state = Going s cone b; moves = moves; opened = opened + one-if (isOpen b); restarts = restarts }
 
 -- with the start point kept, moved or lost
-abbrev pub settled : Tie → Functional → List Constraint → ℕ → Constraint → Cone → Best → ℕ → ℕ → Restart → Walk
-settled t f S n h cone b moves opened (Moved s) =
-    let wedge = narrow h cone in going s wedge (improved (gainOrder f t) f S h wedge b) (moves + one-if (breaks h b)) opened
-settled t f S n h cone b moves opened (Failed c) = record { state = Ended (n - 1) c; moves = moves + one-if (breaks h b); opened = opened }
+abbrev pub settled : Tie → Functional → List Constraint → ℕ → Constraint → Cone → Best → ℕ → ℕ → ℕ → Restart → Walk
+settled t f S n h cone b moves opened restarts (Moved s) =
+    let wedge = narrow h cone in going s wedge (improved (gainOrder f t) f S h wedge b) (moves + one-if (breaks h b)) opened restarts
+settled t f S n h cone b moves opened restarts (Failed c) =
+    record { state = Ended (n - 1) c; moves = moves + one-if (breaks h b); opened = opened; restarts = restarts }
 
-abbrev pub stepped : Tie → Functional → List Constraint → ℕ → Constraint → ℕ → ℕ → State → Walk
-stepped t f S n h moves opened (Ended p c) = record { state = Ended p c; moves = moves; opened = opened }
-stepped t f S n h moves opened (Going s cone b) =
-    settled t f S n h cone b moves opened (elim (keeps h s) [ true ↦ Moved s | false ↦ restart t S n h ])
+-- one more, if the start point s does not keep h
+abbrev pub recounted : ℕ → Constraint → Point → ℕ
+recounted restarts h s = restarts + one-if (not (keeps h s))
+
+abbrev pub stepped : Tie → Functional → List Constraint → ℕ → Constraint → ℕ → ℕ → ℕ → State → Walk
+stepped t f S n h moves opened restarts (Ended p c) = record { state = Ended p c; moves = moves; opened = opened; restarts = restarts }
+stepped t f S n h moves opened restarts (Going s cone b) =
+    settled t f S n h cone b moves opened (recounted restarts h s) (elim (keeps h s) [ true ↦ Moved s | false ↦ restart t S n h ])
 
 abbrev pub step : Tie → Functional → List Constraint → ℕ → Constraint → Walk → Walk
-step t f S n h w = stepped t f S n h (w .moves) (w .opened) (w .state)
+step t f S n h w = stepped t f S n h (w .moves) (w .opened) (w .restarts) (w .state)
 
 -- before the first rule: the floors' corner, and the two axes
 abbrev pub opening : Functional → Point → Cone → Gain → Best
@@ -146,7 +152,7 @@ abbrev pub begin : Floors → Functional → Walk
 begin floors f =
     let s = point (floors .lx) (floors .ly) (pos 1) in
     let cone = Wedge (ray (pos 1) (pos 0)) (ray (pos 0) (pos 1)) in
-    going s cone (opening f s cone (gaining f cone)) 0 0
+    going s cone (opening f s cone (gaining f cone)) 0 0 0
 
 abbrev pub walkFrom : Tie → Functional → List Constraint → ℕ → List Constraint → Walk → Walk
 walkFrom t f S n [] w = w
@@ -170,3 +176,8 @@ said f (Going s cone (best.At v)) = Optimal v
 abbrev pub placeOf : State → ℕ
 placeOf (Ended p c) = p
 placeOf (Going s cone b) = 0
+
+-- the start point that the walk holds, or none
+abbrev pub startHeld : State → Start
+startHeld (Ended p c) = none
+startHeld (Going s cone b) = at s

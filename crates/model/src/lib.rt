@@ -46,9 +46,10 @@ pub enum State {
     Going(Point, Cone, Best),
 }
 
-// The state with document 01's two counts.
+// The state with document 01's two counts, and how often the start point was worked out again.
 pub struct Walk {
     pub state: State,
     pub moves: usize,
     pub opened: usize,
+    pub restarts: usize,
 }

@@ -1,5 +1,5 @@
 -- Laws that the proofs of the planner's functions cite: sizes of sums and products (Sizes), magnitudes and quotients (Quotients), the passes over
--- the entries (Passes), the parts of a step (Steps), the walk (Walks) and the verdict (Verdicts).
+-- the entries (Passes), the parts of a step (Steps), the walk (Walks), the verdict (Verdicts) and the view (Views).
 pub mod Sizes
 pub mod Quotients
 pub mod Passes
@@ -10,8 +10,10 @@ pub mod Layouts
 pub mod Chains
 pub mod Finish
 pub mod Plans
+pub mod Views
 pub mod Ordered
 pub mod Amounts
 pub mod Shown
 pub mod Demands
+pub mod Seen
 pub mod Witnesses

@@ -61,6 +61,13 @@ module _ (s : List ℕ) (chain : Chain) (h : Chained s chain) where
         at-chain (λ o t floors m n. Walking o t floors m n)
         (λ c e. subst (λ (c : Chain). Walking (c .objective) leastXThenY zeroFloors (laidOut (ruleFor s (c .records)) (c .n) l) (c .n + 2)) (sym e) (walking s (h .objective) (h .entries) (h .accepts) l room))
 
+    -- the rules that it is given are the chain's
+    pub chain-rules : entries full 2 (chain .n + 2 - 2) ≡ rulesOf (h .entries)
+    unfolding chainOf
+    chain-rules =
+        at-chain (λ o t floors m n. entries m 2 (n - 2) ≡ rulesOf (h .entries))
+        (λ c e. subst (λ (c : Chain). entries (laidOut (ruleFor s (c .records)) (c .n) l) 2 (c .n + 2 - 2) ≡ rulesOf (h .entries)) (sym e) (rules-given s (h .objective) (h .entries) (h .accepts) l room))
+
     pub chain-finished : (p : Plan) → p ≡ verdictOf (chain .objective) (walk t floors (chain .objective) (entries full 2 (chain .n + 2 - 2))) → (w : Certificate) → w ≡ rising (coded (chain .records) (p .witness)) → Answers s (Planned (record { outcome = p .outcome; moves = p .moves; opened = p .opened; place = p .place; witness = w }))
     unfolding chainOf
     chain-finished p q w u =

@@ -1,7 +1,7 @@
 -- The parts of a step, as the code goes through them: each law takes what the calls on one way returned, and says that the whole is the model's.
 use mathlib.Core.Path.{_≡_, refl, sym, _∙_, ap, ap₂, subst}
 use mathlib.Core.List.{List, [], _∷_}
-use mathlib.Core.Bool.{Bool, true, false, _&&_}
+use mathlib.Core.Bool.{Bool, true, false, not, _&&_}
 use Prim.Native.Nat.{ℕ, _+_, _-_}
 use lib.IntN.{ℤ, pos}
 use lib.Signed.{ltZ}
@@ -12,7 +12,7 @@ use Rattle.lp.specs.declared.Point.{Point}
 use Rattle.lp.specs.declared.Ray.{Ray}
 use Rattle.lp.specs.declared.Certificate.{Certificate}
 use Rattle.lp.specs.Program.{along}
-use Rattle.lp.specs.Outcome.{above, tieOrder, gainOrder}
+use Rattle.lp.specs.Outcome.{above, keeps, tieOrder, gainOrder}
 use Rattle.lp.specs.Certificate.{isZero}
 use Rattle.lp.specs.Prefixes.{one-if}
 use Rattle.model.specs.declared.Found.{Found}
@@ -27,7 +27,7 @@ use Rattle.model.specs.declared.State.{State}
 use Rattle.model.specs.declared.State.the-variants.{Ended, Going}
 use Rattle.model.specs.declared.Walk.{Walk}
 use Rattle.model.specs.Scan.{facing, direction, tightest}
-use Rattle.model.specs.Step.{certificate, alone, resettled, restart, narrow, improved, breaks, going, settled, stepped, step}
+use Rattle.model.specs.Step.{certificate, alone, resettled, restart, narrow, improved, breaks, going, settled, recounted, stepped, step}
 use Rattle.model.specs.Bounds.{SmallPoint, SmallRay, SmallCone, SmallBest, SmallState}
 use Rattle.planner.specs.Start.{startOf}
 
@@ -84,23 +84,26 @@ certificate-same i j k eu ev ew = λ t. certificate i (eu t) j (ev t) k (ew t)
 module _ (t : Tie) (f : Functional) (S : List Constraint) (n : ℕ) (h : Constraint) (w : Walk) where
   -- a walk that has ended stays as it is
   pub step-ended : {p : ℕ} {c : Certificate} → w .state ≡ Ended p c → w ≡ step t f S n h w
-  step-ended {p} {c} e = shown ∙ sym (ap (stepped t f S n h (w .moves) (w .opened)) e)
+  step-ended {p} {c} e = shown ∙ sym (ap (stepped t f S n h (w .moves) (w .opened) (w .restarts)) e)
     where
-      shown : w ≡ record { state = Ended p c; moves = w .moves; opened = w .opened }
-      shown = λ i. record { state = e i; moves = w .moves; opened = w .opened }
+      shown : w ≡ record { state = Ended p c; moves = w .moves; opened = w .opened; restarts = w .restarts }
+      shown = λ i. record { state = e i; moves = w .moves; opened = w .opened; restarts = w .restarts }
 
-  module _ {s : Point} {cone : Cone} {b : Best} (e : w .state ≡ Going s cone b) {r : Restart} (er : r ≡ startOf t S n h s) {broken : Bool} (eb : broken ≡ breaks h b) {m : ℕ} (em : m ≡ w .moves + one-if broken) where
+  module _ {s : Point} {cone : Cone} {b : Best} (e : w .state ≡ Going s cone b) {kept : Bool} (ek : kept ≡ keeps h s) {r : Restart} (er : r ≡ startOf t S n h s kept) {broken : Bool} (eb : broken ≡ breaks h b) {m : ℕ} (em : m ≡ w .moves + one-if broken) {k : ℕ} (ec : k ≡ w .restarts + one-if (not kept)) where
     moves-is : m ≡ w .moves + one-if (breaks h b)
     moves-is = em ∙ ap (λ k. w .moves + one-if k) eb
 
-    settles : {q : Restart} → r ≡ q → settled t f S n h cone b (w .moves) (w .opened) q ≡ step t f S n h w
-    settles k = ap (settled t f S n h cone b (w .moves) (w .opened)) (sym k ∙ er) ∙ sym (ap (stepped t f S n h (w .moves) (w .opened)) e)
+    restarts-is : k ≡ recounted (w .restarts) h s
+    restarts-is = ec ∙ ap (λ u. w .restarts + one-if (not u)) ek
 
-    pub step-moved : {p : Point} → r ≡ Moved p → {wedge : Cone} → wedge ≡ narrow h cone → {next : Best} → next ≡ improved (gainOrder f t) f S h wedge b → {v : Walk} → v ≡ going p wedge next m (w .opened) → v ≡ step t f S n h w
-    step-moved {p} k ew en ev =
+    settles : {q : Restart} → r ≡ q → settled t f S n h cone b (w .moves) (w .opened) (recounted (w .restarts) h s) q ≡ step t f S n h w
+    settles q = ap (settled t f S n h cone b (w .moves) (w .opened) (recounted (w .restarts) h s)) (sym q ∙ er ∙ ap (startOf t S n h s) ek) ∙ sym (ap (stepped t f S n h (w .moves) (w .opened) (w .restarts)) e)
+
+    pub step-moved : {p : Point} → r ≡ Moved p → {wedge : Cone} → wedge ≡ narrow h cone → {next : Best} → next ≡ improved (gainOrder f t) f S h wedge b → {v : Walk} → v ≡ going p wedge next m (w .opened) k → v ≡ step t f S n h w
+    step-moved {p} q ew en ev =
         ev
-        ∙ (λ i. going p (ew i) ((en ∙ ap (λ c. improved (gainOrder f t) f S h c b) ew) i) (moves-is i) (w .opened))
-        ∙ settles k
+        ∙ (λ i. going p (ew i) ((en ∙ ap (λ c. improved (gainOrder f t) f S h c b) ew) i) (moves-is i) (w .opened) (restarts-is i))
+        ∙ settles q
 
-    pub step-failed : {c : Certificate} → r ≡ Failed c → _≡_ {A = Walk} (record { state = Ended (n - 1) c; moves = m; opened = w .opened }) (step t f S n h w)
-    step-failed {c} k = (λ i. record { state = Ended (n - 1) c; moves = moves-is i; opened = w .opened }) ∙ settles k
+    pub step-failed : {c : Certificate} → r ≡ Failed c → _≡_ {A = Walk} (record { state = Ended (n - 1) c; moves = m; opened = w .opened; restarts = k }) (step t f S n h w)
+    step-failed {c} q = (λ i. record { state = Ended (n - 1) c; moves = moves-is i; opened = w .opened; restarts = restarts-is i }) ∙ settles q

@@ -36,15 +36,15 @@ module _ (floors : Floors) (f : Functional) (h : SmallFloors floors) {g : Gain} 
   corner : point (read (floors .lx)) (read (floors .ly)) (pos 1) ≡ point (floors .lx) (floors .ly) (pos 1)
   corner = point-same (within-unread (h .lx-small) tt) (within-unread (h .ly-small) tt) refl
 
-  begun : {k : Gain} → g ≡ k → going (point (floors .lx) (floors .ly) (pos 1)) axes (opening f (point (floors .lx) (floors .ly) (pos 1)) axes k) 0 0 ≡ begin floors f
+  begun : {k : Gain} → g ≡ k → going (point (floors .lx) (floors .ly) (pos 1)) axes (opening f (point (floors .lx) (floors .ly) (pos 1)) axes k) 0 0 0 ≡ begin floors f
   begun e =
-      ap (λ k. going (point (floors .lx) (floors .ly) (pos 1)) axes (opening f (point (floors .lx) (floors .ly) (pos 1)) axes k) 0 0) (sym e ∙ eg)
+      ap (λ k. going (point (floors .lx) (floors .ly) (pos 1)) axes (opening f (point (floors .lx) (floors .ly) (pos 1)) axes k) 0 0 0) (sym e ∙ eg)
 
-  pub begun-open : {d : Ray} → g ≡ gain.Along d → {w : Walk} → w ≡ going (point (read (floors .lx)) (read (floors .ly)) (pos 1)) axes best.Open 0 0 → w ≡ begin floors f
-  begun-open e ew = ew ∙ ap (λ s. going s axes best.Open 0 0) corner ∙ begun e
+  pub begun-open : {d : Ray} → g ≡ gain.Along d → {w : Walk} → w ≡ going (point (read (floors .lx)) (read (floors .ly)) (pos 1)) axes best.Open 0 0 0 → w ≡ begin floors f
+  begun-open e ew = ew ∙ ap (λ s. going s axes best.Open 0 0 0) corner ∙ begun e
 
-  pub begun-best : g ≡ gain.Nowhere → {w : Walk} → w ≡ going (point (read (floors .lx)) (read (floors .ly)) (pos 1)) axes (best.At (point (read (floors .lx)) (read (floors .ly)) (pos 1))) 0 0 → w ≡ begin floors f
-  begun-best e ew = ew ∙ ap (λ s. going s axes (best.At s) 0 0) corner ∙ begun e
+  pub begun-best : g ≡ gain.Nowhere → {w : Walk} → w ≡ going (point (read (floors .lx)) (read (floors .ly)) (pos 1)) axes (best.At (point (read (floors .lx)) (read (floors .ly)) (pos 1))) 0 0 0 → w ≡ begin floors f
+  begun-best e ew = ew ∙ ap (λ s. going s axes (best.At s) 0 0 0) corner ∙ begun e
 
 -- ---- the walk
 
@@ -80,6 +80,7 @@ module _ {f : Functional} {t : Tie} {floors : Floors} {l : List ℤ} {n : ℕ} (
             state-small = v .small .state-small;
             moves-room = omega (arith, v .small .moves-small, v .floors);
             opened-room = omega (arith, v .small .opened-small, v .floors);
+            restarts-room = omega (arith, v .small .restarts-small, v .floors);
           }
 
       pub walked-step : {w′ : Walk} → w′ ≡ step t f (entries l 0 i) i m w → Walked f t l n w₀ w′ (i + 1)

@@ -9,3 +9,4 @@ pub mod Sizes
 pub mod Witness
 pub mod Planning
 pub mod Panel
+pub mod View

@@ -135,10 +135,6 @@ pub record Restarting (t : Tie) (l : List ℤ) (n : ℕ) (h : Constraint) : Type
   pub entries : Entries l n
   pub h-small : SmallConstraint h
 
-pub record Starting (t : Tie) (l : List ℤ) (n : ℕ) (h : Constraint) (s : Point) : Type 0 where
-  pub restarting : Restarting t l n h
-  pub s-small : SmallPoint s
-
 pub record Moving (f : Functional) (t : Tie) (l : List ℤ) (n : ℕ) (h : Constraint) : Type 0 where
   pub objective : SmallFunctional f
   pub restarting : Restarting t l n h
@@ -164,6 +160,7 @@ pub record Stepping (f : Functional) (t : Tie) (l : List ℤ) (n : ℕ) (h : Con
   pub state-small : SmallState (w .state)
   pub moves-room : w .moves < n
   pub opened-room : w .opened < n
+  pub restarts-room : w .restarts < n
 
 pub record Beginning (f : Functional) (floors : Floors) : Type 0 where
   pub objective : SmallFunctional f

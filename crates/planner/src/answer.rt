@@ -13,7 +13,7 @@ ghost use Rattle.lp.specs.Document.{leastXThenY, zeroFloors};
 ghost use Rattle.planner.specs.Planning.{Answers, Chained};
 
 // Document 01's tie: least x, then least y.
-fn least_x_then_y() -> Tie
+pub fn least_x_then_y() -> Tie
     ensures { λ r. ⌜ r ≡ leastXThenY ⌝ }
 {
     Tie {
@@ -22,7 +22,7 @@ fn least_x_then_y() -> Tie
     }
 }
 
-fn zero_floors() -> Floors
+pub fn zero_floors() -> Floors
     ensures { λ r. ⌜ r ≡ zeroFloors ⌝ }
 {
     Floors { lx: 0, ly: 0 }

@@ -5,7 +5,6 @@ use crate::exact::det;
 use crate::exact::direction;
 use crate::exact::facing;
 use crate::exact::is_level;
-use crate::exact::keeps;
 use crate::order::tie_upward;
 use crate::scan::first_broken;
 use crate::scan::tightest;
@@ -19,9 +18,8 @@ use model::Restart;
 ghost use mathlib.Core.Path.{_≡_};
 ghost use mathlib.Core.Bool.{true, false};
 ghost use Rattle.model.specs.Step.{alone as aloneOf, lineWeight, conflict as conflictOf, resettled as resettledOf, restart as restartOf};
-ghost use Rattle.lp.specs.Outcome.{keeps as keepsOf};
 ghost use Rattle.planner.specs.Entries.{entries as entriesOf};
-ghost use Rattle.planner.specs.Sizes.{Lines, Conflicting, Resettling, Restarting, Starting};
+ghost use Rattle.planner.specs.Sizes.{Lines, Conflicting, Resettling, Restarting};
 ghost use Rattle.planner.specs.Start.{startOf};
 
 // 0 is at most c, with c below 0: the rule at index n needs no other entry.
@@ -96,12 +94,12 @@ fn restart(tie: Tie, entries: &[i64], n: usize, h: Constraint) -> Restart
     resettled(entries, side, n, h, found)
 }
 
-// The start point stays where it keeps the new constraint.
-pub fn start(tie: Tie, entries: &[i64], n: usize, h: Constraint, s: Point) -> Restart
-    requires { ⌜ Starting tie (now entries) n h s ⌝ }
-    ensures { λ r. ⌜ r ≡ startOf tie (entriesOf (now (entries .entry)) 0 n) n h s ⌝ }
+// The start point stays where it keeps the new constraint; no entry is looked at then.
+pub fn start(tie: Tie, entries: &[i64], n: usize, h: Constraint, s: Point, kept: bool) -> Restart
+    requires { ⌜ Restarting tie (now entries) n h ⌝ }
+    ensures { λ r. ⌜ r ≡ startOf tie (entriesOf (now (entries .entry)) 0 n) n h s kept ⌝ }
 {
-    if keeps(h, s) {
+    if kept {
         Restart::Moved(s)
     } else {
         restart(tie, entries, n, h)

@@ -1,7 +1,8 @@
 // The walk along a chain of constraints: after each prefix it holds the start point, the cone of rays and the optimum, or the place where the system became
-// infeasible. Entries stand in one lent slice, the two floors first, and each constraint that arrives is scanned against those before it.
+// infeasible, and it counts the constraints that broke the start point before them. Entries stand in one lent slice, the two floors first, and each constraint that arrives is scanned against those before it.
 use crate::cone::gaining;
 use crate::cone::narrow;
+use crate::exact::keeps;
 use crate::optimum::breaks;
 use crate::optimum::improved;
 use crate::optimum::is_open;
@@ -34,14 +35,15 @@ fn counted(count: usize, so: bool) -> usize
     if so { count + 1 } else { count }
 }
 
-fn going(s: Point, cone: Cone, best: Best, moves: usize, opened: usize) -> Walk
+fn going(s: Point, cone: Cone, best: Best, moves: usize, opened: usize, restarts: usize) -> Walk
     requires { ⌜ Counting opened ⌝ }
-    ensures { λ r. ⌜ r ≡ goingOf s cone best moves opened ⌝ }
+    ensures { λ r. ⌜ r ≡ goingOf s cone best moves opened restarts ⌝ }
 {
     Walk {
         state: State::Going(s, cone, best),
         moves,
         opened: counted(opened, is_open(best)),
+        restarts,
     }
 }
 
@@ -61,18 +63,23 @@ fn step(
     let State::Going(s, cone, best) = state else {
         return walk;
     };
-    let moves = counted(walk.moves, breaks(h, best));
+    let broken = breaks(h, best);
+    let moves = counted(walk.moves, broken);
     let opened = walk.opened;
-    match start(tie, entries, n, h, s) {
+    let kept = keeps(h, s);
+    let restarts = counted(walk.restarts, !kept);
+    let place = n - 1;
+    match start(tie, entries, n, h, s, kept) {
         Restart::Moved(p) => {
             let wedge = narrow(h, cone);
             let next = improved(objective, tie, entries, n, h, wedge, best);
-            going(p, wedge, next, moves, opened)
+            going(p, wedge, next, moves, opened, restarts)
         }
         Restart::Failed(c) => Walk {
-            state: State::Ended(n - 1, c),
+            state: State::Ended(place, c),
             moves,
             opened,
+            restarts,
         },
     }
 }
@@ -89,8 +96,8 @@ fn begin(objective: Functional, floors: Floors) -> Walk
     };
     let axes = Cone::Wedge(Ray { dx: 1, dy: 0 }, Ray { dx: 0, dy: 1 });
     match gaining(objective, axes) {
-        Gain::Along(_) => going(corner, axes, Best::Open, 0, 0),
-        Gain::Nowhere => going(corner, axes, Best::At(corner), 0, 0),
+        Gain::Along(_) => going(corner, axes, Best::Open, 0, 0, 0),
+        Gain::Nowhere => going(corner, axes, Best::At(corner), 0, 0, 0),
     }
 }
 

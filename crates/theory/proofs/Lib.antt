@@ -26,3 +26,4 @@ pub mod Meaning
 pub mod Tops
 pub mod Theorems
 pub mod Slack
+pub mod Starts

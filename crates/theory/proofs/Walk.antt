@@ -19,6 +19,7 @@ use Rattle.lp.specs.Textbook.{Infeasible}
 use Rattle.lp.specs.Outcome.{keeps, reduceRay, tieOrder, gainOrder, decide, outcomeOf}
 use Rattle.lp.specs.Outcome as defined
 use Rattle.lp.specs.Prefixes.{one-if, isInfeasible, isUnbounded, isBroken, movesFrom, openFrom}
+use Rattle.lp.specs.Start.{none, at, firstOf, startIn, startOf, isLost, restartsFrom}
 use Rattle.lp.specs.Certificate.{named}
 use Rattle.model.specs.declared.Restart.{Restart}
 use Rattle.model.specs.declared.Restart.the-variants.{Moved, Failed}
@@ -28,10 +29,12 @@ use Rattle.model.specs.declared.Best.the-variants as best
 use Rattle.model.specs.declared.State.{State}
 use Rattle.model.specs.declared.State.the-variants.{Ended, Going}
 use Rattle.model.specs.declared.Walk.{Walk}
-use Rattle.model.specs.Step.{restart, narrow, improved, isOpen, breaks, settled, stepped, step, walkFrom, saidRay, said}
+use Rattle.model.specs.Step.{restart, narrow, improved, isOpen, breaks, settled, recounted, stepped, step, walkFrom, saidRay, said, startHeld}
 use Rattle.theory.proofs.Lists.{for-members}
 use Rattle.theory.proofs.Farkas.{refutation-excludes}
 use Rattle.theory.proofs.Conflict.{Certified}
+use Rattle.theory.proofs.Lexicographic.{Up}
+use Rattle.theory.proofs.Peak.{Peak}
 use Rattle.theory.proofs.Ties.{GoodTie, tie-upward, gain-upward}
 use Rattle.theory.proofs.Cone.{Flattest}
 use Rattle.theory.proofs.Restart.{Restarted}
@@ -100,6 +103,19 @@ module _ (t : Tie) (good : GoodTie t) (floors : Floors) (f : Functional) where
   state-says done (Ended p c) o = sym (said-infeasible (system floors done) (over-infeasible done p c o))
   state-says done (Going s cone b) standing = said-standing (system floors done) s cone b standing
 
+  -- ---- and it holds the defined start point
+
+  start-standing : (S : List Constraint) (s : Point) → Peak (Up (tieOrder t)) S s → at s ≡ startIn t S
+  start-standing S s peak = go (allowedVertices S) refl
+    where
+      go : (l : List Point) → allowedVertices S ≡ l → at s ≡ startIn t S
+      go [] e = absurd (List·Memᴰ·not-nil (subst (λ l. List·Memᴰ s l) e (feasible-listed S s (peak .vertex) (peak .feasible))))
+      go (v ∷ vs) e = ap at (sym (peak-picked S (tieOrder t) (tie-upward t good) s peak v vs e)) ∙ ap (firstOf t) (sym e)
+
+  pub state-starts : (done : List Constraint) (x : State) → Stands done x → startHeld x ≡ startOf t floors done
+  state-starts done (Ended p c) o = sym (ap (firstOf t) (none-allowed (system floors done) (over-infeasible done p c o)))
+  state-starts done (Going s cone b) standing = start-standing (system floors done) s (standing .start)
+
   -- ---- one more constraint
 
   over-longer : (done : List Constraint) (h : Constraint) (p : ℕ) (c : Certificate) → Over floors done p c → Over floors (done ++ (h ∷ [])) p c
@@ -122,11 +138,11 @@ module _ (t : Tie) (good : GoodTie t) (floors : Floors) (f : Functional) where
   pub stands-step : (done : List Constraint) (h : Constraint) (w : Walk) → Stands done (w .state) → Stands (done ++ (h ∷ [])) (step t f (system floors done) (length (system floors done)) h w .state)
   stands-step done h w = go (w .state)
     where
-      settle : (s : Point) (cone : Cone) (b : Best) → Standing t f (system floors done) s cone b → (r : Restart) → Restarted t (system floors done ++ (h ∷ [])) r → Stands (done ++ (h ∷ [])) (settled t f (system floors done) (length (system floors done)) h cone b (w .moves) (w .opened) r .state)
+      settle : (s : Point) (cone : Cone) (b : Best) → Standing t f (system floors done) s cone b → (r : Restart) → Restarted t (system floors done ++ (h ∷ [])) r → Stands (done ++ (h ∷ [])) (settled t f (system floors done) (length (system floors done)) h cone b (w .moves) (w .opened) (recounted (w .restarts) h s) r .state)
       settle s cone b standing (Moved s′) peak = standing-step t good f (system floors done) h s cone b standing s′ peak
       settle s cone b standing (Failed c) o = over-now done h c o
 
-      go : (x : State) → Stands done x → Stands (done ++ (h ∷ [])) (stepped t f (system floors done) (length (system floors done)) h (w .moves) (w .opened) x .state)
+      go : (x : State) → Stands done x → Stands (done ++ (h ∷ [])) (stepped t f (system floors done) (length (system floors done)) h (w .moves) (w .opened) (w .restarts) x .state)
       go (Ended p c) o = over-longer done h p c o
       go (Going s cone b) standing = settle s cone b standing (elim (keeps h s) [ true ↦ Moved s | false ↦ restart t (system floors done) (length (system floors done)) h ]) (start-step t good f (system floors done) h s cone b standing)
 
@@ -156,11 +172,11 @@ module _ (t : Tie) (good : GoodTie t) (floors : Floors) (f : Functional) where
     step-moves : Stands done (w .state) → next .moves ≡ w .moves + one-if (isBroken (defined.outcome t floors f done) h)
     step-moves stands = go (w .state) stands
       where
-        settle : (s : Point) (cone : Cone) (b : Best) (r : Restart) → settled t f (system floors done) (length (system floors done)) h cone b (w .moves) (w .opened) r .moves ≡ w .moves + one-if (breaks h b)
+        settle : (s : Point) (cone : Cone) (b : Best) (r : Restart) → settled t f (system floors done) (length (system floors done)) h cone b (w .moves) (w .opened) (recounted (w .restarts) h s) r .moves ≡ w .moves + one-if (breaks h b)
         settle s cone b (Moved s′) = refl
         settle s cone b (Failed c) = refl
 
-        go : (x : State) → Stands done x → stepped t f (system floors done) (length (system floors done)) h (w .moves) (w .opened) x .moves ≡ w .moves + one-if (isBroken (defined.outcome t floors f done) h)
+        go : (x : State) → Stands done x → stepped t f (system floors done) (length (system floors done)) h (w .moves) (w .opened) (w .restarts) x .moves ≡ w .moves + one-if (isBroken (defined.outcome t floors f done) h)
         go (Ended p c) o =
             nothing-more (w .moves) ∙ ap (λ z. w .moves + one-if (isBroken z h)) (state-says done (Ended p c) o)
           where
@@ -177,32 +193,49 @@ module _ (t : Tie) (good : GoodTie t) (floors : Floors) (f : Functional) where
         none : (m : ℕ) → m ≡ m + 0
         none m = omega arith
 
-        settle : (s : Point) (cone : Cone) (b : Best) → Standing t f (system floors done) s cone b → (r : Restart) → Restarted t (system floors done ++ (h ∷ [])) r → settled t f (system floors done) (length (system floors done)) h cone b (w .moves) (w .opened) r .opened ≡ w .opened + one-if (isUnbounded (said f (settled t f (system floors done) (length (system floors done)) h cone b (w .moves) (w .opened) r .state)))
+        settle : (s : Point) (cone : Cone) (b : Best) → Standing t f (system floors done) s cone b → (r : Restart) → Restarted t (system floors done ++ (h ∷ [])) r → settled t f (system floors done) (length (system floors done)) h cone b (w .moves) (w .opened) (recounted (w .restarts) h s) r .opened ≡ w .opened + one-if (isUnbounded (said f (settled t f (system floors done) (length (system floors done)) h cone b (w .moves) (w .opened) (recounted (w .restarts) h s) r .state)))
         settle s cone b standing (Moved s′) peak =
             ap (λ z. w .opened + one-if z) (sym (open-by-state (system floors done ++ (h ∷ [])) s′ (narrow h cone) (improved (gainOrder f t) f (system floors done) h (narrow h cone) b) (standing-step t good f (system floors done) h s cone b standing s′ peak .optimum)))
         settle s cone b standing (Failed c) o = none (w .opened)
 
-        go : (x : State) → Stands done x → stepped t f (system floors done) (length (system floors done)) h (w .moves) (w .opened) x .opened ≡ w .opened + one-if (isUnbounded (said f (stepped t f (system floors done) (length (system floors done)) h (w .moves) (w .opened) x .state)))
+        go : (x : State) → Stands done x → stepped t f (system floors done) (length (system floors done)) h (w .moves) (w .opened) (w .restarts) x .opened ≡ w .opened + one-if (isUnbounded (said f (stepped t f (system floors done) (length (system floors done)) h (w .moves) (w .opened) (w .restarts) x .state)))
         go (Ended p c) o = none (w .opened)
         go (Going s cone b) standing = settle s cone b standing (elim (keeps h s) [ true ↦ Moved s | false ↦ restart t (system floors done) (length (system floors done)) h ]) (start-step t good f (system floors done) h s cone b standing)
+
+    -- the start point is counted where it is lost
+    step-restarts : Stands done (w .state) → next .restarts ≡ w .restarts + one-if (isLost (startOf t floors done) h)
+    step-restarts stands = go (w .state) ∙ ap (λ z. w .restarts + one-if (isLost z h)) (state-starts done (w .state) stands)
+      where
+        nothing-more : (m : ℕ) → m ≡ m + 0
+        nothing-more m = omega arith
+
+        settle : (s : Point) (cone : Cone) (b : Best) (r : Restart) → settled t f (system floors done) (length (system floors done)) h cone b (w .moves) (w .opened) (recounted (w .restarts) h s) r .restarts ≡ recounted (w .restarts) h s
+        settle s cone b (Moved s′) = refl
+        settle s cone b (Failed c) = refl
+
+        go : (x : State) → stepped t f (system floors done) (length (system floors done)) h (w .moves) (w .opened) (w .restarts) x .restarts ≡ w .restarts + one-if (isLost (startHeld x) h)
+        go (Ended p c) = nothing-more (w .restarts)
+        go (Going s cone b) = settle s cone b (elim (keeps h s) [ true ↦ Moved s | false ↦ restart t (system floors done) (length (system floors done)) h ])
 
   -- ---- the whole walk
 
   pub record Agrees (done rest : List Constraint) (w w′ : Walk) : Type 0 where
     pub stands : Stands (done ++ rest) (w′ .state)
     pub moved : w′ .moves ≡ w .moves + movesFrom t floors f done rest
+    pub restarted : w′ .restarts ≡ w .restarts + restartsFrom t floors done rest
     pub opening : one-if (isUnbounded (defined.outcome t floors f done)) + w′ .opened ≡ w .opened + openFrom t floors f done rest
 
   pub walk-agrees : (done rest : List Constraint) (w : Walk) → Stands done (w .state) → Agrees done rest w (walkFrom t f (system floors done) (length (system floors done)) rest w)
   walk-agrees done [] w stands =
       record {
         stands = subst (λ l. Stands l (w .state)) (sym (append-nil done)) stands;
-        moved = none (w .moves);
+        moved = same (w .moves);
+        restarted = same (w .restarts);
         opening = swap (one-if (isUnbounded (defined.outcome t floors f done))) (w .opened);
       }
     where
-      none : (m : ℕ) → m ≡ m + 0
-      none m = omega arith
+      same : (m : ℕ) → m ≡ m + 0
+      same m = omega arith
 
       swap : (m n : ℕ) → m + n ≡ n + m
       swap m n = omega arith
@@ -231,5 +264,6 @@ module _ (t : Tie) (good : GoodTie t) (floors : Floors) (f : Functional) where
           record {
             stands = subst (λ l. Stands l (walkFrom t f (system floors (done ++ (h ∷ []))) (suc (length (system floors done))) rest w₁ .state)) (append-assoc done (h ∷ []) rest) (a .stands);
             moved = add-moves (w .moves) (w₁ .moves) (w₂ .moves) (one-if (isBroken (defined.outcome t floors f done) h)) (movesFrom t floors f (done ++ (h ∷ [])) rest) (step-moves done h w stands) (a .moved);
+            restarted = add-moves (w .restarts) (w₁ .restarts) (w₂ .restarts) (one-if (isLost (startOf t floors done) h)) (restartsFrom t floors (done ++ (h ∷ [])) rest) (step-restarts done h w stands) (a .restarted);
             opening = add-opened (w .opened) (w₁ .opened) (w₂ .opened) (open-at done) (open-at (done ++ (h ∷ []))) (openFrom t floors f (done ++ (h ∷ [])) rest) (step-opened done h w stands) (a .opening);
           }

@@ -15,7 +15,7 @@ counted-requires c κs = search needs
 returns : tie.Need-returns
 returns c =
     let a = c .before .before .args in
-    ap (λ (n : ℕ). record { state = Going (a .s) (a .cone) (a .best); moves = a .moves; opened = n }) (c .counted .ensures ∙ ap (λ b. a .opened + one-if b) (c .before .is-open .ensures))
+    ap (λ (n : ℕ). record { state = Going (a .s) (a .cone) (a .best); moves = a .moves; opened = n; restarts = a .restarts }) (c .counted .ensures ∙ ap (λ b. a .opened + one-if b) (c .before .is-open .ensures))
 
 pub going-spec : {M : Type 1} → statement M
 going-spec = tie.close (tie.spec is-open-requires counted-requires returns)

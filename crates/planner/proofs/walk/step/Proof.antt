@@ -4,6 +4,7 @@ use denote.Ref.{now}
 use Rattle.model.specs.Bounds.{SmallCone}
 use Rattle.model.proofs.Bounds.{narrow-small}
 use Rattle.planner.specs.Entries.{entries}
+use Rattle.planner.proofs.Sizes.{kept-distance}
 use Rattle.planner.proofs.Steps.{state-parts, step-ended, step-moved, step-failed}
 use Rattle.planner.proofs.walk.step.Statement.{statement}
 use Rattle.planner.proofs.walk.step.Tie as tie
@@ -28,32 +29,38 @@ breaks-requires c κs =
 counted-requires : tie.Need-counted-requires
 counted-requires c κs = search needs
 
-start-requires : tie.Need-start-requires
-start-requires c κs =
+keeps-requires : tie.Need-keeps-requires
+keeps-requires c κs =
     let s = c .before .before .before .before .before in
-    record {
-      restarting = s .pre .moving .restarting;
-      s-small = state-parts (s .pre .state-small) (c .before .before .before .state .given .1) .0;
-    }
+    kept-distance (s .pre .moving .restarting .h-small) (state-parts (s .pre .state-small) (c .before .before .before .state .given .1) .0)
+
+counted-requires-2 : tie.Need-counted-requires-2
+counted-requires-2 c κs = search needs
+
+sub-place : tie.Need-sub-place
+sub-place c = search needs
+
+start-requires : tie.Need-start-requires
+start-requires c κs = c .before .before .before .before .before .before .before .pre .moving .restarting
 
 enum-known-p : tie.Need-enum-known-p
 enum-known-p c = c .match2 .keys1
 
 narrow-requires : tie.Need-narrow-requires
 narrow-requires c κs =
-    let s = c .before .before .before .before .before .before .before .before .before in
+    let s = c .before .before .before .before .before .before .before .before .before .before .before in
     record {
       constraint = s .pre .moving .restarting .h-small;
-      rays = state-parts (s .pre .state-small) (c .before .before .before .before .before .before .before .state .given .1) .1;
+      rays = state-parts (s .pre .state-small) (c .before .before .before .before .before .before .before .before .before .state .given .1) .1;
     }
 
 improved-requires : tie.Need-improved-requires
 improved-requires c κs =
-    let h = c .before .before .before .before .before .before .before .before .before .before .pre in
-    let s = state-parts (h .state-small) (c .before .before .before .before .before .before .before .before .state .given .1) in
+    let h = c .before .before .before .before .before .before .before .before .before .before .before .before .pre in
+    let s = state-parts (h .state-small) (c .before .before .before .before .before .before .before .before .before .before .state .given .1) in
     record {
       moving = h .moving;
-      rays = subst SmallCone (sym (c .narrow .ensures)) (narrow-small (h .moving .restarting .h-small) (c .before .before .before .before .before .before .before .before .state .given .0 .1 .0) (s .1));
+      rays = subst SmallCone (sym (c .narrow .ensures)) (narrow-small (h .moving .restarting .h-small) (c .before .before .before .before .before .before .before .before .before .before .state .given .0 .1 .0) (s .1));
       best = s .2;
     }
 
@@ -63,25 +70,22 @@ going-requires c κs = search needs
 enum-known-c : tie.Need-enum-known-c
 enum-known-c c = c .match2 .keys2
 
-sub-t20 : tie.Need-sub-t20
-sub-t20 c = search needs
-
 returns-2 : tie.Need-returns-2
 returns-2 c =
-    let s = c .before .before .before .before .before .before .before .before .before .before .before .before in
+    let s = c .before .before .before .before .before .before .before .before .before .before .before .before .before .before in
     step-moved (s .args .tie) (s .args .objective) (entries (now (s .args .entries)) 0 (s .args .n)) (s .args .n) (s .args .h)
-    (s .args .walk) (c .before .before .before .before .before .before .before .before .before .before .state .given .1)
-    (c .before .before .before .before .before .before .start .ensures)
-    (c .before .before .before .before .before .before .before .before .breaks .ensures)
-    (c .before .before .before .before .before .before .before .counted .ensures) (c .before .before .before .before .p .given .1)
+    (s .args .walk) (c .before .before .before .before .before .before .before .before .before .before .before .before .state .given .1)
+    (c .before .before .before .before .before .before .before .before .keeps .ensures) (c .before .before .before .before .before .before .start .ensures)
+    (c .before .before .before .before .before .before .before .before .before .before .breaks .ensures)
+    (c .before .before .before .before .before .before .before .before .before .counted .ensures) (c .before .before .before .before .before .before .before .counted2 .ensures) (c .before .before .before .before .p .given .1)
     (c .before .before .narrow .ensures) (c .before .improved .ensures) (c .going .ensures)
 
 returns-3 : tie.Need-returns-3
 returns-3 c =
-    let s = c .before .before .before .before .before .before .before .before .before in
+    let s = c .before .before .before .before .before .before .before .before .before .before .before in
     step-failed (s .args .tie) (s .args .objective) (entries (now (s .args .entries)) 0 (s .args .n)) (s .args .n) (s .args .h)
-    (s .args .walk) (c .before .before .before .before .before .before .before .state .given .1) (c .before .before .before .start .ensures)
-    (c .before .before .before .before .before .breaks .ensures) (c .before .before .before .before .counted .ensures)
+    (s .args .walk) (c .before .before .before .before .before .before .before .before .before .state .given .1) (c .before .before .before .before .before .keeps .ensures) (c .before .before .before .start .ensures)
+    (c .before .before .before .before .before .before .before .breaks .ensures) (c .before .before .before .before .before .before .counted .ensures) (c .before .before .before .before .counted2 .ensures)
     (c .before .c .given .1)
 
 pub step-spec : {M : Type 1} → statement M
@@ -93,12 +97,14 @@ step-spec =
     returns
     breaks-requires
     counted-requires
+    keeps-requires
+    counted-requires-2
+    sub-place
     start-requires
     enum-known-p
     narrow-requires
     improved-requires
     going-requires
     enum-known-c
-    sub-t20
     returns-2
     returns-3)

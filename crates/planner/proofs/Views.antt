@@ -1,0 +1,139 @@
+-- The start pair that is seen after a prefix: the walk along the prefix's rules holds it.
+use mathlib.Core.Path.{_≡_, refl, sym, _∙_, ap, ap₂, subst}
+use mathlib.Core.List.{List, [], _∷_}
+use mathlib.Core.Bool.{true, false}
+use Prim.Native.Nat.{ℕ, zero, suc, min, _+_, _-_, _≤_, _<_}
+use native.Mathlib.Omega.{arith}
+use lib.ListN.{length, take, set, length-set}
+use lib.IntN.{ℤ}
+use Rattle.lp.specs.declared.Constraint.{Constraint}
+use Rattle.lp.specs.declared.Functional.{Functional}
+use Rattle.lp.specs.declared.Floors.{Floors}
+use Rattle.lp.specs.declared.Tie.{Tie}
+use Rattle.lp.specs.declared.Point.{Point}
+use Rattle.lp.specs.declared.Certificate.{Certificate}
+use Rattle.lp.specs.Start.{Start, startOf, restarts}
+use Rattle.lp.specs.Document.{leastXThenY, zeroFloors}
+use Rattle.book.specs.declared.Chain.{Chain}
+use Rattle.book.specs.Layout.{v1}
+use Rattle.book.specs.Reading.{Reading, refused, accepted, readOf}
+use Rattle.book.specs.Answers.{Reads, chainOf}
+use Rattle.model.specs.declared.Cone.{Cone}
+use Rattle.model.specs.declared.Best.{Best}
+use Rattle.model.specs.declared.State.{State}
+use Rattle.model.specs.declared.State.the-variants.{Ended, Going}
+use Rattle.model.specs.declared.Walk.{Walk}
+use Rattle.model.specs.Step.{walk, startHeld}
+use Rattle.theory.proofs.Ties.{least-x-then-y-good}
+use Rattle.theory.proofs.Starts.{walk-starts}
+use Rattle.planner.specs.declared.StartView.{StartView}
+use Rattle.planner.specs.Entries.{entry, entries}
+use Rattle.planner.specs.Sizes.{Walking}
+use Rattle.planner.specs.Layout.{laidOut, ruleFor}
+use Rattle.planner.specs.Planning.{rulesOf, Chained}
+use Rattle.planner.specs.View.{nowhere, viewed, startView, viewOf, Views, putPoint, StartWritten}
+use Rattle.planner.proofs.Passes.{fewer}
+use Rattle.planner.proofs.Plans.{chain-walking, chain-rules}
+
+-- ---- what a state shows
+
+module _ (w : Walk) where
+  pub viewed-ended : {p : ℕ} {c : Certificate} → w .state ≡ Ended p c → {v : Point} → v ≡ nowhere → _≡_ {A = StartView} (record { number = 0; at = 0; held = false; point = v; restarts = w .restarts }) (viewed (startHeld (w .state)) (w .restarts))
+  viewed-ended e ev = (λ i. record { number = 0; at = 0; held = false; point = ev i; restarts = w .restarts }) ∙ ap (λ x. viewed (startHeld x) (w .restarts)) (sym e)
+
+  pub viewed-going : {s : Point} {cone : Cone} {b : Best} → w .state ≡ Going s cone b → _≡_ {A = StartView} (record { number = 0; at = 0; held = true; point = s; restarts = w .restarts }) (viewed (startHeld (w .state)) (w .restarts))
+  viewed-going e = ap (λ x. viewed (startHeld x) (w .restarts)) (sym e)
+
+-- ---- a prefix of the entries
+
+pub shorter-walking : {f : Functional} {t : Tie} {floors : Floors} {l : List ℤ} {n m : ℕ} → Walking f t floors l n → m ≤ n → 2 ≤ m → Walking f t floors l m
+shorter-walking h less two =
+    record {
+      objective = h .objective;
+      tie = h .tie;
+      floors-small = h .floors-small;
+      entries = fewer less (h .entries);
+      floors-count = two;
+      first = h .first;
+      second = h .second;
+    }
+
+entries-take : (l : List ℤ) (i k n : ℕ) → entries l i (min k n) ≡ take k (entries l i n)
+entries-take l i zero n = ap (entries l i) (least n)
+  where
+    least : (n : ℕ) → min 0 n ≡ 0
+    least n = omega arith
+entries-take l i (suc k) zero = ap (entries l i) (least k)
+  where
+    least : (k : ℕ) → min (suc k) 0 ≡ 0
+    least k = omega arith
+entries-take l i (suc k) (suc n) =
+    ap (entries l i) (both k n) ∙ ap (λ (S : List Constraint). entry l i ∷ S) (entries-take l (suc i) k n)
+  where
+    both : (k n : ℕ) → min (suc k) (suc n) ≡ suc (min k n)
+    both k n = omega arith
+
+-- ---- an accepted book
+
+module _ (s : List ℕ) (chain : Chain) (h : Chained s chain) (l : List ℤ) (room : length l ≡ 771) (full : List ℤ) (laid : full ≡ laidOut (ruleFor s (chain .records)) (chain .n) l) (t : Tie) (et : t ≡ leastXThenY) (floors : Floors) (ef : floors ≡ zeroFloors) (k m : ℕ) (em : m ≡ min k (chain .n)) where
+  pub prefix-walking : Walking (chain .objective) t floors full (m + 2)
+  prefix-walking = shorter-walking (chain-walking s chain h l room full laid t et floors ef) (omega arith) (omega arith)
+
+  prefix-rules : entries full 2 (m + 2 - 2) ≡ take k (rulesOf (h .entries))
+  prefix-rules =
+      ap (entries full 2) (back m ∙ em ∙ ap (min k) (sym (back (chain .n))))
+      ∙ entries-take full 2 k (chain .n + 2 - 2)
+      ∙ ap (take k) (chain-rules s chain h l room full laid t et floors ef)
+    where
+      back : (n : ℕ) → n + 2 - 2 ≡ n
+      back n = omega arith
+
+  pub prefix-viewed : (w : Walk) → w ≡ walk t floors (chain .objective) (entries full 2 (m + 2 - 2)) → (v : StartView) → v ≡ viewed (startHeld (w .state)) (w .restarts) → Views s k v
+  prefix-viewed w ew v ev = record { answer = ev ∙ shown ∙ ap (λ (r : Reading). viewOf r k) (sym (h .accepts)) }
+    where
+      rules : List Constraint
+      rules = take k (rulesOf (h .entries))
+
+      walked : w ≡ walk leastXThenY zeroFloors (chain .objective) rules
+      walked = ew ∙ (λ i. walk (et i) (ef i) (chain .objective) (prefix-rules i))
+
+      shown : viewed (startHeld (w .state)) (w .restarts) ≡ startView rules
+      shown =
+          ap (λ (w : Walk). viewed (startHeld (w .state)) (w .restarts)) walked
+          ∙ ap₂ (λ (x : Start) (n : ℕ). viewed x n) (walk-starts leastXThenY least-x-then-y-good zeroFloors (chain .objective) rules .start-defined) (walk-starts leastXThenY least-x-then-y-good zeroFloors (chain .objective) rules .restarts-defined)
+
+-- ---- a refused book
+
+pub refused-viewed : (s : List ℕ) (chain : Chain) → Reads s chain → (chain .number ≡ 0 → ⊥) → (k : ℕ) (v : Point) → v ≡ nowhere → Views s k (record { number = chain .number; at = chain .at; held = false; point = v; restarts = 0 })
+unfolding chainOf
+refused-viewed s chain h z k v ev = go (readOf v1 s) refl
+  where
+    go : (r : Reading) → readOf v1 s ≡ r → Views s k (record { number = chain .number; at = chain .at; held = false; point = v; restarts = 0 })
+    go (refused n i) e =
+        record { answer = (λ j. record { number = (h .answer ∙ ap chainOf e) j .number; at = (h .answer ∙ ap chainOf e) j .at; held = false; point = ev j; restarts = 0 }) ∙ ap (λ (r : Reading). viewOf r k) (sym e) }
+    go (accepted o es) e = absurd (z (ap (λ (c : Chain). c .number) (h .answer ∙ ap chainOf e)))
+
+-- ---- the exported form
+
+module _ (s : List ℕ) (k : ℕ) (v : StartView) (h : Views s k v) where
+  pub start-written : (before after : List ℤ) → 3 ≤ length before → after ≡ putPoint before (v .point) → StartWritten s k before after (v .restarts)
+  start-written before after room e =
+      record {
+        written = λ r. e ∙ ap (λ (x : StartView). putPoint before (x .point)) (h .answer);
+        untouched = λ short. absurd (both (length before) room short);
+        counted = ap (λ (x : StartView). x .restarts) (h .answer);
+      }
+    where
+      both : (n : ℕ) → 3 ≤ n → n < 3 → ⊥
+      both n a b = omega arith
+
+  pub start-unwritten : (before : List ℤ) → length before < 3 → StartWritten s k before before (v .restarts)
+  start-unwritten before short =
+      record {
+        written = λ room. absurd (both (length before) room short);
+        untouched = λ r. refl;
+        counted = ap (λ (x : StartView). x .restarts) (h .answer);
+      }
+    where
+      both : (n : ℕ) → 3 ≤ n → n < 3 → ⊥
+      both n a b = omega arith

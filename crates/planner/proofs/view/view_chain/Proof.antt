@@ -1,0 +1,69 @@
+use mathlib.Core.Path.{refl}
+use native.Mathlib.Omega.{arith}
+use lib.ListN.{replicate}
+use lib.IntN.{pos}
+use Rattle.planner.proofs.Plans.{chain-few, chain-laying}
+use Rattle.planner.proofs.Views.{prefix-walking, prefix-viewed}
+use borrow.Author.Needs.{needs}
+use Rattle.planner.proofs.view.view_chain.Statement.{statement}
+use Rattle.planner.proofs.view.view_chain.Tie as tie
+
+slice-aggregate-lay-out : tie.Need-slice-aggregate-lay-out
+slice-aggregate-lay-out c = search needs
+
+slice-aggregate-lay-out-2 : tie.Need-slice-aggregate-lay-out-2
+slice-aggregate-lay-out-2 c = search needs
+
+lay-out-requires : tie.Need-lay-out-requires
+lay-out-requires c κs =
+    let s = c .before .before .before .before .before in
+    chain-laying (s .args .book .now) (s .args .chain) (s .pre) (replicate 771 (pos 0)) refl
+
+shorter-requires : tie.Need-shorter-requires
+shorter-requires c κs = search needs
+
+least-x-then-y-requires : tie.Need-least-x-then-y-requires
+least-x-then-y-requires c κs = search needs
+
+zero-floors-requires : tie.Need-zero-floors-requires
+zero-floors-requires c κs = search needs
+
+slice-aggregate-walk-entries : tie.Need-slice-aggregate-walk-entries
+slice-aggregate-walk-entries c = search needs
+
+add-walk-entries : tie.Need-add-walk-entries
+add-walk-entries c =
+    let s = c .before .before .before .before .before .before .before .before .before .before .before in
+    omega (arith, c .before .before .before .shorter .ensures, chain-few (s .args .book .now) (s .args .chain) (s .pre))
+
+walk-entries-requires : tie.Need-walk-entries-requires
+walk-entries-requires c κs =
+    let s = c .before .before .before .before .before .before .before .before .before .before .before in
+    prefix-walking (s .args .book .now) (s .args .chain) (s .pre) (replicate 771 (pos 0)) refl _ (c .before .before .before .before .before .lay-out .ensures) _
+    (c .before .before .least-x-then-y .ensures) _ (c .before .zero-floors .ensures) (s .args .prefix) _ (c .before .before .before .shorter .ensures)
+
+viewed-requires : tie.Need-viewed-requires
+viewed-requires c κs = search needs
+
+returns : tie.Need-returns
+returns c =
+    let s = c .before .before .before .before .before .before .before .before .before .before .before .before .before in
+    prefix-viewed (s .args .book .now) (s .args .chain) (s .pre) (replicate 771 (pos 0)) refl _ (c .before .before .before .before .before .before .before .lay-out .ensures) _
+    (c .before .before .before .before .least-x-then-y .ensures) _ (c .before .before .before .zero-floors .ensures) (s .args .prefix) _ (c .before .before .before .before .before .shorter .ensures)
+    (c .before .walk-entries .result) (c .before .walk-entries .ensures) (c .viewed .result) (c .viewed .ensures)
+
+pub view-chain-spec : {M : Type 1} → statement M
+view-chain-spec =
+    tie.close
+    (tie.spec
+    slice-aggregate-lay-out
+    slice-aggregate-lay-out-2
+    lay-out-requires
+    shorter-requires
+    least-x-then-y-requires
+    zero-floors-requires
+    slice-aggregate-walk-entries
+    add-walk-entries
+    walk-entries-requires
+    viewed-requires
+    returns)
