@@ -1,3 +1,4 @@
+-- `plan::main` meets its contract: the plan program: one book from standard input, its line to standard output.
 use mathlib.Core.Path.{sym}
 use native.Mathlib.Omega.{arith}
 use lib.Seq.{length-take-le}
@@ -10,44 +11,34 @@ use Rattle.io.proofs.read_full.Reads as read-full-reads
 use Rattle.io.proofs.write_all.Reads as write-all-reads
 use Rattle.planner.proofs.vishalneq_plan_line.Reads as vishalneq-plan-line-reads
 
--- src/main.rt:5:30
 slice-aggregate-read-full : tie.Need-slice-aggregate-read-full
 slice-aggregate-read-full c = search needs
 
--- src/main.rt:5:9
 read-full-requires : tie.Need-read-full-requires
 read-full-requires c κs = search needs
 
--- src/main.rt:7:44
 array-share-prefix-input : tie.Need-array-share-prefix-input
 array-share-prefix-input c = search needs
 
--- src/main.rt:7:44
 slice-aggregate-vishalneq-plan-line : tie.Need-slice-aggregate-vishalneq-plan-line
 slice-aggregate-vishalneq-plan-line c = search needs
 
--- src/main.rt:7:57
 slice-aggregate-vishalneq-plan-line-2 : tie.Need-slice-aggregate-vishalneq-plan-line-2
 slice-aggregate-vishalneq-plan-line-2 c = search needs
 
--- src/main.rt:7:9
 vishalneq-plan-line-requires : tie.Need-vishalneq-plan-line-requires
 vishalneq-plan-line-requires c κs = search needs
 
--- src/main.rt:8:22
 array-share-prefix-line : tie.Need-array-share-prefix-line
 array-share-prefix-line c = search needs
 
--- src/main.rt:8:22
 slice-aggregate-write-all : tie.Need-slice-aggregate-write-all
 slice-aggregate-write-all c =
     sym (length-take-le (c .before .before .vishalneq-plan-line .result) (c .before .before .vishalneq-plan-line .last .1 .0) (omega (arith, c .before .before .vishalneq-plan-line .ensures .written .enough)))
 
--- src/main.rt:8:5
 write-all-requires : tie.Need-write-all-requires
 write-all-requires c κs = search needs
 
--- src/main.rt:3:1
 returns : tie.Need-returns
 returns c = search needs
 

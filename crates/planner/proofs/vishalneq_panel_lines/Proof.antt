@@ -1,3 +1,4 @@
+-- `planner::vishalneq_panel_lines` meets its contract: the lines of a book's panel, for programs in other languages: written at the start of a buffer of at least 16,384 bytes, with their length.
 use Rattle.planner.proofs.Amounts.{panel-written}
 use borrow.Author.Needs.{needs}
 use Rattle.planner.proofs.vishalneq_panel_lines.Statement.{statement}

@@ -1,3 +1,4 @@
+-- `planner::vishalneq_start_after` meets its contract: the same for programs in other languages: X, Y and D stand at the start of a buffer of at least three numbers, zeros where no pair is allowed or the book is refused, and the count is handed back.
 use Rattle.planner.proofs.Views.{start-written, start-unwritten}
 use borrow.Author.Needs.{needs}
 use Rattle.planner.proofs.vishalneq_start_after.Statement.{statement}

@@ -1,3 +1,4 @@
+-- `typed::main` meets its contract: the typed program: one text from standard input, its line to standard output.
 use mathlib.Core.Path.{sym, ap}
 use mathlib.Core.List.{List}
 use Prim.Native.Nat.{ℕ, _≤_}
@@ -17,60 +18,47 @@ use Rattle.typed_line.proofs.typed_line.Reads as typed-line-reads
 part-short : (n : ℕ) (l : List ℕ) → length (take n l) ≤ length l
 part-short n l = omega (arith, simp length-append at (ap length (take-append-drop n l)))
 
--- src/main.rt:5:30
 slice-aggregate-read-full : tie.Need-slice-aggregate-read-full
 slice-aggregate-read-full c = search needs
 
--- src/main.rt:5:9
 read-full-requires : tie.Need-read-full-requires
 read-full-requires c κs = search needs
 
--- src/main.rt:6:37
 array-share-prefix-input : tie.Need-array-share-prefix-input
 array-share-prefix-input c = search needs
 
--- src/main.rt:6:37
 slice-aggregate-text-length : tie.Need-slice-aggregate-text-length
 slice-aggregate-text-length c = search needs
 
--- src/main.rt:6:9
 text-length-requires : tie.Need-text-length-requires
 text-length-requires c κs = search needs
 
--- src/main.rt:8:38
 array-share-prefix-input-2 : tie.Need-array-share-prefix-input-2
 array-share-prefix-input-2 c = search needs
 
--- src/main.rt:8:38
 slice-aggregate-typed-line : tie.Need-slice-aggregate-typed-line
 slice-aggregate-typed-line c =
     let input = c .before .before .before .before .read-full .last .1 .0 in
     let n = c .before .before .before .before .read-full .result in
     sym (length-take-le (c .before .text-length .result) input (omega (arith, c .before .text-length .ensures, part-short n input)))
 
--- src/main.rt:8:51
 slice-aggregate-typed-line-2 : tie.Need-slice-aggregate-typed-line-2
 slice-aggregate-typed-line-2 c = search needs
 
--- src/main.rt:8:9
 typed-line-requires : tie.Need-typed-line-requires
 typed-line-requires c κs = search needs
 
--- src/main.rt:9:22
 array-share-prefix-line : tie.Need-array-share-prefix-line
 array-share-prefix-line c = search needs
 
--- src/main.rt:9:22
 slice-aggregate-write-all : tie.Need-slice-aggregate-write-all
 slice-aggregate-write-all c =
     let written = c .before .before .typed-line in
     sym (length-take-le (written .result) (written .last .1 .0) (omega (arith, written .ensures .moved, written .ensures .small)))
 
--- src/main.rt:9:5
 write-all-requires : tie.Need-write-all-requires
 write-all-requires c κs = search needs
 
--- src/main.rt:3:1
 returns : tie.Need-returns
 returns c = search needs
 

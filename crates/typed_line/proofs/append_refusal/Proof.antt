@@ -1,3 +1,4 @@
+-- `typed_line::append_refusal` meets its contract.
 use Rattle.report.proofs.Put.{followed}
 use Rattle.typed_line.specs.Line.{refusedFields}
 use borrow.Author.Needs.{needs}
@@ -8,27 +9,21 @@ use Rattle.typed_line.proofs.append_refusal.Lts as lts
 use Rattle.report.proofs.text.append_number.Reads as append-number-reads
 use Rattle.report.proofs.text.append_word.Reads as append-word-reads
 
--- src/lib.rt:30:29
 slice-aggregate-append-word : tie.Need-slice-aggregate-append-word
 slice-aggregate-append-word c = search needs
 
--- src/lib.rt:30:9
 append-word-requires : tie.Need-append-word-requires
 append-word-requires c κs = search needs
 
--- src/lib.rt:31:9
 append-number-requires : tie.Need-append-number-requires
 append-number-requires c κs = search needs
 
--- src/lib.rt:32:5
 append-number-requires-2 : tie.Need-append-number-requires-2
 append-number-requires-2 c κs = search needs
 
--- src/lib.rt:26:1
 same-length : tie.Need-same-length
 same-length c = search needs
 
--- src/lib.rt:26:1
 returns : tie.Need-returns
 unfolding refusedFields
 returns c =

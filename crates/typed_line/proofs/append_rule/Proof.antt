@@ -1,3 +1,4 @@
+-- `typed_line::append_rule` meets its contract.
 use Rattle.report.proofs.Put.{followed}
 use Rattle.report.proofs.Integer.{whole}
 use Rattle.typed_line.specs.Line.{ruleFields}
@@ -10,35 +11,27 @@ use Rattle.report.proofs.text.append_integer.Reads as append-integer-reads
 use Rattle.report.proofs.text.append_number.Reads as append-number-reads
 use Rattle.report.proofs.text.append_word.Reads as append-word-reads
 
--- src/lib.rt:19:28
 slice-aggregate-append-word : tie.Need-slice-aggregate-append-word
 slice-aggregate-append-word c = search needs
 
--- src/lib.rt:19:9
 append-word-requires : tie.Need-append-word-requires
 append-word-requires c κs = search needs
 
--- src/lib.rt:20:9
 append-number-requires : tie.Need-append-number-requires
 append-number-requires c κs = search needs
 
--- src/lib.rt:21:9
 append-integer-requires : tie.Need-append-integer-requires
 append-integer-requires c κs = search needs
 
--- src/lib.rt:22:9
 append-integer-requires-2 : tie.Need-append-integer-requires-2
 append-integer-requires-2 c κs = search needs
 
--- src/lib.rt:23:5
 append-integer-requires-3 : tie.Need-append-integer-requires-3
 append-integer-requires-3 c κs = search needs
 
--- src/lib.rt:15:1
 same-length : tie.Need-same-length
 same-length c = search needs
 
--- src/lib.rt:15:1
 returns : tie.Need-returns
 unfolding ruleFields
 returns c =

@@ -1,3 +1,4 @@
+-- `typed_line::append_typed` meets its contract.
 use mathlib.Core.Path.{ap, sym}
 use native.Mathlib.Omega.{arith}
 use Rattle.report.proofs.Put.{spelt, roomier}
@@ -10,38 +11,30 @@ use Rattle.typed_line.proofs.append_typed.Lts as lts
 use Rattle.typed_line.proofs.append_refusal.Reads as append-refusal-reads
 use Rattle.typed_line.proofs.append_rule.Reads as append-rule-reads
 
--- src/lib.rt:40:21
 enum-known-t : tie.Need-enum-known-t
 enum-known-t c = search needs
 
--- src/lib.rt:40:27
 append-rule-requires : tie.Need-append-rule-requires
 append-rule-requires c κs = search needs
 
--- src/lib.rt:41:24
 enum-known-t-2 : tie.Need-enum-known-t-2
 enum-known-t-2 c = search needs
 
--- src/lib.rt:41:30
 append-refusal-requires : tie.Need-append-refusal-requires
 append-refusal-requires c κs = search needs
 
--- src/lib.rt:35:1
 same-length : tie.Need-same-length
 same-length c = search needs
 
--- src/lib.rt:35:1
 returns : tie.Need-returns
 unfolding typedFields
 returns c =
     let line = c .before .before in
     spelt (ap typedFields (sym (line .before .before .before .t .given .1))) (line .append-rule .ensures)
 
--- src/lib.rt:35:1
 same-length-2 : tie.Need-same-length-2
 same-length-2 c = search needs
 
--- src/lib.rt:35:1
 returns-2 : tie.Need-returns-2
 unfolding typedFields
 returns-2 c =

@@ -1,3 +1,4 @@
+-- `typed_line::typed_line` meets its contract: the line of a text, at the start of a buffer of at least 89 bytes, and its length.
 use mathlib.Core.Path.{ap}
 use Rattle.report.proofs.Put.{followed, spelt}
 use Rattle.typed_line.specs.Line.{lineOf}
@@ -10,27 +11,21 @@ use Rattle.report.proofs.text.append_word.Reads as append-word-reads
 use Rattle.typed_line.proofs.append_typed.Reads as append-typed-reads
 use Rattle.typed_rules.proofs.read_rule.Reads as read-rule-reads
 
--- src/lib.rt:50:9
 read-rule-requires : tie.Need-read-rule-requires
 read-rule-requires c κs = search needs
 
--- src/lib.rt:51:9
 append-typed-requires : tie.Need-append-typed-requires
 append-typed-requires c κs = search needs
 
--- src/lib.rt:52:17
 slice-aggregate-append-word : tie.Need-slice-aggregate-append-word
 slice-aggregate-append-word c = search needs
 
--- src/lib.rt:52:5
 append-word-requires : tie.Need-append-word-requires
 append-word-requires c κs = search needs
 
--- src/lib.rt:46:1
 same-length : tie.Need-same-length
 same-length c = search needs
 
--- src/lib.rt:46:1
 returns : tie.Need-returns
 unfolding lineOf
 returns c =

@@ -1,3 +1,4 @@
+-- `typed_rules::read_rule` meets its contract: what a text reads as: the rule, or the number of the refusal.
 use borrow.Author.Tests.{le-leb, lt-leb}
 use Rattle.typed_rules.specs.Parser.{answer}
 use borrow.Author.Needs.{needs}
@@ -7,17 +8,14 @@ use Rattle.typed_rules.proofs.read_rule.Reads as reads
 use Rattle.typed_rules.proofs.read_rule.Lts as lts
 use Rattle.typed_rules.proofs.readers.read_text.Reads as read-text-reads
 
--- src/lib.rt:61:9
 read-text-requires : tie.Need-read-text-requires
 read-text-requires c κs = search needs
 
--- src/lib.rt:57:1
 returns : tie.Need-returns
 unfolding answer
 returns c =
     rw (le-leb _ 120 (c .before .if1 .taken)) (c .read-text .ensures)
 
--- src/lib.rt:57:1
 returns-2 : tie.Need-returns-2
 unfolding answer
 returns-2 c =

@@ -1,3 +1,4 @@
+-- `typed_vectors::line_end` meets its contract: where the line that begins at a place ends: at its line feed, or at the end.
 use Prim.Native.Nat.{_≤_, _-_}
 use native.Mathlib.Omega.{arith}
 use lib.ListN.{length}
@@ -12,31 +13,24 @@ Inv-loop input at i₀ i = (at ≤ i) × (i ≤ length input)
 abbrev μ-loop : tie.MeasureT-loop
 μ-loop input at i₀ i = length input - i
 
--- src/main.rt:11:5
 loop-holds : tie.Need-loop-holds Inv-loop μ-loop
 loop-holds c = (omega arith, omega arith)
 
--- src/main.rt:12:12
 shared-slice-read-if1 : tie.Need-shared-slice-read-if1 Inv-loop μ-loop
 shared-slice-read-if1 c = omega arith
 
--- src/main.rt:13:13
 returns : tie.Need-returns Inv-loop μ-loop
 returns c = (omega arith, omega arith)
 
--- src/main.rt:15:9
 add-i : tie.Need-add-i Inv-loop μ-loop
 add-i c = omega arith
 
--- src/main.rt:11:5
 loop-less : tie.Need-loop-less Inv-loop μ-loop
 loop-less c = omega arith
 
--- src/main.rt:11:5
 loop-again : tie.Need-loop-again Inv-loop μ-loop
 loop-again c = (omega arith, omega arith)
 
--- src/main.rt:6:1
 returns-2 : tie.Need-returns-2 Inv-loop μ-loop
 returns-2 c = (omega arith, omega arith)
 

@@ -1,3 +1,4 @@
+-- `typed_vectors::show` meets its contract.
 use mathlib.Core.Path.{sym}
 use native.Mathlib.Omega.{arith}
 use lib.Seq.{length-take-le}
@@ -9,29 +10,23 @@ use Rattle.typed_vectors.proofs.show.Lts as lts
 use Rattle.io.proofs.write_all.Reads as write-all-reads
 use Rattle.typed_line.proofs.typed_line.Reads as typed-line-reads
 
--- src/main.rt:22:44
 slice-aggregate-typed-line : tie.Need-slice-aggregate-typed-line
 slice-aggregate-typed-line c = search needs
 
--- src/main.rt:22:9
 typed-line-requires : tie.Need-typed-line-requires
 typed-line-requires c κs = search needs
 
--- src/main.rt:23:22
 array-share-prefix-line : tie.Need-array-share-prefix-line
 array-share-prefix-line c = search needs
 
--- src/main.rt:23:22
 slice-aggregate-write-all : tie.Need-slice-aggregate-write-all
 slice-aggregate-write-all c =
     let written = c .before .before .typed-line in
     sym (length-take-le (written .result) (written .last .1 .0) (omega (arith, written .ensures .moved, written .ensures .small)))
 
--- src/main.rt:23:5
 write-all-requires : tie.Need-write-all-requires
 write-all-requires c κs = search needs
 
--- src/main.rt:20:1
 returns : tie.Need-returns
 returns c = search needs
 

@@ -1,3 +1,4 @@
+-- `typed_vectors::show_all` meets its contract.
 use Prim.Native.Nat.{_≤_, _-_, _+_}
 use lib.ListN.{length}
 use borrow.Author.Needs.{needs}
@@ -14,43 +15,33 @@ Inv-loop input at₀ at = at ≤ length input + 1
 abbrev μ-loop : tie.MeasureT-loop
 μ-loop input at₀ at = length input - at
 
--- src/main.rt:28:5
 loop-holds : tie.Need-loop-holds Inv-loop μ-loop
 loop-holds c = search needs
 
--- src/main.rt:29:13
 line-end-requires : tie.Need-line-end-requires Inv-loop μ-loop
 line-end-requires c κs = search needs
 
--- src/main.rt:30:14
 sub-show : tie.Need-sub-show Inv-loop μ-loop
 sub-show c = search needs
 
--- src/main.rt:30:14
 part-show-start : tie.Need-part-show-start Inv-loop μ-loop
 part-show-start c = search needs
 
--- src/main.rt:30:14
 part-show-end : tie.Need-part-show-end Inv-loop μ-loop
 part-show-end c = search needs
 
--- src/main.rt:30:9
 show-requires : tie.Need-show-requires Inv-loop μ-loop
 show-requires c κs = search needs
 
--- src/main.rt:31:14
 add-at : tie.Need-add-at Inv-loop μ-loop
 add-at c = search needs
 
--- src/main.rt:28:5
 loop-less : tie.Need-loop-less Inv-loop μ-loop
 loop-less c = search needs
 
--- src/main.rt:28:5
 loop-again : tie.Need-loop-again Inv-loop μ-loop
 loop-again c = search needs
 
--- src/main.rt:26:1
 returns : tie.Need-returns Inv-loop μ-loop
 returns c = search needs
 

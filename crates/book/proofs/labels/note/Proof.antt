@@ -9,27 +9,21 @@ use Rattle.book.proofs.LabelTable.{one-shifted, fits-64, clear-bit}
 use Rattle.book.proofs.labels.note.Statement.{statement}
 use Rattle.book.proofs.labels.note.Tie as tie
 
--- src/labels.rt:29:17
 cast-place : tie.Need-cast-place
 cast-place c = search needs
 
--- src/labels.rt:30:15
 cast-bit : tie.Need-cast-bit
 cast-bit c = search needs
 
--- src/labels.rt:31:16
 mul-word : tie.Need-mul-word
 mul-word c = search needs
 
--- src/labels.rt:31:16
 element-copy-out-word : tie.Need-element-copy-out-word
 element-copy-out-word c = search needs
 
--- src/labels.rt:32:28
 shl-table : tie.Need-shl-table
 shl-table c = search needs
 
--- src/labels.rt:32:20
 add-table : tie.Need-add-table
 add-table c =
     let l = c .before .args .label in
@@ -41,15 +35,12 @@ add-table c =
           (fits-64 (getD t (l / 64) 0) (l % 64) (omega arith) (clear-bit t l (p .new)) (p .words (l / 64)));
     }
 
--- src/labels.rt:32:5
 mul-table : tie.Need-mul-table
 mul-table c = search needs
 
--- src/labels.rt:32:5
 element-write-table : tie.Need-element-write-table
 element-write-table c = search needs
 
--- src/labels.rt:25:1
 returns : tie.Need-returns
 unfolding noting
 returns c =

@@ -5,27 +5,21 @@ use Rattle.book.specs.Labels.{isNoted}
 use Rattle.book.proofs.labels.noted.Statement.{statement}
 use Rattle.book.proofs.labels.noted.Tie as tie
 
--- src/labels.rt:18:17
 cast-place : tie.Need-cast-place
 cast-place c = search needs
 
--- src/labels.rt:19:15
 cast-bit : tie.Need-cast-bit
 cast-bit c = search needs
 
--- src/labels.rt:20:16
 mul-word : tie.Need-mul-word
 mul-word c = search needs
 
--- src/labels.rt:20:16
 element-copy-out-word : tie.Need-element-copy-out-word
 element-copy-out-word c = search needs
 
--- src/labels.rt:21:6
 shr-result : tie.Need-shr-result
 shr-result c = search needs
 
--- src/labels.rt:14:1
 returns : tie.Need-returns
 unfolding isNoted
 returns c = refl

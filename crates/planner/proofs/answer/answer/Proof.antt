@@ -1,3 +1,4 @@
+-- `planner::answer::answer` meets its contract: the answer to any bytes: refused with number and record, or planned.
 use Rattle.planner.proofs.Plans.{zero-chained, other-refused}
 use borrow.Author.Needs.{needs}
 use Rattle.planner.proofs.answer.answer.Statement.{statement}
@@ -7,27 +8,21 @@ use Rattle.planner.proofs.answer.answer.Lts as lts
 use Rattle.book.proofs.read.Reads as read-reads
 use Rattle.planner.proofs.answer.planned.Reads as planned-reads
 
--- src/plan.rt:57:9
 read-requires : tie.Need-read-requires
 read-requires c κs = search needs
 
--- src/plan.rt:60:25
 planned-requires : tie.Need-planned-requires
 planned-requires c κs = zero-chained (c .before .before .before .args .book .now) (c .before .read .result) (c .before .read .ensures) (c .if1 .taken)
 
--- src/plan.rt:62:25
 cast-t7 : tie.Need-cast-t7
 cast-t7 c = search needs
 
--- src/plan.rt:62:42
 cast-t8 : tie.Need-cast-t8
 cast-t8 c = search needs
 
--- src/plan.rt:54:1
 returns : tie.Need-returns
 returns c = search needs
 
--- src/plan.rt:54:1
 returns-2 : tie.Need-returns-2
 returns-2 c = other-refused (c .before .before .before .before .args .book .now) (c .before .before .read .result) (c .before .before .read .ensures) (λ z. c .before .if1 .left z)
 

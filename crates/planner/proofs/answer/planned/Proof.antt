@@ -1,3 +1,4 @@
+-- `planner::answer::planned` meets its contract: the plan of an accepted book.
 use mathlib.Core.Path.{refl}
 use native.Mathlib.Omega.{arith}
 use lib.ListN.{replicate}
@@ -14,48 +15,37 @@ use Rattle.planner.proofs.answer.zero_floors.Reads as zero-floors-reads
 use Rattle.planner.proofs.verdict.plan_entries.Reads as plan-entries-reads
 use Rattle.planner.proofs.witness.witness.Reads as witness-reads
 
--- src/plan.rt:40:19
 slice-aggregate-lay-out : tie.Need-slice-aggregate-lay-out
 slice-aggregate-lay-out c = search needs
 
--- src/plan.rt:40:32
 slice-aggregate-lay-out-2 : tie.Need-slice-aggregate-lay-out-2
 slice-aggregate-lay-out-2 c = search needs
 
--- src/plan.rt:40:5
 lay-out-requires : tie.Need-lay-out-requires
 lay-out-requires c κs = chain-laying (c .before .before .before .before .before .args .book .now) (c .before .before .before .before .before .args .chain) (c .before .before .before .before .before .pre) (replicate 771 (pos 0)) refl
 
--- src/plan.rt:41:40
 least-x-then-y-requires : tie.Need-least-x-then-y-requires
 least-x-then-y-requires c κs = search needs
 
--- src/plan.rt:41:58
 zero-floors-requires : tie.Need-zero-floors-requires
 zero-floors-requires c κs = search needs
 
--- src/plan.rt:41:73
 slice-aggregate-plan-entries : tie.Need-slice-aggregate-plan-entries
 slice-aggregate-plan-entries c = search needs
 
--- src/plan.rt:41:83
 add-plan-entries : tie.Need-add-plan-entries
 add-plan-entries c = omega (arith, chain-few (c .before .before .before .before .before .before .before .before .before .before .args .book .now) (c .before .before .before .before .before .before .before .before .before .before .args .chain) (c .before .before .before .before .before .before .before .before .before .before .pre))
 
--- src/plan.rt:41:9
 plan-entries-requires : tie.Need-plan-entries-requires
 plan-entries-requires c κs =
     chain-walking (c .before .before .before .before .before .before .before .before .before .before .args .book .now) (c .before .before .before .before .before .before .before .before .before .before .args .chain) (c .before .before .before .before .before .before .before .before .before .before .pre) (replicate 771 (pos 0)) refl _ (c .before .before .before .before .lay-out .ensures) _ (c .before .before .least-x-then-y .ensures) _ (c .before .zero-floors .ensures)
 
--- src/plan.rt:49:26
 slice-aggregate-witness : tie.Need-slice-aggregate-witness
 slice-aggregate-witness c = chain-length (c .before .before .before .before .before .before .before .before .before .before .before .before .before .args .book .now) (c .before .before .before .before .before .before .before .before .before .before .before .before .before .args .chain) (c .before .before .before .before .before .before .before .before .before .before .before .before .before .pre)
 
--- src/plan.rt:49:18
 witness-requires : tie.Need-witness-requires
 witness-requires c κs = search needs
 
--- src/plan.rt:32:1
 returns : tie.Need-returns
 returns c =
     chain-finished (c .before .before .before .before .before .before .before .before .before .before .before .before .before .before .args .book .now) (c .before .before .before .before .before .before .before .before .before .before .before .before .before .before .args .chain) (c .before .before .before .before .before .before .before .before .before .before .before .before .before .before .pre) (replicate 771 (pos 0)) refl _ (c .before .before .before .before .before .before .before .before .lay-out .ensures) _ (c .before .before .before .before .before .before .least-x-then-y .ensures) _ (c .before .before .before .before .before .zero-floors .ensures) (c .before .before .before .plan-entries .result) (c .before .before .before .plan-entries .ensures) (c .witness .result) (c .witness .ensures)

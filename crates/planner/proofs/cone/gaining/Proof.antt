@@ -1,3 +1,4 @@
+-- `planner::cone::gaining` meets its contract: a ray of the cone along which the objective gains: the flatter of the two if it does.
 use borrow.Author.Needs.{needs}
 use mathlib.Core.Path.{sym, _∙_}
 use Rattle.model.specs.Step.{gaining}

@@ -1,3 +1,4 @@
+-- `planner::divisor::lowest` meets its contract: n/d in lowest terms.
 use borrow.Author.Needs.{needs}
 use Rattle.ints.proofs.Machine.{within-read, weaken}
 use Rattle.planner.proofs.Quotients.{fraction-divisor, fraction-quotient, quotient-read}

@@ -1,3 +1,4 @@
+-- `planner::divisor::magnitude` meets its contract.
 use borrow.Author.Needs.{needs}
 use Rattle.planner.proofs.Quotients.{minus-fits, minus-cast, plus-cast, minus-magnitude}
 use Rattle.planner.proofs.divisor.magnitude.Statement.{statement}

@@ -1,3 +1,4 @@
+-- `planner::divisor::point_divisor` meets its contract: what divides a point's three numbers.
 use borrow.Author.Needs.{needs}
 use Rattle.ints.proofs.Machine.{within-read, weaken}
 use Rattle.planner.proofs.Quotients.{point-divisor}

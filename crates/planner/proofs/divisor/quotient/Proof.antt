@@ -1,3 +1,4 @@
+-- `planner::divisor::quotient` meets its contract.
 use borrow.Author.Needs.{needs}
 use Rattle.planner.proofs.Quotients.{quot-fits, quot-is}
 use Rattle.planner.proofs.divisor.quotient.Statement.{statement}

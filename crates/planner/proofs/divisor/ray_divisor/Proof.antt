@@ -1,3 +1,4 @@
+-- `planner::divisor::ray_divisor` meets its contract: what divides a ray's two numbers.
 use borrow.Author.Needs.{needs}
 use Rattle.ints.proofs.Machine.{within-read, weaken}
 use Rattle.planner.proofs.Quotients.{ray-divisor}

@@ -1,3 +1,4 @@
+-- `planner::divisor::reduce` meets its contract.
 use borrow.Author.Needs.{needs}
 use Rattle.ints.proofs.Machine.{weaken}
 use Rattle.planner.proofs.Quotients.{point-quotient, quotient-read}

@@ -1,3 +1,4 @@
+-- `planner::divisor::reduce_ray` meets its contract.
 use borrow.Author.Needs.{needs}
 use Rattle.ints.proofs.Machine.{weaken}
 use Rattle.planner.proofs.Quotients.{ray-quotient, quotient-read}

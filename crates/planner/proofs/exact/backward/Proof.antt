@@ -1,3 +1,4 @@
+-- `planner::exact::backward` meets its contract: the same line the other way.
 use Rattle.ints.proofs.Machine.{within-read, weaken}
 use Rattle.planner.proofs.Sizes.{ray-same, within-unread, opposite-read}
 use Rattle.planner.proofs.exact.backward.Statement.{statement}

@@ -1,3 +1,4 @@
+-- `planner::exact::crosses` meets its contract: constraint m is left as the line is walked.
 use mathlib.Core.Path.{ap}
 use lib.IntN.{pos}
 use lib.Signed.{ltZ}

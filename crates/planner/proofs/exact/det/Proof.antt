@@ -1,3 +1,4 @@
+-- `planner::exact::det` meets its contract.
 use Rattle.planner.proofs.Sizes.{factors-read, det-factors, difference-read}
 use Rattle.planner.proofs.exact.det.Statement.{statement}
 use Rattle.planner.proofs.exact.det.Tie as tie

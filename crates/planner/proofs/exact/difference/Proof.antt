@@ -1,20 +1,17 @@
+-- `planner::exact::difference` meets its contract: p·q − s·t.
 use Rattle.ints.proofs.Machine.{sizes}
 use Rattle.planner.proofs.exact.difference.Statement.{statement}
 use Rattle.planner.proofs.exact.difference.Tie as tie
 
--- src/exact.rt:28:5
 mul-result : tie.Need-mul-result
 mul-result c = search sizes depth 8
 
--- src/exact.rt:28:13
 mul-result-2 : tie.Need-mul-result-2
 mul-result-2 c = search sizes depth 8
 
--- src/exact.rt:28:5
 sub-result : tie.Need-sub-result
 sub-result c = search sizes depth 8
 
--- src/exact.rt:24:1
 returns : tie.Need-returns
 returns c = search sizes depth 8
 

@@ -1,3 +1,4 @@
+-- `planner::exact::direction` meets its contract: the direction in which a constraint's line is walked.
 use Rattle.ints.proofs.Machine.{within-read, weaken}
 use Rattle.planner.proofs.Sizes.{ray-same, within-unread, opposite-read}
 use Rattle.planner.proofs.exact.direction.Statement.{statement}

@@ -1,29 +1,24 @@
+-- `planner::exact::distance` meets its contract: c·d − (a·x + b·y).
 use mir.Facts.{toZ-ofZ}
 use Rattle.planner.proofs.Sizes.{distance-fits}
 use Rattle.planner.proofs.exact.distance.Statement.{statement}
 use Rattle.planner.proofs.exact.distance.Tie as tie
 
--- src/exact.rt:36:5
 mul-result : tie.Need-mul-result
 mul-result c = search (toZ-ofZ, distance-fits (c .pre))
 
--- src/exact.rt:36:14
 mul-result-2 : tie.Need-mul-result-2
 mul-result-2 c = search (toZ-ofZ, distance-fits (c .pre))
 
--- src/exact.rt:36:22
 mul-result-3 : tie.Need-mul-result-3
 mul-result-3 c = search (toZ-ofZ, distance-fits (c .pre))
 
--- src/exact.rt:36:14
 add-result : tie.Need-add-result
 add-result c = search (toZ-ofZ, distance-fits (c .pre))
 
--- src/exact.rt:36:5
 sub-result : tie.Need-sub-result
 sub-result c = search (toZ-ofZ, distance-fits (c .pre))
 
--- src/exact.rt:32:1
 returns : tie.Need-returns
 returns c = search (toZ-ofZ, distance-fits (c .pre))
 

@@ -1,3 +1,4 @@
+-- `planner::exact::facing` meets its contract: a constraint as it stands, or the same line with the other side allowed.
 use borrow.Author.Needs.{needs}
 use Rattle.ints.proofs.Machine.{within-read, weaken}
 use mathlib.Core.Path.{_∙_, sym, ap}

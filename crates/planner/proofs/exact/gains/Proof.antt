@@ -1,3 +1,4 @@
+-- `planner::exact::gains` meets its contract.
 use mathlib.Core.Path.{ap}
 use lib.IntN.{pos}
 use lib.Signed.{ltZ}

@@ -1,3 +1,4 @@
+-- `planner::exact::is_level` meets its contract: a rule with a = b = 0, which has no line.
 use borrow.Author.Needs.{needs}
 use mathlib.Core.Path.{_∙_, sym}
 use Rattle.lp.specs.Certificate.{isZero}

@@ -1,3 +1,4 @@
+-- `planner::exact::keeps` meets its contract.
 use mathlib.Core.Path.{_∙_, ap}
 use lib.IntN.{pos}
 use lib.Signed.{leZ}

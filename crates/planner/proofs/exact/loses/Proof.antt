@@ -1,3 +1,4 @@
+-- `planner::exact::loses` meets its contract.
 use mathlib.Core.Path.{ap}
 use lib.IntN.{ℤ, pos}
 use lib.Signed.{ltZ}

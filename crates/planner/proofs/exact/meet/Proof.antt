@@ -1,3 +1,4 @@
+-- `planner::exact::meet` meets its contract: where two lines meet.
 use Rattle.planner.proofs.Sizes.{factors-read, det-factors, x-factors, y-factors, difference-read, point-same}
 use Rattle.planner.proofs.exact.meet.Statement.{statement}
 use Rattle.planner.proofs.exact.meet.Tie as tie

@@ -1,3 +1,4 @@
+-- `planner::exact::opposite` meets its contract: −z.
 use Rattle.ints.proofs.Machine.{sizes, weaken}
 use Rattle.planner.proofs.Sizes.{opposite-is}
 use Rattle.planner.proofs.exact.opposite.Statement.{statement}

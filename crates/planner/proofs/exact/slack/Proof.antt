@@ -1,3 +1,4 @@
+-- `planner::exact::slack` meets its contract: how far a point is from a constraint's line, times d.
 use Rattle.planner.proofs.Sizes.{distance-args, distance-read}
 use Rattle.planner.proofs.exact.slack.Statement.{statement}
 use Rattle.planner.proofs.exact.slack.Tie as tie

@@ -1,3 +1,4 @@
+-- `planner::exact::stays` meets its contract: a constraint that is never left along a ray.
 use mathlib.Core.Path.{ap}
 use lib.IntN.{ℤ, pos}
 use lib.Signed.{leZ}

@@ -1,20 +1,17 @@
+-- `planner::exact::sum` meets its contract: p·q + s·t.
 use Rattle.ints.proofs.Machine.{sizes}
 use Rattle.planner.proofs.exact.sum.Statement.{statement}
 use Rattle.planner.proofs.exact.sum.Tie as tie
 
--- src/exact.rt:20:5
 mul-result : tie.Need-mul-result
 mul-result c = search sizes depth 8
 
--- src/exact.rt:20:13
 mul-result-2 : tie.Need-mul-result-2
 mul-result-2 c = search sizes depth 8
 
--- src/exact.rt:20:5
 add-result : tie.Need-add-result
 add-result c = search sizes depth 8
 
--- src/exact.rt:16:1
 returns : tie.Need-returns
 returns c = search sizes depth 8
 

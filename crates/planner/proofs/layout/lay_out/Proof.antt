@@ -1,3 +1,4 @@
+-- `planner::layout::lay_out` meets its contract.
 use mathlib.Core.Path.{_∙_, ap, ap₂}
 use Rattle.planner.specs.Layout.{putEntry, laid, ruleFor}
 use borrow.Author.Needs.{needs}
@@ -10,31 +11,24 @@ use Rattle.planner.proofs.layout.floor_y.Reads as floor-y-reads
 use Rattle.planner.proofs.layout.lay_rules.Reads as lay-rules-reads
 use Rattle.planner.proofs.layout.put_entry.Reads as put-entry-reads
 
--- src/layout.rt:53:33
 floor-x-requires : tie.Need-floor-x-requires
 floor-x-requires c κs = search needs
 
--- src/layout.rt:53:5
 put-entry-requires : tie.Need-put-entry-requires
 put-entry-requires c κs = search needs
 
--- src/layout.rt:54:33
 floor-y-requires : tie.Need-floor-y-requires
 floor-y-requires c κs = search needs
 
--- src/layout.rt:54:5
 put-entry-requires-2 : tie.Need-put-entry-requires-2
 put-entry-requires-2 c κs = search needs
 
--- src/layout.rt:55:5
 lay-rules-requires : tie.Need-lay-rules-requires
 lay-rules-requires c κs = search needs
 
--- src/layout.rt:49:1
 same-length : tie.Need-same-length
 same-length c = search needs
 
--- src/layout.rt:49:1
 returns : tie.Need-returns
 returns c =
     c .before .lay-rules .ensures

@@ -1,3 +1,4 @@
+-- `planner::layout::lay_rules` meets its contract: the first n rules of the chain, read once, after the floors.
 use Prim.Native.Nat.{_-_}
 use mathlib.Core.Path.{_∙_, ap}
 use borrow.Author.Needs.{needs}
@@ -20,51 +21,39 @@ Inv-loop book records n entries₀ i₀ entries i = Filled (ruleFor book records
 abbrev μ-loop : tie.MeasureT-loop
 μ-loop book records n entries₀ i₀ entries i = n - i
 
--- src/layout.rt:26:5
 loop-holds : tie.Need-loop-holds Inv-loop μ-loop
 loop-holds c = filled-start (ruleFor (c .before .before .args .book .now) (c .before .before .args .records .now)) (c .before .before .args .n) (c .before .before .args .entries .now)
 
--- src/layout.rt:27:40
 mul-rule-at : tie.Need-mul-rule-at Inv-loop μ-loop
 mul-rule-at c = omega (arith, c .before .before .before .before .pre .enough)
 
--- src/layout.rt:27:40
 shared-slice-read-rule-at : tie.Need-shared-slice-read-rule-at Inv-loop μ-loop
 shared-slice-read-rule-at c = omega (arith, c .before .before .before .before .before .pre .enough)
 
--- src/layout.rt:27:13
 rule-at-requires : tie.Need-rule-at-requires Inv-loop μ-loop
 rule-at-requires c κs = search needs
 
--- src/layout.rt:28:34
 add-put-entry : tie.Need-add-put-entry Inv-loop μ-loop
 add-put-entry c = omega (arith, c .before .before .before .before .before .before .before .pre .enough)
 
--- src/layout.rt:28:41
 constraint-requires : tie.Need-constraint-requires Inv-loop μ-loop
 constraint-requires c κs = search needs
 
--- src/layout.rt:28:9
 put-entry-requires : tie.Need-put-entry-requires Inv-loop μ-loop
 put-entry-requires c κs = record { room = filled-room (c .before .before .before .before .before .loop .inv) (c .before .before .before .before .before .before .before .before .pre .room) (c .before .before .before .before .loop-test .taken) }
 
--- src/layout.rt:29:9
 add-i : tie.Need-add-i Inv-loop μ-loop
 add-i c = omega (arith, c .before .before .before .before .before .before .before .before .before .before .pre .enough)
 
--- src/layout.rt:26:5
 loop-less : tie.Need-loop-less Inv-loop μ-loop
 loop-less c = omega arith
 
--- src/layout.rt:26:5
 loop-again : tie.Need-loop-again Inv-loop μ-loop
 loop-again c = filled-step (c .before .before .before .before .before .before .before .loop .inv) (c .before .before .before .before .before .before .loop-test .taken) (c .before .before .constraint .ensures ∙ ap constraintOf (c .before .before .before .before .rule-at .ensures .answer)) (c .before .put-entry .ensures)
 
--- src/layout.rt:21:1
 same-length : tie.Need-same-length Inv-loop μ-loop
 same-length c = ap length (c .before .loop .inv .state) ∙ laid-length (ruleFor (c .before .before .before .before .args .book .now) (c .before .before .before .before .args .records .now)) (c .before .loop .i) (c .before .before .before .before .args .entries .now)
 
--- src/layout.rt:21:1
 returns : tie.Need-returns Inv-loop μ-loop
 returns c = filled-end (c .before .loop .inv) (c .loop-test .left)
 

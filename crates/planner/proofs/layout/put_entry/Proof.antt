@@ -1,3 +1,4 @@
+-- `planner::layout::put_entry` meets its contract.
 use borrow.Author.Needs.{needs}
 use native.Mathlib.Omega.{arith}
 use lib.ListN.{length-set}
@@ -6,47 +7,36 @@ use Rattle.planner.proofs.layout.put_entry.Tie as tie
 use Rattle.planner.proofs.layout.put_entry.Reads as reads
 use Rattle.planner.proofs.layout.put_entry.Lts as lts
 
--- src/layout.rt:11:14
 mul-at : tie.Need-mul-at
 mul-at c = search needs
 
--- src/layout.rt:15:5
 mul-a : tie.Need-mul-a
 mul-a c = search needs
 
--- src/layout.rt:15:5
 slice-set-from-a : tie.Need-slice-set-from-a
 slice-set-from-a c = search needs
 
--- src/layout.rt:16:13
 add-b : tie.Need-add-b
 add-b c = search needs
 
--- src/layout.rt:16:5
 mul-b : tie.Need-mul-b
 mul-b c = search needs
 
--- src/layout.rt:16:5
 slice-set-from-b : tie.Need-slice-set-from-b
 slice-set-from-b c = simp length-set (omega arith)
 
--- src/layout.rt:17:13
 add-limit : tie.Need-add-limit
 add-limit c = search needs
 
--- src/layout.rt:17:5
 mul-limit : tie.Need-mul-limit
 mul-limit c = search needs
 
--- src/layout.rt:17:5
 slice-set-from-limit : tie.Need-slice-set-from-limit
 slice-set-from-limit c = search needs
 
--- src/layout.rt:7:1
 same-length : tie.Need-same-length
 same-length c = search needs
 
--- src/layout.rt:7:1
 returns : tie.Need-returns
 returns c = search needs
 

@@ -1,3 +1,4 @@
+-- `planner::optimum::breaks` meets its contract: a best pair that does not keep the new constraint.
 use borrow.Author.Needs.{needs}
 use Rattle.planner.proofs.Sizes.{kept-distance}
 use Rattle.planner.proofs.Steps.{best-point}

@@ -1,3 +1,4 @@
+-- `planner::optimum::improved` meets its contract.
 use borrow.Author.Needs.{needs}
 use mathlib.Core.Path.{sym, _∙_}
 use Rattle.planner.proofs.Sizes.{kept-distance}

@@ -1,3 +1,4 @@
+-- `planner::optimum::moved` meets its contract.
 use borrow.Author.Needs.{needs}
 use mathlib.Core.Path.{sym, _∙_, ap, subst}
 use denote.Ref.{now}

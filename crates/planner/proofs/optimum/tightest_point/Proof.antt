@@ -1,3 +1,4 @@
+-- `planner::optimum::tightest_point` meets its contract.
 use borrow.Author.Needs.{needs}
 use mathlib.Core.Path.{sym, _∙_, ap}
 use Rattle.model.specs.Step.{foundPoint}

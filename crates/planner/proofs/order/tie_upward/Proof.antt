@@ -1,3 +1,4 @@
+-- `planner::order::tie_upward` meets its contract: upward by the tie alone.
 use borrow.Author.Needs.{needs}
 use mathlib.Core.Path.{sym, _∙_}
 use mathlib.Core.List.{[], _∷_}

@@ -1,3 +1,4 @@
+-- `planner::order::upward` meets its contract: upward by the objective, then by the tie.
 use borrow.Author.Needs.{needs}
 use mathlib.Core.Path.{sym, _∙_}
 use Rattle.lp.specs.Outcome.{tieOrder}

@@ -1,3 +1,4 @@
+-- `planner::panel::accepted_panel` meets its contract: the panel of an accepted book.
 use mathlib.Core.Path.{sym, _∙_}
 use Rattle.planner.proofs.Amounts.{planned-outcome, accepted-panel}
 use borrow.Author.Needs.{needs}

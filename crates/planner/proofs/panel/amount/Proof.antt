@@ -1,3 +1,4 @@
+-- `planner::panel::amount` meets its contract: how far a point is from a constraint's line, in lowest terms.
 use Rattle.planner.proofs.Amounts.{slack-fraction, slack-lowest}
 use borrow.Author.Needs.{needs}
 use Rattle.planner.proofs.panel.amount.Statement.{statement}

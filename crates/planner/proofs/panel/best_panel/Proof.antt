@@ -1,3 +1,4 @@
+-- `planner::panel::best_panel` meets its contract: the panel of a best pair.
 use native.Mathlib.Omega.{arith}
 use Rattle.planner.proofs.Plans.{chain-few}
 use Rattle.planner.proofs.Amounts.{best-filling, best-shown}

@@ -1,3 +1,4 @@
+-- `planner::panel::fill` meets its contract: the rows of the first n records, with zeros after them.
 use Prim.Native.Nat.{_-_}
 use native.Mathlib.Omega.{arith}
 use Rattle.planner.specs.Panel.{rowFor, Filling}

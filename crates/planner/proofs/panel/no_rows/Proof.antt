@@ -1,3 +1,4 @@
+-- `planner::panel::no_rows` meets its contract: a panel without rows.
 use mathlib.Core.Path.{ap}
 use lib.ListN.{replicate}
 use Rattle.planner.proofs.Amounts.{no-rows-same}

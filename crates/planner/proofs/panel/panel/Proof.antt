@@ -1,3 +1,4 @@
+-- `planner::panel::panel` meets its contract: the panel of any bytes.
 use Rattle.planner.proofs.Plans.{zero-chained}
 use Rattle.planner.proofs.Amounts.{refused-panel}
 use borrow.Author.Needs.{needs}

@@ -1,3 +1,4 @@
+-- `planner::panel::row` meets its contract: the label and slack of the rule in a record.
 use mathlib.Core.Path.{sym, _∙_, ap, subst}
 use Rattle.lp.specs.declared.Constraint.{Constraint}
 use Rattle.lp.specs.Slack.{slackOf}

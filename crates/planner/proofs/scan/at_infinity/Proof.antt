@@ -1,3 +1,4 @@
+-- `planner::scan::at_infinity` meets its contract.
 use mathlib.Core.Path.{refl, ap}
 use Rattle.ints.proofs.Machine.{within-read, weaken}
 use Rattle.planner.specs.Held.{held}

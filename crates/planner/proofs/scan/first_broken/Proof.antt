@@ -1,3 +1,4 @@
+-- `planner::scan::first_broken` meets its contract: the first of n entries that a point breaks.
 use mathlib.Core.Path.{sym, _∙_}
 use Prim.Native.Nat.{_-_}
 use native.Mathlib.Omega.{arith}

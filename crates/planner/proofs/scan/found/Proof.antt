@@ -1,3 +1,4 @@
+-- `planner::scan::found` meets its contract.
 use borrow.Author.Needs.{needs}
 use mathlib.Core.Path.{sym, _∙_}
 use Rattle.planner.specs.Held.{foundOf}

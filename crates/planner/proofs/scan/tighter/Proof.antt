@@ -1,3 +1,4 @@
+-- `planner::scan::tighter` meets its contract: entry m, at index i, is met along the line, and before the point held so far.
 use borrow.Author.Needs.{needs}
 use mathlib.Core.Path.{sym, _∙_}
 use Rattle.planner.specs.Held.{tightened}

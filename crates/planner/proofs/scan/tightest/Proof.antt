@@ -1,3 +1,4 @@
+-- `planner::scan::tightest` meets its contract: the tightest point on a line among the first n entries.
 use Prim.Native.Nat.{_-_}
 use native.Mathlib.Omega.{arith}
 use Rattle.planner.proofs.Passes.{Tightest, tightest-start, entry-room, tightening, tightest-step, tightest-end}

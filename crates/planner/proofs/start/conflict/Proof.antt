@@ -1,3 +1,4 @@
+-- `planner::start::conflict` meets its contract: h at index n, k at j, which meets its line first, and m at i, which that point breaks.
 use borrow.Author.Needs.{needs}
 use mathlib.Core.Path.{sym, _∙_, ap, subst}
 use Rattle.lp.specs.Outcome.{det}

@@ -1,3 +1,4 @@
+-- `planner::start::line_weight` meets its contract: the weight of the rule whose line is walked as it stands or turned round.
 use borrow.Author.Needs.{needs}
 use mathlib.Core.Path.{sym, _∙_, ap}
 use Rattle.model.specs.Step.{lineWeight}

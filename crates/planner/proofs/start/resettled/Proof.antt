@@ -1,3 +1,4 @@
+-- `planner::start::resettled` meets its contract: the tightest point on the line, if it keeps every entry.
 use borrow.Author.Needs.{needs}
 use mathlib.Core.Path.{sym, _∙_}
 use Rattle.planner.proofs.Passes.{found-parts, broken-small}

@@ -1,3 +1,4 @@
+-- `planner::start::restart` meets its contract.
 use borrow.Author.Needs.{needs}
 use mathlib.Core.Path.{sym, _∙_, subst}
 use denote.Ref.{now}

@@ -1,3 +1,4 @@
+-- `planner::start::start` meets its contract: the start point stays where it keeps the new constraint; no entry is looked at then.
 use borrow.Author.Needs.{needs}
 use Rattle.planner.proofs.start.start.Statement.{statement}
 use Rattle.planner.proofs.start.start.Tie as tie

@@ -1,3 +1,4 @@
+-- `planner::verdict::plan_entries` meets its contract: the plan of n entries, of which the floors are the first two.
 use borrow.Author.Needs.{needs}
 use mathlib.Core.Path.{_∙_, ap}
 use Rattle.planner.specs.Verdict.{verdictOf}

@@ -1,3 +1,4 @@
+-- `planner::verdict::said` meets its contract: the outcome of a feasible system.
 use borrow.Author.Needs.{needs}
 use mathlib.Core.Path.{sym, _∙_}
 use Rattle.planner.proofs.Verdicts.{gain-reducible}

@@ -1,3 +1,4 @@
+-- `planner::verdict::verdict` meets its contract.
 use borrow.Author.Needs.{needs}
 use Rattle.planner.proofs.Steps.{state-parts}
 use Rattle.planner.proofs.Verdicts.{verdict-ended, verdict-going}

@@ -1,3 +1,4 @@
+-- `planner::view::put_point` meets its contract: x, Y and D, at the start of a run of numbers.
 use native.Mathlib.Omega.{arith}
 use lib.ListN.{length-set}
 use borrow.Author.Needs.{needs}

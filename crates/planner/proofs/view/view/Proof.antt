@@ -1,3 +1,4 @@
+-- `planner::view::view` meets its contract.
 use Rattle.planner.proofs.Plans.{zero-chained}
 use Rattle.planner.proofs.Views.{refused-viewed}
 use borrow.Author.Needs.{needs}

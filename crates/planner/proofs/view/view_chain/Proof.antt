@@ -1,3 +1,4 @@
+-- `planner::view::view_chain` meets its contract: the view of an accepted book: its chain is laid out as for the plan, and its first rules walked.
 use mathlib.Core.Path.{refl}
 use native.Mathlib.Omega.{arith}
 use lib.ListN.{replicate}

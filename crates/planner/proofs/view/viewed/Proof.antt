@@ -1,3 +1,4 @@
+-- `planner::view::viewed` meets its contract.
 use Rattle.planner.proofs.Views.{viewed-ended, viewed-going}
 use borrow.Author.Needs.{needs}
 use Rattle.planner.proofs.view.viewed.Statement.{statement}

@@ -1,3 +1,4 @@
+-- `planner::walk::begin` meets its contract: before the first rule: the floors' corner, and the two axes.
 use borrow.Author.Needs.{needs}
 use Rattle.planner.proofs.Walks.{begun-open, begun-best}
 use Rattle.planner.proofs.walk.begin.Statement.{statement}

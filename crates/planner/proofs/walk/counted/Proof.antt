@@ -1,3 +1,4 @@
+-- `planner::walk::counted` meets its contract: one more, if so.
 use borrow.Author.Needs.{needs}
 use mathlib.Core.Path.{sym, _∙_, ap}
 use Prim.Native.Nat.{_+_}

@@ -1,3 +1,4 @@
+-- `planner::walk::going` meets its contract.
 use borrow.Author.Needs.{needs}
 use mathlib.Core.Path.{_∙_, ap}
 use Prim.Native.Nat.{ℕ, _+_}

@@ -1,3 +1,4 @@
+-- `planner::walk::step` meets its contract: what the walk holds after one more constraint h, at index n.
 use borrow.Author.Needs.{needs}
 use mathlib.Core.Path.{sym, subst}
 use denote.Ref.{now}

@@ -1,3 +1,4 @@
+-- `planner::walk::walk_entries` meets its contract: the walk along n entries, of which the floors are the first two.
 use Prim.Native.Nat.{_-_}
 use native.Mathlib.Omega.{arith}
 use Rattle.planner.proofs.Passes.{entry-room}

@@ -1,14 +1,13 @@
+-- `typed_rules::arith::add` meets its contract.
 use Rattle.ints.proofs.Machine.{sizes}
 use Rattle.typed_rules.proofs.arith.add.Statement.{statement}
 use Rattle.typed_rules.proofs.arith.add.Tie as tie
 use Rattle.typed_rules.proofs.arith.add.Reads as reads
 use Rattle.typed_rules.proofs.arith.add.Lts as lts
 
--- src/arith.rt:35:5
 add-result : tie.Need-add-result
 add-result c = search sizes depth 8
 
--- src/arith.rt:31:1
 returns : tie.Need-returns
 returns c = search sizes depth 8
 

@@ -1,3 +1,4 @@
+-- `typed_rules::arith::added` meets its contract.
 use Rattle.typed_rules.proofs.Values.{checked-form, form-is, add-is}
 use borrow.Author.Needs.{needs}
 use Rattle.typed_rules.proofs.arith.added.Statement.{statement}
@@ -7,23 +8,18 @@ use Rattle.typed_rules.proofs.arith.added.Lts as lts
 use Rattle.typed_rules.proofs.arith.add.Reads as add-reads
 use Rattle.typed_rules.proofs.arith.checked.Reads as checked-reads
 
--- src/arith.rt:99:23
 add-requires : tie.Need-add-requires
 add-requires c κs = search needs
 
--- src/arith.rt:99:41
 add-requires-2 : tie.Need-add-requires-2
 add-requires-2 c κs = search needs
 
--- src/arith.rt:99:59
 add-requires-3 : tie.Need-add-requires-3
 add-requires-3 c κs = search needs
 
--- src/arith.rt:99:5
 checked-requires : tie.Need-checked-requires
 checked-requires c κs = search needs
 
--- src/arith.rt:95:1
 returns : tie.Need-returns
 returns c = let pre = c .before .before .before .before .before .before .before .before .before .before .pre in checked-form (form-is (add-is (c .before .before .before .before .before .before .before .add .result) (pre .left .a) (pre .right .a) (c .before .before .before .before .before .before .before .add .ensures)) (add-is (c .before .before .before .before .add2 .result) (pre .left .b) (pre .right .b) (c .before .before .before .before .add2 .ensures)) (add-is (c .before .add3 .result) (pre .left .c) (pre .right .c) (c .before .add3 .ensures))) (c .checked .ensures)
 

@@ -1,3 +1,4 @@
+-- `typed_rules::arith::checked` meets its contract: a form whose numbers are within the limit, else 15.
 use Rattle.typed_rules.proofs.Values.{checked-yes, checked-no}
 use borrow.Author.Needs.{needs}
 use Rattle.typed_rules.proofs.arith.checked.Statement.{statement}
@@ -6,15 +7,12 @@ use Rattle.typed_rules.proofs.arith.checked.Reads as reads
 use Rattle.typed_rules.proofs.arith.checked.Lts as lts
 use Rattle.typed_rules.proofs.arith.all_inside.Reads as all-inside-reads
 
--- src/arith.rt:77:8
 all-inside-requires : tie.Need-all-inside-requires
 all-inside-requires c κs = search needs
 
--- src/arith.rt:74:1
 returns : tie.Need-returns
 returns c = checked-yes (c .before .before .args .f) (c .before .all-inside .ensures) (c .if1 .taken)
 
--- src/arith.rt:74:1
 returns-2 : tie.Need-returns-2
 returns-2 c = checked-no (c .before .before .args .f) (c .before .all-inside .ensures) (c .if1 .left)
 

@@ -1,3 +1,4 @@
+-- `typed_rules::arith::constant` meets its contract.
 use mathlib.Core.Path.{_≡_, refl, ap, sym, _∙_}
 use Rattle.typed_rules.specs.Value.{inside, constant}
 use Rattle.typed_rules.proofs.Values.{inside-read, and-last, and-first}
@@ -8,20 +9,16 @@ use Rattle.typed_rules.proofs.arith.constant.Reads as reads
 use Rattle.typed_rules.proofs.arith.constant.Lts as lts
 use Rattle.typed_rules.proofs.arith.is_zero.Reads as is-zero-reads
 
--- src/arith.rt:118:5
 is-zero-requires : tie.Need-is-zero-requires
 is-zero-requires c κs = search needs
 
--- src/arith.rt:118:21
 is-zero-requires-2 : tie.Need-is-zero-requires-2
 is-zero-requires-2 c κs = search needs
 
--- src/arith.rt:115:1
 returns : tie.Need-returns
 unfolding constant
 returns c = and-last (sym (inside-read 0 (c .before .before .before .before .before .args .f .a) (record { sfits = c .before .before .before .before .struct-told .given .0 .1 }) (c .before .before .before .is-zero .ensures)) ∙ c .before .before .if1 .taken) (inside-read 0 (c .before .before .before .before .before .args .f .b) (record { sfits = c .before .struct-told2 .given .1 .0 .1 }) (c .is-zero2 .ensures))
 
--- src/arith.rt:115:1
 returns-2 : tie.Need-returns-2
 unfolding constant
 returns-2 c = and-first (inside 0 (c .before .before .before .args .f .b)) (inside-read 0 (c .before .before .before .args .f .a) (record { sfits = c .before .before .struct-told .given .0 .1 }) (c .before .is-zero .ensures)) (c .if1 .left)

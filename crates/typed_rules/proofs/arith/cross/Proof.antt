@@ -1,22 +1,19 @@
+-- `typed_rules::arith::cross` meets its contract: p·q + s·t.
 use Rattle.ints.proofs.Machine.{sizes}
 use Rattle.typed_rules.proofs.arith.cross.Statement.{statement}
 use Rattle.typed_rules.proofs.arith.cross.Tie as tie
 use Rattle.typed_rules.proofs.arith.cross.Reads as reads
 use Rattle.typed_rules.proofs.arith.cross.Lts as lts
 
--- src/arith.rt:57:5
 mul-result : tie.Need-mul-result
 mul-result c = search sizes depth 8
 
--- src/arith.rt:57:13
 mul-result-2 : tie.Need-mul-result-2
 mul-result-2 c = search sizes depth 8
 
--- src/arith.rt:57:5
 add-result : tie.Need-add-result
 add-result c = search sizes depth 8
 
--- src/arith.rt:53:1
 returns : tie.Need-returns
 returns c = search sizes depth 8
 

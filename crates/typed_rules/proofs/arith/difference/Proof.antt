@@ -1,3 +1,4 @@
+-- `typed_rules::arith::difference` meets its contract.
 use Rattle.typed_rules.specs.Value.{checked, subForms, difference}
 use Rattle.typed_rules.proofs.Values.{small-forms, left-refused, right-refused, both-forms}
 use borrow.Author.Needs.{needs}
@@ -7,37 +8,29 @@ use Rattle.typed_rules.proofs.arith.difference.Reads as reads
 use Rattle.typed_rules.proofs.arith.difference.Lts as lts
 use Rattle.typed_rules.proofs.arith.subtracted.Reads as subtracted-reads
 
--- src/arith.rt:177:23
 enum-known-v : tie.Need-enum-known-v
 enum-known-v c = search needs
 
--- src/arith.rt:178:23
 enum-known-v-2 : tie.Need-enum-known-v-2
 enum-known-v-2 c = search needs
 
--- src/arith.rt:179:27
 enum-known-w : tie.Need-enum-known-w
 enum-known-w c = search needs
 
--- src/arith.rt:180:27
 enum-known-w-2 : tie.Need-enum-known-w-2
 enum-known-w-2 c = search needs
 
--- src/arith.rt:180:33
 subtracted-requires : tie.Need-subtracted-requires
 subtracted-requires c κs = small-forms (c .before .before .before .before .before .before .pre) (c .before .before .before .before .v2 .given .1) (c .before .w2 .given .1)
 
--- src/arith.rt:172:1
 returns : tie.Need-returns
 unfolding difference
 returns c = left-refused (λ f g. checked (subForms f g)) (c .before .before .before .args .v) (c .before .before .before .args .w) (c .before .v .given .1)
 
--- src/arith.rt:172:1
 returns-2 : tie.Need-returns-2
 unfolding difference
 returns-2 c = right-refused (λ f g. checked (subForms f g)) (c .before .before .before .before .before .before .args .v) (c .before .before .before .before .before .before .args .w) (c .before .before .before .before .v2 .given .1) (c .before .w .given .1)
 
--- src/arith.rt:172:1
 returns-3 : tie.Need-returns-3
 unfolding difference
 returns-3 c = both-forms (λ f g. checked (subForms f g)) (c .before .before .before .before .before .before .before .args .v) (c .before .before .before .before .before .before .before .args .w) (c .before .before .before .before .before .v2 .given .1) (c .before .before .w2 .given .1) (c .subtracted .ensures)

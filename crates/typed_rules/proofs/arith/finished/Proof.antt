@@ -1,3 +1,4 @@
+-- `typed_rules::arith::finished` meets its contract.
 use mathlib.Core.Path.{ap, _∙_}
 use Rattle.typed_rules.specs.Value.{final}
 use Rattle.typed_rules.proofs.Values.{sub-is, written-is}
@@ -9,23 +10,18 @@ use Rattle.typed_rules.proofs.arith.finished.Lts as lts
 use Rattle.typed_rules.proofs.arith.last.Reads as last-reads
 use Rattle.typed_rules.proofs.arith.sub.Reads as sub-reads
 
--- src/arith.rt:219:35
 sub-requires : tie.Need-sub-requires
 sub-requires c κs = search needs
 
--- src/arith.rt:219:53
 sub-requires-2 : tie.Need-sub-requires-2
 sub-requires-2 c κs = search needs
 
--- src/arith.rt:219:71
 sub-requires-3 : tie.Need-sub-requires-3
 sub-requires-3 c κs = search needs
 
--- src/arith.rt:219:5
 last-requires : tie.Need-last-requires
 last-requires c κs = search needs
 
--- src/arith.rt:215:1
 returns : tie.Need-returns
 returns c = let pre = c .before .before .before .before .before .before .before .before .before .before .pre in c .last .ensures ∙ ap final (written-is (c .before .before .before .before .before .before .before .before .before .before .args .kind) (sub-is (c .before .before .before .before .before .before .before .sub .result) (pre .left .a) (pre .right .a) (c .before .before .before .before .before .before .before .sub .ensures)) (sub-is (c .before .before .before .before .sub2 .result) (pre .left .b) (pre .right .b) (c .before .before .before .before .sub2 .ensures)) (sub-is (c .before .sub3 .result) (pre .right .c) (pre .left .c) (c .before .sub3 .ensures)))
 

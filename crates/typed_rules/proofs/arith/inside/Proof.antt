@@ -1,3 +1,4 @@
+-- `typed_rules::arith::inside` meets its contract.
 use Rattle.typed_rules.proofs.Values.{inside-is}
 use borrow.Author.Needs.{needs}
 use Rattle.typed_rules.proofs.arith.inside.Statement.{statement}
@@ -6,11 +7,9 @@ use Rattle.typed_rules.proofs.arith.inside.Reads as reads
 use Rattle.typed_rules.proofs.arith.inside.Lts as lts
 use Rattle.typed_rules.proofs.arith.magnitude.Reads as magnitude-reads
 
--- src/arith.rt:28:5
 magnitude-requires : tie.Need-magnitude-requires
 magnitude-requires c κs = search needs
 
--- src/arith.rt:25:1
 returns : tie.Need-returns
 returns c = inside-is (c .before .args .n) (c .before .args .z) (c .magnitude .result) (c .before .fits .z) (c .magnitude .ensures)
 

@@ -1,3 +1,4 @@
+-- `typed_rules::arith::is_zero` meets its contract.
 use Rattle.typed_rules.proofs.Values.{inside-read}
 use borrow.Author.Needs.{needs}
 use Rattle.typed_rules.proofs.arith.is_zero.Statement.{statement}
@@ -6,11 +7,9 @@ use Rattle.typed_rules.proofs.arith.is_zero.Reads as reads
 use Rattle.typed_rules.proofs.arith.is_zero.Lts as lts
 use Rattle.typed_rules.proofs.arith.inside.Reads as inside-reads
 
--- src/arith.rt:112:5
 inside-requires : tie.Need-inside-requires
 inside-requires c κs = search needs
 
--- src/arith.rt:109:1
 returns : tie.Need-returns
 returns c = inside-read 0 (c .before .args .z) (c .before .fits .z) (c .inside .ensures)
 

@@ -1,3 +1,4 @@
+-- `typed_rules::arith::last` meets its contract: the final a, b and c: within their limits, else 15.
 use mathlib.Core.Path.{sym, _∙_}
 use Rattle.typed_rules.specs.Value.{final}
 use borrow.Author.Needs.{needs}
@@ -7,16 +8,13 @@ use Rattle.typed_rules.proofs.arith.last.Reads as reads
 use Rattle.typed_rules.proofs.arith.last.Lts as lts
 use Rattle.typed_rules.proofs.arith.in_range.Reads as in-range-reads
 
--- src/arith.rt:208:8
 in-range-requires : tie.Need-in-range-requires
 in-range-requires c κs = search needs
 
--- src/arith.rt:205:1
 returns : tie.Need-returns
 unfolding final
 returns c = rw (sym (c .before .in-range .ensures) ∙ c .if1 .taken)
 
--- src/arith.rt:205:1
 returns-2 : tie.Need-returns-2
 unfolding final
 returns-2 c = rw (sym (c .before .in-range .ensures) ∙ c .if1 .left)

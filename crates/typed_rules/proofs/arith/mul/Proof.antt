@@ -1,14 +1,13 @@
+-- `typed_rules::arith::mul` meets its contract.
 use Rattle.ints.proofs.Machine.{sizes}
 use Rattle.typed_rules.proofs.arith.mul.Statement.{statement}
 use Rattle.typed_rules.proofs.arith.mul.Tie as tie
 use Rattle.typed_rules.proofs.arith.mul.Reads as reads
 use Rattle.typed_rules.proofs.arith.mul.Lts as lts
 
--- src/arith.rt:49:5
 mul-result : tie.Need-mul-result
 mul-result c = search sizes depth 8
 
--- src/arith.rt:45:1
 returns : tie.Need-returns
 returns c = search sizes depth 8
 

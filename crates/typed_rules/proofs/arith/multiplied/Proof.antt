@@ -1,3 +1,4 @@
+-- `typed_rules::arith::multiplied` meets its contract: the product of two forms: 14 if neither is a constant.
 use mathlib.Core.Path.{_≡_, refl, ap, sym, _∙_}
 use Rattle.typed_rules.specs.Value.{multiplied}
 use Rattle.typed_rules.proofs.Values.{same-value}
@@ -9,33 +10,26 @@ use Rattle.typed_rules.proofs.arith.multiplied.Lts as lts
 use Rattle.typed_rules.proofs.arith.constant.Reads as constant-reads
 use Rattle.typed_rules.proofs.arith.scaled.Reads as scaled-reads
 
--- src/arith.rt:133:8
 constant-requires : tie.Need-constant-requires
 constant-requires c κs = search needs
 
--- src/arith.rt:134:9
 scaled-requires : tie.Need-scaled-requires
 scaled-requires c κs = search needs
 
--- src/arith.rt:135:15
 constant-requires-2 : tie.Need-constant-requires-2
 constant-requires-2 c κs = search needs
 
--- src/arith.rt:136:9
 scaled-requires-2 : tie.Need-scaled-requires-2
 scaled-requires-2 c κs = search needs
 
--- src/arith.rt:129:1
 returns : tie.Need-returns
 unfolding multiplied
 returns c = same-value (sym (rw (sym (c .before .before .constant .ensures) ∙ c .before .if1 .taken))) (c .scaled .ensures)
 
--- src/arith.rt:129:1
 returns-2 : tie.Need-returns-2
 unfolding multiplied
 returns-2 c = same-value (sym (rw (sym (c .before .before .before .before .constant .ensures) ∙ c .before .before .before .if1 .left, sym (c .before .before .constant2 .ensures) ∙ c .before .if2 .taken))) (c .scaled2 .ensures)
 
--- src/arith.rt:129:1
 returns-3 : tie.Need-returns-3
 unfolding multiplied
 returns-3 c = record { same = rw (sym (c .before .before .before .constant .ensures) ∙ c .before .before .if1 .left, sym (c .before .constant2 .ensures) ∙ c .if2 .left); small = tt }

@@ -1,3 +1,4 @@
+-- `typed_rules::arith::negated` meets its contract.
 use mathlib.Core.Path.{_≡_, refl, ap, sym, _∙_}
 use Rattle.typed_rules.specs.declared.Value.the-variants.{Linear}
 use Rattle.typed_rules.specs.Value.{negated}
@@ -9,24 +10,19 @@ use Rattle.typed_rules.proofs.arith.negated.Reads as reads
 use Rattle.typed_rules.proofs.arith.negated.Lts as lts
 use Rattle.typed_rules.proofs.arith.turned.Reads as turned-reads
 
--- src/arith.rt:154:23
 enum-known-v : tie.Need-enum-known-v
 enum-known-v c = search needs
 
--- src/arith.rt:154:43
 turned-requires : tie.Need-turned-requires
 turned-requires c κs = small-form (c .before .before .before .pre) (c .before .v .given .1)
 
--- src/arith.rt:155:23
 enum-known-v-2 : tie.Need-enum-known-v-2
 enum-known-v-2 c = search needs
 
--- src/arith.rt:149:1
 returns : tie.Need-returns
 unfolding negated
 returns c = record { same = rw (c .before .before .v .given .1) (ap Linear (c .turned .ensures)); small = turned-small (small-form (c .before .before .before .before .pre) (c .before .before .v .given .1)) (c .turned .ensures) }
 
--- src/arith.rt:149:1
 returns-2 : tie.Need-returns-2
 unfolding negated
 returns-2 c = record { same = rw (c .before .v2 .given .1); small = tt }

@@ -1,3 +1,4 @@
+-- `typed_rules::arith::numeral` meets its contract: the value of a number.
 use mir.Syntax.{w64}
 use mir.Facts.{toZ-pos}
 use borrow.Author.Tests.{lt-leb}
@@ -10,15 +11,12 @@ use Rattle.typed_rules.proofs.arith.numeral.Tie as tie
 use Rattle.typed_rules.proofs.arith.numeral.Reads as reads
 use Rattle.typed_rules.proofs.arith.numeral.Lts as lts
 
--- src/arith.rt:89:45
 cast-t4 : tie.Need-cast-t4
 cast-t4 c = search needs
 
--- src/arith.rt:85:1
 returns : tie.Need-returns
 returns c = numeral-yes (c .before .args .n) _ (c .if1 .taken) (toZ-pos w64 (omega arith))
 
--- src/arith.rt:85:1
 returns-2 : tie.Need-returns-2
 unfolding numeral
 returns-2 c = record { same = rw (lt-leb _ _ (c .if1 .left)); small = tt }

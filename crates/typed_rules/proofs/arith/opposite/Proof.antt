@@ -1,14 +1,13 @@
+-- `typed_rules::arith::opposite` meets its contract.
 use Rattle.ints.proofs.Machine.{sizes}
 use Rattle.typed_rules.proofs.arith.opposite.Statement.{statement}
 use Rattle.typed_rules.proofs.arith.opposite.Tie as tie
 use Rattle.typed_rules.proofs.arith.opposite.Reads as reads
 use Rattle.typed_rules.proofs.arith.opposite.Lts as lts
 
--- src/arith.rt:64:5
 sub-result : tie.Need-sub-result
 sub-result c = search sizes depth 8
 
--- src/arith.rt:60:1
 returns : tie.Need-returns
 returns c = search sizes depth 8
 

@@ -1,3 +1,4 @@
+-- `typed_rules::arith::product` meets its contract.
 use Rattle.typed_rules.specs.Value.{multiplied, product}
 use Rattle.typed_rules.proofs.Values.{small-forms, left-refused, right-refused, both-forms}
 use borrow.Author.Needs.{needs}
@@ -7,37 +8,29 @@ use Rattle.typed_rules.proofs.arith.product.Reads as reads
 use Rattle.typed_rules.proofs.arith.product.Lts as lts
 use Rattle.typed_rules.proofs.arith.multiplied.Reads as multiplied-reads
 
--- src/arith.rt:190:23
 enum-known-v : tie.Need-enum-known-v
 enum-known-v c = search needs
 
--- src/arith.rt:191:23
 enum-known-v-2 : tie.Need-enum-known-v-2
 enum-known-v-2 c = search needs
 
--- src/arith.rt:192:27
 enum-known-w : tie.Need-enum-known-w
 enum-known-w c = search needs
 
--- src/arith.rt:193:27
 enum-known-w-2 : tie.Need-enum-known-w-2
 enum-known-w-2 c = search needs
 
--- src/arith.rt:193:33
 multiplied-requires : tie.Need-multiplied-requires
 multiplied-requires c κs = small-forms (c .before .before .before .before .before .before .pre) (c .before .before .before .before .v2 .given .1) (c .before .w2 .given .1)
 
--- src/arith.rt:185:1
 returns : tie.Need-returns
 unfolding product
 returns c = left-refused multiplied (c .before .before .before .args .v) (c .before .before .before .args .w) (c .before .v .given .1)
 
--- src/arith.rt:185:1
 returns-2 : tie.Need-returns-2
 unfolding product
 returns-2 c = right-refused multiplied (c .before .before .before .before .before .before .args .v) (c .before .before .before .before .before .before .args .w) (c .before .before .before .before .v2 .given .1) (c .before .w .given .1)
 
--- src/arith.rt:185:1
 returns-3 : tie.Need-returns-3
 unfolding product
 returns-3 c = both-forms multiplied (c .before .before .before .before .before .before .before .args .v) (c .before .before .before .before .before .before .before .args .w) (c .before .before .before .before .before .v2 .given .1) (c .before .before .w2 .given .1) (c .multiplied .ensures)

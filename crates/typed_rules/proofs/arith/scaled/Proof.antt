@@ -1,3 +1,4 @@
+-- `typed_rules::arith::scaled` meets its contract.
 use Rattle.typed_rules.proofs.Values.{checked-form, form-is, cross-is, mul-is}
 use borrow.Author.Needs.{needs}
 use Rattle.typed_rules.proofs.arith.scaled.Statement.{statement}
@@ -8,23 +9,18 @@ use Rattle.typed_rules.proofs.arith.checked.Reads as checked-reads
 use Rattle.typed_rules.proofs.arith.cross.Reads as cross-reads
 use Rattle.typed_rules.proofs.arith.mul.Reads as mul-reads
 
--- src/arith.rt:125:23
 cross-requires : tie.Need-cross-requires
 cross-requires c κs = search needs
 
--- src/arith.rt:125:53
 cross-requires-2 : tie.Need-cross-requires-2
 cross-requires-2 c κs = search needs
 
--- src/arith.rt:125:83
 mul-requires : tie.Need-mul-requires
 mul-requires c κs = search needs
 
--- src/arith.rt:125:5
 checked-requires : tie.Need-checked-requires
 checked-requires c κs = search needs
 
--- src/arith.rt:121:1
 returns : tie.Need-returns
 returns c = let pre = c .before .before .before .before .before .before .before .before .before .before .before .before .before .before .pre in checked-form (form-is (cross-is (c .before .before .before .before .before .before .before .before .before .cross .result) (pre .left .a) (pre .right .c) (pre .left .c) (pre .right .a) (c .before .before .before .before .before .before .before .before .before .cross .ensures)) (cross-is (c .before .before .before .before .cross2 .result) (pre .left .b) (pre .right .c) (pre .left .c) (pre .right .b) (c .before .before .before .before .cross2 .ensures)) (mul-is (c .before .mul .result) (pre .left .c) (pre .right .c) (c .before .mul .ensures))) (c .checked .ensures)
 

@@ -1,14 +1,13 @@
+-- `typed_rules::arith::sub` meets its contract.
 use Rattle.ints.proofs.Machine.{sizes}
 use Rattle.typed_rules.proofs.arith.sub.Statement.{statement}
 use Rattle.typed_rules.proofs.arith.sub.Tie as tie
 use Rattle.typed_rules.proofs.arith.sub.Reads as reads
 use Rattle.typed_rules.proofs.arith.sub.Lts as lts
 
--- src/arith.rt:42:5
 sub-result : tie.Need-sub-result
 sub-result c = search sizes depth 8
 
--- src/arith.rt:38:1
 returns : tie.Need-returns
 returns c = search sizes depth 8
 

@@ -1,3 +1,4 @@
+-- `typed_rules::arith::sum` meets its contract.
 use Rattle.typed_rules.specs.Value.{checked, addForms, sum}
 use Rattle.typed_rules.proofs.Values.{small-forms, left-refused, right-refused, both-forms}
 use borrow.Author.Needs.{needs}
@@ -7,37 +8,29 @@ use Rattle.typed_rules.proofs.arith.sum.Reads as reads
 use Rattle.typed_rules.proofs.arith.sum.Lts as lts
 use Rattle.typed_rules.proofs.arith.added.Reads as added-reads
 
--- src/arith.rt:164:23
 enum-known-v : tie.Need-enum-known-v
 enum-known-v c = search needs
 
--- src/arith.rt:165:23
 enum-known-v-2 : tie.Need-enum-known-v-2
 enum-known-v-2 c = search needs
 
--- src/arith.rt:166:27
 enum-known-w : tie.Need-enum-known-w
 enum-known-w c = search needs
 
--- src/arith.rt:167:27
 enum-known-w-2 : tie.Need-enum-known-w-2
 enum-known-w-2 c = search needs
 
--- src/arith.rt:167:33
 added-requires : tie.Need-added-requires
 added-requires c κs = small-forms (c .before .before .before .before .before .before .pre) (c .before .before .before .before .v2 .given .1) (c .before .w2 .given .1)
 
--- src/arith.rt:159:1
 returns : tie.Need-returns
 unfolding sum
 returns c = left-refused (λ f g. checked (addForms f g)) (c .before .before .before .args .v) (c .before .before .before .args .w) (c .before .v .given .1)
 
--- src/arith.rt:159:1
 returns-2 : tie.Need-returns-2
 unfolding sum
 returns-2 c = right-refused (λ f g. checked (addForms f g)) (c .before .before .before .before .before .before .args .v) (c .before .before .before .before .before .before .args .w) (c .before .before .before .before .v2 .given .1) (c .before .w .given .1)
 
--- src/arith.rt:159:1
 returns-3 : tie.Need-returns-3
 unfolding sum
 returns-3 c = both-forms (λ f g. checked (addForms f g)) (c .before .before .before .before .before .before .before .args .v) (c .before .before .before .before .before .before .before .args .w) (c .before .before .before .before .before .v2 .given .1) (c .before .before .w2 .given .1) (c .added .ensures)

@@ -1,3 +1,4 @@
+-- `typed_rules::arith::turned` meets its contract.
 use Rattle.typed_rules.proofs.Values.{form-is, opposite-is}
 use borrow.Author.Needs.{needs}
 use Rattle.typed_rules.proofs.arith.turned.Statement.{statement}
@@ -6,19 +7,15 @@ use Rattle.typed_rules.proofs.arith.turned.Reads as reads
 use Rattle.typed_rules.proofs.arith.turned.Lts as lts
 use Rattle.typed_rules.proofs.arith.opposite.Reads as opposite-reads
 
--- src/arith.rt:146:15
 opposite-requires : tie.Need-opposite-requires
 opposite-requires c κs = search needs
 
--- src/arith.rt:146:33
 opposite-requires-2 : tie.Need-opposite-requires-2
 opposite-requires-2 c κs = search needs
 
--- src/arith.rt:146:51
 opposite-requires-3 : tie.Need-opposite-requires-3
 opposite-requires-3 c κs = search needs
 
--- src/arith.rt:142:1
 returns : tie.Need-returns
 returns c = let pre = c .before .before .before .before .before .before .pre in form-is (opposite-is (c .before .before .before .before .opposite .result) (pre .a) (c .before .before .before .before .opposite .ensures)) (opposite-is (c .before .before .opposite2 .result) (pre .b) (c .before .before .opposite2 .ensures)) (opposite-is (c .opposite3 .result) (pre .c) (c .opposite3 .ensures))
 

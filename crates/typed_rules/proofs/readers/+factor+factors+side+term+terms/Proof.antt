@@ -81,7 +81,6 @@ terms-at t = and 1 terms-kinds.ps (is 1 terms-kinds.ps μ-terms t) terms.Pre
 abbrev terms-below : ℕ → In 1 terms-kinds.ps
 terms-below t = and 1 terms-kinds.ps (falls 1 terms-kinds.ps _<_ μ-terms t) terms.Pre
 
--- src/readers.rt:71:9
 factor-lex-requires : (t : ℕ) → factor-lts.Need-lex-requires (
   lex-reads.Asked,
   lex-reads.Learnt,
@@ -101,7 +100,6 @@ factor-lex-requires : (t : ℕ) → factor-lts.Need-lex-requires (
 factor-lex-requires t c κs =
     c .before .pre .1
 
--- src/readers.rt:73:8
 factor-digit-requires : (t : ℕ) → factor-lts.Need-digit-requires (
   lex-reads.Asked,
   lex-reads.Learnt,
@@ -121,7 +119,6 @@ factor-digit-requires : (t : ℕ) → factor-lts.Need-digit-requires (
 factor-digit-requires t c κs =
     search needs
 
--- src/readers.rt:74:9
 factor-number-requires : (t : ℕ) → factor-lts.Need-number-requires (
   lex-reads.Asked,
   lex-reads.Learnt,
@@ -143,7 +140,6 @@ factor-number-requires t c κs =
     let l = c .before .before .lex in
     omega (arith, l .ensures .middle, l .ensures .high)
 
--- src/readers.rt:80:16
 factor-factor-requires : (t : ℕ) → factor-lts.Need-factor-requires (
   lex-reads.Asked,
   lex-reads.Learnt,
@@ -165,7 +161,6 @@ factor-factor-requires t c κs =
     let l = c .before .before .before .before .before .lex in
     (under (st .pre .0) (lower (length (st .args .text .now)) (st .args .at) (l .result .next) 0 (l .ensures .falls (omega (arith, c .if4 .taken))) (l .ensures .high) (omega arith)), l .ensures .high)
 
--- src/readers.rt:80:9
 factor-turned-requires : (t : ℕ) → factor-lts.Need-turned-requires (
   lex-reads.Asked,
   lex-reads.Learnt,
@@ -187,7 +182,6 @@ factor-turned-requires t c κs =
     let l = c .before .before .before .before .before .before .lex in
     small-step (st .args .text .now) (suc (l .result .next)) (c .factor .result) (c .factor .ensures .moved)
 
--- src/readers.rt:85:45
 factor-sub-side : (t : ℕ) → factor-lts.Need-sub-side (
   lex-reads.Asked,
   lex-reads.Learnt,
@@ -207,7 +201,6 @@ factor-sub-side : (t : ℕ) → factor-lts.Need-sub-side (
 factor-sub-side t c =
     pos-of-ne-zero (c .if6 .left)
 
--- src/readers.rt:85:26
 factor-side-requires : (t : ℕ) → factor-lts.Need-side-requires (
   lex-reads.Asked,
   lex-reads.Learnt,
@@ -229,7 +222,6 @@ factor-side-requires t c κs =
     let l = c .before .before .before .before .before .before .before .lex in
     (under (st .pre .0) (lower (length (st .args .text .now)) (st .args .at) (l .result .next) 2 (l .ensures .falls (omega (arith, c .before .if5 .taken))) (l .ensures .high) (omega arith)), l .ensures .high)
 
--- src/readers.rt:85:13
 factor-closed-requires : (t : ℕ) → factor-lts.Need-closed-requires (
   lex-reads.Asked,
   lex-reads.Learnt,
@@ -251,7 +243,6 @@ factor-closed-requires t c κs =
     let l = c .before .before .before .before .before .before .before .before .lex in
     placed (st .args .text .now) (suc (l .result .next)) (c .side .result) (c .side .ensures .moved)
 
--- src/readers.rt:67:1
 factor-returns : (t : ℕ) → factor-lts.Need-returns (
   lex-reads.Asked,
   lex-reads.Learnt,
@@ -273,7 +264,6 @@ factor-returns t c =
     let l = c .before .before .before .lex in
     reads-number (st .args .text .now) (st .args .at) (st .args .depth) (l .result) (l .ensures) (c .number .result) (sym (c .before .before .digit .ensures) ∙ c .before .if1 .taken) (c .number .ensures)
 
--- src/readers.rt:67:1
 factor-returns-2 : (t : ℕ) → factor-lts.Need-returns-2 (
   lex-reads.Asked,
   lex-reads.Learnt,
@@ -295,7 +285,6 @@ factor-returns-2 t c =
     let l = c .before .before .before .lex in
     reads-x (st .args .text .now) (st .args .at) (st .args .depth) (l .result) (l .ensures) (c .if2 .taken)
 
--- src/readers.rt:67:1
 factor-returns-3 : (t : ℕ) → factor-lts.Need-returns-3 (
   lex-reads.Asked,
   lex-reads.Learnt,
@@ -317,7 +306,6 @@ factor-returns-3 t c =
     let l = c .before .before .before .before .lex in
     reads-y (st .args .text .now) (st .args .at) (st .args .depth) (l .result) (l .ensures) (c .if3 .taken)
 
--- src/readers.rt:67:1
 factor-returns-4 : (t : ℕ) → factor-lts.Need-returns-4 (
   lex-reads.Asked,
   lex-reads.Learnt,
@@ -339,7 +327,6 @@ factor-returns-4 t c =
     let l = c .before .before .before .before .before .before .before .lex in
     subst (ReadsFactor (st .args .text .now) (st .args .at) (st .args .depth)) (sym (c .turned .ensures)) (reads-minus (st .args .text .now) (st .args .at) (st .args .depth) (l .result) (l .ensures) (c .before .factor .result) (c .before .before .if4 .taken) (c .before .factor .ensures))
 
--- src/readers.rt:67:1
 factor-returns-5 : (t : ℕ) → factor-lts.Need-returns-5 (
   lex-reads.Asked,
   lex-reads.Learnt,
@@ -361,7 +348,6 @@ factor-returns-5 t c =
     let l = c .before .before .before .before .before .before .before .lex in
     reads-deep (st .args .text .now) (st .args .at) (st .args .depth) (l .result) (l .ensures) (c .before .if5 .taken) (c .if6 .taken)
 
--- src/readers.rt:67:1
 factor-returns-6 : (t : ℕ) → factor-lts.Need-returns-6 (
   lex-reads.Asked,
   lex-reads.Learnt,
@@ -383,7 +369,6 @@ factor-returns-6 t c =
     let l = c .before .before .before .before .before .before .before .before .before .lex in
     reads-group (st .args .text .now) (st .args .at) (st .args .depth) (l .result) (l .ensures) (c .before .side .result) (c .closed .result) (c .before .before .before .if5 .taken) (c .before .before .if6 .left) (c .before .side .ensures) (c .closed .ensures)
 
--- src/readers.rt:67:1
 factor-returns-7 : (t : ℕ) → factor-lts.Need-returns-7 (
   lex-reads.Asked,
   lex-reads.Learnt,
@@ -405,7 +390,6 @@ factor-returns-7 t c =
     let l = c .before .before .before .before .before .before .lex in
     reads-other (st .args .text .now) (st .args .at) (st .args .depth) (l .result) (l .ensures) (sym (c .before .before .before .before .before .digit .ensures) ∙ c .before .before .before .before .if1 .left) (c .before .before .before .if2 .left) (c .before .before .if3 .left) (c .before .if4 .left) (c .if5 .left)
 
--- src/readers.rt:108:9
 factors-lex-requires : (t : ℕ) → factors-lts.Need-lex-requires (
   lex-reads.Asked,
   lex-reads.Learnt,
@@ -419,7 +403,6 @@ factors-lex-requires : (t : ℕ) → factors-lts.Need-lex-requires (
 factors-lex-requires t c κs =
     c .before .pre .1 .high
 
--- src/readers.rt:110:15
 factors-factor-requires : (t : ℕ) → factors-lts.Need-factor-requires (
   lex-reads.Asked,
   lex-reads.Learnt,
@@ -435,7 +418,6 @@ factors-factor-requires t c κs =
     let l = c .before .before .lex in
     (under (st .pre .0) (lower (length (st .args .text .now)) (st .args .at) (l .result .next) 0 (l .ensures .falls (omega (arith, c .if1 .taken))) (l .ensures .high) (omega arith)), l .ensures .high)
 
--- src/readers.rt:111:23
 factors-enum-known-w : (t : ℕ) → factors-lts.Need-enum-known-w (
   lex-reads.Asked,
   lex-reads.Learnt,
@@ -449,7 +431,6 @@ factors-enum-known-w : (t : ℕ) → factors-lts.Need-enum-known-w (
 factors-enum-known-w t c =
     search needs
 
--- src/readers.rt:111:56
 factors-product-requires : (t : ℕ) → factors-lts.Need-product-requires (
   lex-reads.Asked,
   lex-reads.Learnt,
@@ -466,7 +447,6 @@ factors-product-requires t c κs =
     let p = reached {text = st .args .text .now} {low = suc (l .result .next)} (c .before .w .given .1) (c .before .before .before .factor .ensures .moved) in
     record { left = st .pre .1 .small; right = p .small }
 
--- src/readers.rt:111:32
 factors-factors-requires : (t : ℕ) → factors-lts.Need-factors-requires (
   lex-reads.Asked,
   lex-reads.Learnt,
@@ -484,7 +464,6 @@ factors-factors-requires t c κs =
     let h : st .args .at < l .result .next = l .ensures .falls (omega (arith, c .before .before .before .before .before .if1 .taken)) in
     (under (st .pre .0) (lower (length (st .args .text .now)) (st .args .at) (c .before .before .w .given .0 .1 .0) 0 (omega (arith, p .low, h)) (p .high) (omega arith)), record { high = p .high; small = c .product .ensures .small })
 
--- src/readers.rt:112:27
 factors-enum-told : (t : ℕ) → factors-lts.Need-enum-told (
   lex-reads.Asked,
   lex-reads.Learnt,
@@ -498,7 +477,6 @@ factors-enum-told : (t : ℕ) → factors-lts.Need-enum-told (
 factors-enum-told t c =
     search needs
 
--- src/readers.rt:104:1
 factors-returns : (t : ℕ) → factors-lts.Need-returns (
   lex-reads.Asked,
   lex-reads.Learnt,
@@ -514,7 +492,6 @@ factors-returns t c =
     let l = c .before .before .before .before .before .before .before .before .lex in
     reads-times (st .args .text .now) (st .args .at) (st .args .depth) (st .args .v) (l .result) (l .ensures) (c .before .before .before .before .before .factor .result) (c .factors .result) (c .before .before .before .w .given .0 .0) (c .before .product .result) (c .before .before .before .w .given .0 .1 .0) (c .before .before .before .before .before .before .if1 .taken) (c .before .before .before .w .given .1) (c .before .before .before .before .before .factor .ensures) (c .before .product .ensures .same) (c .factors .ensures)
 
--- src/readers.rt:104:1
 factors-returns-2 : (t : ℕ) → factors-lts.Need-returns-2 (
   lex-reads.Asked,
   lex-reads.Learnt,
@@ -530,7 +507,6 @@ factors-returns-2 t c =
     let l = c .before .before .before .before .before .lex in
     times-fails (st .args .text .now) (st .args .at) (st .args .depth) (st .args .v) (l .result) (l .ensures) (c .before .before .factor .result) (c .before .before .before .if1 .taken) (c .enum-told .given .1) (c .before .before .factor .ensures)
 
--- src/readers.rt:104:1
 factors-returns-3 : (t : ℕ) → factors-lts.Need-returns-3 (
   lex-reads.Asked,
   lex-reads.Learnt,
@@ -546,7 +522,6 @@ factors-returns-3 t c =
     let l = c .before .before .lex in
     factors-stop (st .args .text .now) (st .args .at) (st .args .depth) (st .args .v) (l .result) (l .ensures) (c .if1 .left) (st .pre .1)
 
--- src/readers.rt:124:11
 side-term-requires : (t : ℕ) → side-lts.Need-term-requires (
   term-below t,
   term.Post,
@@ -557,7 +532,6 @@ side-term-requires t c κs =
     let st = c .before in
     (under (st .pre .0) (omega arith), st .pre .1)
 
--- src/readers.rt:125:19
 side-enum-known-v : (t : ℕ) → side-lts.Need-enum-known-v (
   term-below t,
   term.Post,
@@ -567,7 +541,6 @@ side-enum-known-v : (t : ℕ) → side-lts.Need-enum-known-v (
 side-enum-known-v t c =
     search needs
 
--- src/readers.rt:125:28
 side-terms-requires : (t : ℕ) → side-lts.Need-terms-requires (
   term-below t,
   term.Post,
@@ -580,7 +553,6 @@ side-terms-requires t c κs =
     let p = reached {text = st .args .text .now} {low = suc (st .args .at)} (c .before .v .given .1) (g .ensures .moved) in
     (under (st .pre .0) (later (length (st .args .text .now)) (st .args .at) (c .before .v .given .0 .1 .0) 2 (p .low) (p .high)), record { high = p .high; small = p .small })
 
--- src/readers.rt:126:23
 side-enum-told : (t : ℕ) → side-lts.Need-enum-told (
   term-below t,
   term.Post,
@@ -590,7 +562,6 @@ side-enum-told : (t : ℕ) → side-lts.Need-enum-told (
 side-enum-told t c =
     search needs
 
--- src/readers.rt:120:1
 side-returns : (t : ℕ) → side-lts.Need-returns (
   term-below t,
   term.Post,
@@ -602,7 +573,6 @@ side-returns t c =
     let g = c .before .before .before .before .term in
     reads-side (st .args .text .now) (st .args .at) (st .args .depth) (g .result) (c .terms .result) (c .before .before .v .given .0 .0) (c .before .before .v .given .0 .1 .0) (c .before .before .v .given .1) (g .ensures) (c .terms .ensures)
 
--- src/readers.rt:120:1
 side-returns-2 : (t : ℕ) → side-lts.Need-returns-2 (
   term-below t,
   term.Post,
@@ -614,7 +584,6 @@ side-returns-2 t c =
     let g = c .before .before .term in
     side-fails (st .args .text .now) (st .args .at) (st .args .depth) (g .result) (c .enum-told .given .1) (g .ensures)
 
--- src/readers.rt:97:11
 term-factor-requires : (t : ℕ) → term-lts.Need-factor-requires (
   factor-below t,
   factor.Post,
@@ -625,7 +594,6 @@ term-factor-requires t c κs =
     let st = c .before in
     (under (st .pre .0) (omega arith), st .pre .1)
 
--- src/readers.rt:98:19
 term-enum-known-v : (t : ℕ) → term-lts.Need-enum-known-v (
   factor-below t,
   factor.Post,
@@ -635,7 +603,6 @@ term-enum-known-v : (t : ℕ) → term-lts.Need-enum-known-v (
 term-enum-known-v t c =
     search needs
 
--- src/readers.rt:98:28
 term-factors-requires : (t : ℕ) → term-lts.Need-factors-requires (
   factor-below t,
   factor.Post,
@@ -648,7 +615,6 @@ term-factors-requires t c κs =
     let p = reached {text = st .args .text .now} {low = suc (st .args .at)} (c .before .v .given .1) (g .ensures .moved) in
     (under (st .pre .0) (later (length (st .args .text .now)) (st .args .at) (c .before .v .given .0 .1 .0) 1 (p .low) (p .high)), record { high = p .high; small = p .small })
 
--- src/readers.rt:99:23
 term-enum-told : (t : ℕ) → term-lts.Need-enum-told (
   factor-below t,
   factor.Post,
@@ -658,7 +624,6 @@ term-enum-told : (t : ℕ) → term-lts.Need-enum-told (
 term-enum-told t c =
     search needs
 
--- src/readers.rt:93:1
 term-returns : (t : ℕ) → term-lts.Need-returns (
   factor-below t,
   factor.Post,
@@ -670,7 +635,6 @@ term-returns t c =
     let g = c .before .before .before .before .factor in
     reads-term (st .args .text .now) (st .args .at) (st .args .depth) (g .result) (c .factors .result) (c .before .before .v .given .0 .0) (c .before .before .v .given .0 .1 .0) (c .before .before .v .given .1) (g .ensures) (c .factors .ensures)
 
--- src/readers.rt:93:1
 term-returns-2 : (t : ℕ) → term-lts.Need-returns-2 (
   factor-below t,
   factor.Post,
@@ -682,7 +646,6 @@ term-returns-2 t c =
     let g = c .before .before .factor in
     term-fails (st .args .text .now) (st .args .at) (st .args .depth) (g .result) (c .enum-told .given .1) (g .ensures)
 
--- src/readers.rt:135:9
 terms-lex-requires : (t : ℕ) → terms-lts.Need-lex-requires (
   lex-reads.Asked,
   lex-reads.Learnt,
@@ -698,7 +661,6 @@ terms-lex-requires : (t : ℕ) → terms-lts.Need-lex-requires (
 terms-lex-requires t c κs =
     c .before .pre .1 .high
 
--- src/readers.rt:137:15
 terms-term-requires : (t : ℕ) → terms-lts.Need-term-requires (
   lex-reads.Asked,
   lex-reads.Learnt,
@@ -716,7 +678,6 @@ terms-term-requires t c κs =
     let l = c .before .before .lex in
     (under (st .pre .0) (lower (length (st .args .text .now)) (st .args .at) (l .result .next) 1 (l .ensures .falls (omega (arith, c .if1 .taken))) (l .ensures .high) (omega arith)), l .ensures .high)
 
--- src/readers.rt:138:23
 terms-enum-known-w : (t : ℕ) → terms-lts.Need-enum-known-w (
   lex-reads.Asked,
   lex-reads.Learnt,
@@ -732,7 +693,6 @@ terms-enum-known-w : (t : ℕ) → terms-lts.Need-enum-known-w (
 terms-enum-known-w t c =
     search needs
 
--- src/readers.rt:138:54
 terms-sum-requires : (t : ℕ) → terms-lts.Need-sum-requires (
   lex-reads.Asked,
   lex-reads.Learnt,
@@ -751,7 +711,6 @@ terms-sum-requires t c κs =
     let p = reached {text = st .args .text .now} {low = suc (l .result .next)} (c .before .w .given .1) (c .before .before .before .term .ensures .moved) in
     record { left = st .pre .1 .small; right = p .small }
 
--- src/readers.rt:138:32
 terms-terms-requires : (t : ℕ) → terms-lts.Need-terms-requires (
   lex-reads.Asked,
   lex-reads.Learnt,
@@ -771,7 +730,6 @@ terms-terms-requires t c κs =
     let h : st .args .at < l .result .next = l .ensures .falls (omega (arith, c .before .before .before .before .before .if1 .taken)) in
     (under (st .pre .0) (lower (length (st .args .text .now)) (st .args .at) (c .before .before .w .given .0 .1 .0) 0 (omega (arith, p .low, h)) (p .high) (omega arith)), record { high = p .high; small = c .sum .ensures .small })
 
--- src/readers.rt:139:27
 terms-enum-told : (t : ℕ) → terms-lts.Need-enum-told (
   lex-reads.Asked,
   lex-reads.Learnt,
@@ -787,7 +745,6 @@ terms-enum-told : (t : ℕ) → terms-lts.Need-enum-told (
 terms-enum-told t c =
     search needs
 
--- src/readers.rt:142:15
 terms-term-requires-2 : (t : ℕ) → terms-lts.Need-term-requires-2 (
   lex-reads.Asked,
   lex-reads.Learnt,
@@ -805,7 +762,6 @@ terms-term-requires-2 t c κs =
     let l = c .before .before .before .before .lex in
     (under (st .pre .0) (lower (length (st .args .text .now)) (st .args .at) (l .result .next) 1 (l .ensures .falls (omega (arith, c .if2 .taken))) (l .ensures .high) (omega arith)), l .ensures .high)
 
--- src/readers.rt:143:23
 terms-enum-known-w-2 : (t : ℕ) → terms-lts.Need-enum-known-w-2 (
   lex-reads.Asked,
   lex-reads.Learnt,
@@ -821,7 +777,6 @@ terms-enum-known-w-2 : (t : ℕ) → terms-lts.Need-enum-known-w-2 (
 terms-enum-known-w-2 t c =
     search needs
 
--- src/readers.rt:143:54
 terms-difference-requires : (t : ℕ) → terms-lts.Need-difference-requires (
   lex-reads.Asked,
   lex-reads.Learnt,
@@ -840,7 +795,6 @@ terms-difference-requires t c κs =
     let p = reached {text = st .args .text .now} {low = suc (l .result .next)} (c .before .w2 .given .1) (c .before .before .before .term2 .ensures .moved) in
     record { left = st .pre .1 .small; right = p .small }
 
--- src/readers.rt:143:32
 terms-terms-requires-2 : (t : ℕ) → terms-lts.Need-terms-requires-2 (
   lex-reads.Asked,
   lex-reads.Learnt,
@@ -860,7 +814,6 @@ terms-terms-requires-2 t c κs =
     let h : st .args .at < l .result .next = l .ensures .falls (omega (arith, c .before .before .before .before .before .if2 .taken)) in
     (under (st .pre .0) (lower (length (st .args .text .now)) (st .args .at) (c .before .before .w2 .given .0 .1 .0) 0 (omega (arith, p .low, h)) (p .high) (omega arith)), record { high = p .high; small = c .difference .ensures .small })
 
--- src/readers.rt:144:27
 terms-enum-told-2 : (t : ℕ) → terms-lts.Need-enum-told-2 (
   lex-reads.Asked,
   lex-reads.Learnt,
@@ -876,7 +829,6 @@ terms-enum-told-2 : (t : ℕ) → terms-lts.Need-enum-told-2 (
 terms-enum-told-2 t c =
     search needs
 
--- src/readers.rt:131:1
 terms-returns : (t : ℕ) → terms-lts.Need-returns (
   lex-reads.Asked,
   lex-reads.Learnt,
@@ -894,7 +846,6 @@ terms-returns t c =
     let l = c .before .before .before .before .before .before .before .before .lex in
     reads-plus (st .args .text .now) (st .args .at) (st .args .depth) (st .args .v) (l .result) (l .ensures) (c .before .before .before .before .before .term .result) (c .terms .result) (c .before .before .before .w .given .0 .0) (c .before .sum .result) (c .before .before .before .w .given .0 .1 .0) (c .before .before .before .before .before .before .if1 .taken) (c .before .before .before .w .given .1) (c .before .before .before .before .before .term .ensures) (c .before .sum .ensures .same) (c .terms .ensures)
 
--- src/readers.rt:131:1
 terms-returns-2 : (t : ℕ) → terms-lts.Need-returns-2 (
   lex-reads.Asked,
   lex-reads.Learnt,
@@ -912,7 +863,6 @@ terms-returns-2 t c =
     let l = c .before .before .before .before .before .lex in
     plus-fails (st .args .text .now) (st .args .at) (st .args .depth) (st .args .v) (l .result) (l .ensures) (c .before .before .term .result) (c .before .before .before .if1 .taken) (c .enum-told .given .1) (c .before .before .term .ensures)
 
--- src/readers.rt:131:1
 terms-returns-3 : (t : ℕ) → terms-lts.Need-returns-3 (
   lex-reads.Asked,
   lex-reads.Learnt,
@@ -930,7 +880,6 @@ terms-returns-3 t c =
     let l = c .before .before .before .before .before .before .before .before .before .before .lex in
     reads-less (st .args .text .now) (st .args .at) (st .args .depth) (st .args .v) (l .result) (l .ensures) (c .before .before .before .before .before .term2 .result) (c .terms2 .result) (c .before .before .before .w2 .given .0 .0) (c .before .difference .result) (c .before .before .before .w2 .given .0 .1 .0) (c .before .before .before .before .before .before .if2 .taken) (c .before .before .before .w2 .given .1) (c .before .before .before .before .before .term2 .ensures) (c .before .difference .ensures .same) (c .terms2 .ensures)
 
--- src/readers.rt:131:1
 terms-returns-4 : (t : ℕ) → terms-lts.Need-returns-4 (
   lex-reads.Asked,
   lex-reads.Learnt,
@@ -948,7 +897,6 @@ terms-returns-4 t c =
     let l = c .before .before .before .before .before .before .before .lex in
     less-fails (st .args .text .now) (st .args .at) (st .args .depth) (st .args .v) (l .result) (l .ensures) (c .before .before .term2 .result) (c .before .before .before .if2 .taken) (c .enum-told2 .given .1) (c .before .before .term2 .ensures)
 
--- src/readers.rt:131:1
 terms-returns-5 : (t : ℕ) → terms-lts.Need-returns-5 (
   lex-reads.Asked,
   lex-reads.Learnt,

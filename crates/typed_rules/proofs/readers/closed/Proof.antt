@@ -1,3 +1,4 @@
+-- `typed_rules::readers::closed` meets its contract: the parenthesis after a side.
 use mathlib.Core.Path.{subst}
 use Rattle.typed_rules.specs.Contracts.{Placed}
 use Rattle.typed_rules.proofs.Reading.{closed-yes, closed-no, closed-fail}
@@ -8,27 +9,21 @@ use Rattle.typed_rules.proofs.readers.closed.Reads as reads
 use Rattle.typed_rules.proofs.readers.closed.Lts as lts
 use Rattle.typed_rules.proofs.tokens.lex.Reads as lex-reads
 
--- src/readers.rt:54:19
 enum-known-s : tie.Need-enum-known-s
 enum-known-s c = search needs
 
--- src/readers.rt:55:17
 lex-requires : tie.Need-lex-requires
 lex-requires c κs = subst (Placed (c .before .before .before .before .args .text .now)) (c .before .s .given .1) (c .before .before .before .before .pre)
 
--- src/readers.rt:62:23
 enum-told : tie.Need-enum-told
 enum-told c = search needs
 
--- src/readers.rt:49:1
 returns : tie.Need-returns
 returns c = closed-yes _ _ _ _ (c .before .before .lex .result) (c .before .before .before .before .s .given .1) (c .before .before .lex .ensures) (c .if1 .taken)
 
--- src/readers.rt:49:1
 returns-2 : tie.Need-returns-2
 returns-2 c = closed-no _ _ _ _ (c .before .before .lex .result) (c .before .before .before .before .s .given .1) (c .before .before .lex .ensures) (c .if1 .left)
 
--- src/readers.rt:49:1
 returns-3 : tie.Need-returns-3
 returns-3 c = closed-fail _ _ (c .enum-told .given .1)
 

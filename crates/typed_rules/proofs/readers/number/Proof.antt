@@ -1,3 +1,4 @@
+-- `typed_rules::readers::number` meets its contract: a number of at most 10 digits.
 use Rattle.typed_rules.proofs.Reading.{number-yes, number-no}
 use borrow.Author.Needs.{needs}
 use Rattle.typed_rules.proofs.readers.number.Statement.{statement}
@@ -7,23 +8,18 @@ use Rattle.typed_rules.proofs.readers.number.Lts as lts
 use Rattle.typed_rules.proofs.arith.numeral.Reads as numeral-reads
 use Rattle.typed_rules.proofs.tokens.digits.Reads as digits-reads
 
--- src/readers.rt:28:9
 digits-requires : tie.Need-digits-requires
 digits-requires c κs = search needs
 
--- src/readers.rt:30:8
 sub-if1 : tie.Need-sub-if1
 sub-if1 c = search needs
 
--- src/readers.rt:31:19
 numeral-requires : tie.Need-numeral-requires
 numeral-requires c κs = search needs
 
--- src/readers.rt:24:1
 returns : tie.Need-returns
 returns c = number-yes _ (c .before .before .before .before .args .at) (c .before .before .digits .result) (c .numeral .result) (c .before .before .digits .ensures) (c .before .if1 .taken) (c .numeral .ensures)
 
--- src/readers.rt:24:1
 returns-2 : tie.Need-returns-2
 returns-2 c = number-no _ (c .before .before .before .args .at) (c .before .digits .result) (c .before .digits .ensures) (c .if1 .left)
 

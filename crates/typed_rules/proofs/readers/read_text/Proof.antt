@@ -1,3 +1,4 @@
+-- `typed_rules::readers::read_text` meets its contract: a whole text of any length.
 use Rattle.typed_rules.proofs.Reading.{reached}
 use Rattle.typed_rules.proofs.Whole.{text-got, text-fails}
 use borrow.Author.Needs.{needs}
@@ -8,30 +9,24 @@ use Rattle.typed_rules.proofs.readers.read_text.Lts as lts
 use Rattle.typed_rules.proofs.readers.relation.Reads as relation-reads
 use Rattle.typed_rules.proofs.readers.side.Reads as side-reads
 
--- src/readers.rt:192:11
 side-requires : tie.Need-side-requires
 side-requires c κs = search needs
 
--- src/readers.rt:193:19
 enum-known-v : tie.Need-enum-known-v
 enum-known-v c = search needs
 
--- src/readers.rt:193:28
 relation-requires : tie.Need-relation-requires
 relation-requires c κs =
     let p = reached {text = c .before .before .before .before .before .args .text .now} {low = 1} (c .before .v .given .1) (c .before .before .before .side .ensures .moved) in
     record { high = p .high; small = p .small }
 
--- src/readers.rt:194:23
 enum-told : tie.Need-enum-told
 enum-told c = search needs
 
--- src/readers.rt:189:1
 returns : tie.Need-returns
 returns c =
     text-got (c .before .before .before .before .before .before .args .text .now) (c .before .before .before .before .side .result) (c .before .before .v .given .0 .0) (c .before .before .v .given .0 .1 .0) (c .relation .result) (c .before .before .v .given .1) (c .before .before .before .before .side .ensures) (c .relation .ensures)
 
--- src/readers.rt:189:1
 returns-2 : tie.Need-returns-2
 returns-2 c =
     text-fails (c .before .before .before .before .args .text .now) (c .before .before .side .result) (c .enum-told .given .1) (c .before .before .side .ensures)

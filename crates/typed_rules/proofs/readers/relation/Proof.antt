@@ -1,3 +1,4 @@
+-- `typed_rules::readers::relation` meets its contract: the relation and the right side, after a left side whose value is v.
 use Rattle.typed_rules.proofs.Whole.{judges-most, judges-least, judges-other}
 use borrow.Author.Needs.{needs}
 use Rattle.typed_rules.proofs.readers.relation.Statement.{statement}
@@ -7,33 +8,27 @@ use Rattle.typed_rules.proofs.readers.relation.Lts as lts
 use Rattle.typed_rules.proofs.readers.right.Reads as right-reads
 use Rattle.typed_rules.proofs.tokens.lex.Reads as lex-reads
 
--- src/readers.rt:178:9
 lex-requires : tie.Need-lex-requires
 lex-requires c κs = search needs
 
--- src/readers.rt:180:9
 right-requires : tie.Need-right-requires
 right-requires c κs = search needs
 
--- src/readers.rt:182:9
 right-requires-2 : tie.Need-right-requires-2
 right-requires-2 c κs = search needs
 
--- src/readers.rt:174:1
 returns : tie.Need-returns
 returns c =
     let st = c .before .before .before .before .before in
     let l = c .before .before .before .lex in
     judges-most (st .args .text .now) (st .args .at) (st .args .v) (l .result) (l .ensures) (c .right .result) (c .before .if1 .taken) (c .right .ensures)
 
--- src/readers.rt:174:1
 returns-2 : tie.Need-returns-2
 returns-2 c =
     let st = c .before .before .before .before .before .before .before in
     let l = c .before .before .before .before .before .lex in
     judges-least (st .args .text .now) (st .args .at) (st .args .v) (l .result) (l .ensures) (c .right2 .result) (c .before .if2 .taken) (c .right2 .ensures)
 
--- src/readers.rt:174:1
 returns-3 : tie.Need-returns-3
 returns-3 c =
     let st = c .before .before .before .before .before .before in

@@ -1,3 +1,4 @@
+-- `typed_rules::readers::right` meets its contract: the right side, after < or >, where the left side's value is v.
 use mathlib.Core.Path.{sym, _∙_}
 use Prim.Native.Nat.{suc, _+_}
 use native.Mathlib.Omega.{arith}
@@ -13,26 +14,21 @@ use Rattle.typed_rules.proofs.readers.side.Reads as side-reads
 use Rattle.typed_rules.proofs.tokens.byte_at.Reads as byte-at-reads
 use Rattle.typed_rules.proofs.tokens.skip.Reads as skip-reads
 
--- src/readers.rt:156:8
 byte-at-requires : tie.Need-byte-at-requires
 byte-at-requires c κs = search needs
 
--- src/readers.rt:157:26
 add-side : tie.Need-add-side
 add-side c = search needs
 
--- src/readers.rt:157:15
 side-requires : tie.Need-side-requires
 side-requires c κs =
     let st = c .before .before .before in
     let b = c .before .byte-at in
     omega (arith, byte-inside (st .args .text .now) (st .args .at) 61 (sym (b .ensures) ∙ c .if1 .taken) (omega arith))
 
--- src/readers.rt:158:23
 enum-known-w : tie.Need-enum-known-w
 enum-known-w c = search needs
 
--- src/readers.rt:159:21
 skip-requires : tie.Need-skip-requires
 skip-requires c κs =
     let st = c .before .before .before .before .before .before .before in
@@ -40,7 +36,6 @@ skip-requires c κs =
     let p = reached {text = st .args .text .now} {low = suc (st .args .at + 1)} (c .before .w .given .1) (c .before .before .before .side .ensures .moved) in
     p .high
 
--- src/readers.rt:163:21
 conclude-requires : tie.Need-conclude-requires
 conclude-requires c κs =
     let st = c .before .before .before .before .before .before .before .before .before in
@@ -48,32 +43,27 @@ conclude-requires c κs =
     let p = reached {text = st .args .text .now} {low = suc (st .args .at + 1)} (c .before .before .before .w .given .1) (c .before .before .before .before .before .side .ensures .moved) in
     record { left = st .pre .small; right = p .small }
 
--- src/readers.rt:166:27
 enum-told : tie.Need-enum-told
 enum-told c = search needs
 
--- src/readers.rt:152:1
 returns : tie.Need-returns
 returns c =
     let st = c .before .before .before .before .before .before .before .before .before in
     let b = c .before .before .before .before .before .before .before .byte-at in
     right-more (st .args .text .now) (st .args .at) (st .args .kind) (st .args .v) (b .result) (c .before .before .before .before .before .side .result) (c .before .before .before .w .given .0 .0) (c .before .before .before .w .given .0 .1 .0) (c .before .skip .result) (b .ensures) (c .before .before .before .before .before .before .if1 .taken) (c .before .before .before .w .given .1) (c .before .before .before .before .before .side .ensures) (c .before .skip .ensures) (c .if2 .taken)
 
--- src/readers.rt:152:1
 returns-2 : tie.Need-returns-2
 returns-2 c =
     let st = c .before .before .before .before .before .before .before .before .before .before in
     let b = c .before .before .before .before .before .before .before .before .byte-at in
     right-ends (st .args .text .now) (st .args .at) (st .args .kind) (st .args .v) (b .result) (c .before .before .before .before .before .before .side .result) (c .before .before .before .before .w .given .0 .0) (c .before .before .before .before .w .given .0 .1 .0) (c .before .before .skip .result) (c .conclude .result) (b .ensures) (c .before .before .before .before .before .before .before .if1 .taken) (c .before .before .before .before .w .given .1) (c .before .before .before .before .before .before .side .ensures) (c .before .before .skip .ensures) (c .before .if2 .left) (c .conclude .ensures)
 
--- src/readers.rt:152:1
 returns-3 : tie.Need-returns-3
 returns-3 c =
     let st = c .before .before .before .before .before .before in
     let b = c .before .before .before .before .byte-at in
     right-fails (st .args .text .now) (st .args .at) (st .args .kind) (st .args .v) (b .result) (c .before .before .side .result) (b .ensures) (c .before .before .before .if1 .taken) (c .enum-told .given .1) (c .before .before .side .ensures)
 
--- src/readers.rt:152:1
 returns-4 : tie.Need-returns-4
 returns-4 c =
     let st = c .before .before .before in

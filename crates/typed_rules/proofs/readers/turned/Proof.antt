@@ -1,3 +1,4 @@
+-- `typed_rules::readers::turned` meets its contract: the factor after a minus, turned round.
 use mathlib.Core.Path.{subst, ap}
 use Rattle.typed_rules.specs.declared.Value.{Value}
 use Rattle.typed_rules.specs.declared.Step.the-variants.{Got}
@@ -9,23 +10,18 @@ use Rattle.typed_rules.proofs.readers.turned.Reads as reads
 use Rattle.typed_rules.proofs.readers.turned.Lts as lts
 use Rattle.typed_rules.proofs.arith.negated.Reads as negated-reads
 
--- src/readers.rt:43:19
 enum-known-s : tie.Need-enum-known-s
 enum-known-s c = search needs
 
--- src/readers.rt:43:38
 negated-requires : tie.Need-negated-requires
 negated-requires c κs = subst SmallStep (c .before .s .given .1) (c .before .before .before .pre)
 
--- src/readers.rt:44:23
 enum-told : tie.Need-enum-told
 enum-told c = search needs
 
--- src/readers.rt:38:1
 returns : tie.Need-returns
 returns c = rw (c .before .before .s .given .1) (ap (λ (v : Value). Got v (c .before .before .s .given .0 .1 .0)) (c .negated .ensures .same))
 
--- src/readers.rt:38:1
 returns-2 : tie.Need-returns-2
 returns-2 c = search needs
 

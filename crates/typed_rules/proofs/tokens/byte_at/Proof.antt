@@ -1,3 +1,4 @@
+-- `typed_rules::tokens::byte_at` meets its contract: the byte at a place, or 0 at the end.
 use Rattle.typed_rules.proofs.Bytes.{first-here, first-end}
 use borrow.Author.Needs.{needs}
 use Rattle.typed_rules.proofs.tokens.byte_at.Statement.{statement}
@@ -5,15 +6,12 @@ use Rattle.typed_rules.proofs.tokens.byte_at.Tie as tie
 use Rattle.typed_rules.proofs.tokens.byte_at.Reads as reads
 use Rattle.typed_rules.proofs.tokens.byte_at.Lts as lts
 
--- src/tokens.rt:21:26
 shared-slice-read-result : tie.Need-shared-slice-read-result
 shared-slice-read-result c = search needs
 
--- src/tokens.rt:18:1
 returns : tie.Need-returns
 returns c = first-here _ (c .before .before .args .at) (c .before .if1 .taken)
 
--- src/tokens.rt:18:1
 returns-2 : tie.Need-returns-2
 returns-2 c = first-end _ (c .before .args .at) (c .if1 .left)
 

@@ -1,3 +1,4 @@
+-- `typed_rules::tokens::digits` meets its contract: as many digits as there are.
 use native.Mathlib.Omega.{arith}
 use mathlib.Core.Path.{sym, _∙_}
 use Prim.Native.Nat.{_-_}
@@ -17,39 +18,30 @@ Inv-loop text at number₀ i₀ number i = Running text at number i
 abbrev μ-loop : tie.MeasureT-loop
 μ-loop text at number₀ i₀ number i = length text - i
 
--- src/tokens.rt:86:5
 loop-holds : tie.Need-loop-holds Inv-loop μ-loop
 loop-holds c = run-start _ (c .before .args .at) (c .before .pre)
 
--- src/tokens.rt:87:17
 shared-slice-read-b : tie.Need-shared-slice-read-b Inv-loop μ-loop
 shared-slice-read-b c = omega arith
 
--- src/tokens.rt:88:12
 digit-requires : tie.Need-digit-requires Inv-loop μ-loop
 digit-requires c κs = search needs
 
--- src/tokens.rt:89:13
 grow-requires : tie.Need-grow-requires Inv-loop μ-loop
 grow-requires c κs = digit-low _ (sym (c .before .digit .ensures) ∙ c .if1 .taken)
 
--- src/tokens.rt:90:13
 add-i : tie.Need-add-i Inv-loop μ-loop
 add-i c = omega arith
 
--- src/tokens.rt:86:5
 loop-less : tie.Need-loop-less Inv-loop μ-loop
 loop-less c = omega arith
 
--- src/tokens.rt:86:5
 loop-again : tie.Need-loop-again Inv-loop μ-loop
 loop-again c = run-more _ (c .before .before .before .before .before .before .before .args .at) (c .before .before .before .before .before .loop .number) (c .before .before .before .before .before .loop .i) _ (omega arith) (sym (c .before .before .digit .ensures) ∙ c .before .if1 .taken) (c .grow .ensures) (c .before .before .before .before .before .loop .inv)
 
--- src/tokens.rt:92:13
 returns : tie.Need-returns Inv-loop μ-loop
 returns c = run-stop _ (c .before .before .before .before .before .before .args .at) (c .before .before .before .before .loop .number) (c .before .before .before .before .loop .i) (omega arith) (sym (c .before .digit .ensures) ∙ c .if1 .left) (c .before .before .before .before .loop .inv)
 
--- src/tokens.rt:80:1
 returns-2 : tie.Need-returns-2 Inv-loop μ-loop
 returns-2 c = run-end _ (c .before .before .before .args .at) (c .before .loop .number) (c .before .loop .i) (omega arith) (c .before .loop .inv)
 

@@ -1,3 +1,4 @@
+-- `typed_rules::tokens::grow` meets its contract: a number with a digit more.
 use mathlib.Core.Path.{ap, _∙_}
 use Prim.Native.Nat.{ℕ, _+_, _*_}
 use borrow.Author.Tests.{le-leb, lt-leb}
@@ -9,27 +10,21 @@ use Rattle.typed_rules.proofs.tokens.grow.Reads as reads
 use Rattle.typed_rules.proofs.tokens.grow.Lts as lts
 use Rattle.typed_rules.proofs.tokens.wide.Reads as wide-reads
 
--- src/tokens.rt:73:9
 mul-result : tie.Need-mul-result
 mul-result c = search needs
 
--- src/tokens.rt:73:23
 sub-wide : tie.Need-sub-wide
 sub-wide c = search needs
 
--- src/tokens.rt:73:18
 wide-requires : tie.Need-wide-requires
 wide-requires c κs = search needs
 
--- src/tokens.rt:73:9
 add-result : tie.Need-add-result
 add-result c = search needs
 
--- src/tokens.rt:68:1
 returns : tie.Need-returns
 returns c = rw (le-leb _ limit (c .before .if1 .taken)) (ap (λ (d : ℕ). c .before .before .args .n * 10 + d) (c .wide .ensures))
 
--- src/tokens.rt:68:1
 returns-2 : tie.Need-returns-2
 returns-2 c = rw (lt-leb _ limit (c .if1 .left))
 

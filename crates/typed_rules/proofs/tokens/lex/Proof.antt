@@ -1,3 +1,4 @@
+-- `typed_rules::tokens::lex` meets its contract: the next item's first byte.
 use Rattle.typed_rules.proofs.Bytes.{lex-here, lex-end}
 use borrow.Author.Needs.{needs}
 use Rattle.typed_rules.proofs.tokens.lex.Statement.{statement}
@@ -6,23 +7,18 @@ use Rattle.typed_rules.proofs.tokens.lex.Reads as reads
 use Rattle.typed_rules.proofs.tokens.lex.Lts as lts
 use Rattle.typed_rules.proofs.tokens.skip.Reads as skip-reads
 
--- src/tokens.rt:45:9
 skip-requires : tie.Need-skip-requires
 skip-requires c κs = search needs
 
--- src/tokens.rt:48:19
 shared-slice-read-t8 : tie.Need-shared-slice-read-t8
 shared-slice-read-t8 c = search needs
 
--- src/tokens.rt:50:19
 add-t9 : tie.Need-add-t9
 add-t9 c = search needs
 
--- src/tokens.rt:41:1
 returns : tie.Need-returns
 returns c = lex-here _ (c .before .before .before .before .args .at) (c .before .before .skip .result) (c .before .if1 .taken) (c .before .before .skip .ensures)
 
--- src/tokens.rt:41:1
 returns-2 : tie.Need-returns-2
 returns-2 c = lex-end _ (c .before .before .before .args .at) (c .before .skip .result) (c .if1 .left) (c .before .skip .ensures)
 

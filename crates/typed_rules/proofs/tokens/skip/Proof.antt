@@ -1,3 +1,4 @@
+-- `typed_rules::tokens::skip` meets its contract: the first place that has no space.
 use native.Mathlib.Omega.{arith}
 use Prim.Native.Nat.{_-_}
 use lib.ListN.{length}
@@ -13,31 +14,24 @@ Inv-loop text at i₀ i = Skipping text at i
 abbrev μ-loop : tie.MeasureT-loop
 μ-loop text at i₀ i = length text - i
 
--- src/tokens.rt:30:5
 loop-holds : tie.Need-loop-holds Inv-loop μ-loop
 loop-holds c = skip-start _ (c .args .at) (c .pre)
 
--- src/tokens.rt:31:12
 shared-slice-read-if1 : tie.Need-shared-slice-read-if1 Inv-loop μ-loop
 shared-slice-read-if1 c = omega arith
 
--- src/tokens.rt:32:13
 add-i : tie.Need-add-i Inv-loop μ-loop
 add-i c = omega arith
 
--- src/tokens.rt:30:5
 loop-less : tie.Need-loop-less Inv-loop μ-loop
 loop-less c = omega arith
 
--- src/tokens.rt:30:5
 loop-again : tie.Need-loop-again Inv-loop μ-loop
 loop-again c = skip-more _ (c .before .before .before .before .args .at) (c .before .before .before .loop .i) (omega arith) (c .if1 .taken) (c .before .before .before .loop .inv)
 
--- src/tokens.rt:34:13
 returns : tie.Need-returns Inv-loop μ-loop
 returns c = skip-stop _ (c .before .before .before .before .args .at) (c .before .before .before .loop .i) (omega arith) (c .if1 .left) (c .before .before .before .loop .inv)
 
--- src/tokens.rt:25:1
 returns-2 : tie.Need-returns-2 Inv-loop μ-loop
 returns-2 c = skip-end _ (c .before .before .args .at) (c .before .loop .i) (omega arith) (c .before .loop .inv)
 
