@@ -7,7 +7,7 @@ use lib.ListN.{getD, drop}
 use lib.Dec.{lit≤}
 use Rattle.book.specs.Layout.{v1}
 use Rattle.book.specs.Number.{number}
-use Rattle.book.specs.Record.{recordAt, linkOf, kindOf, aOf, bOf, labelOf, cOf}
+use Rattle.book.specs.Record.{recordAt, linkOf, kindOf, aOf, bOf, labelOf, cOf, ruleWith, ruleOf}
 use Rattle.book.proofs.Numbers.{field-at, one-byte}
 
 module _ (s : List ℕ) (i : ℕ) where
@@ -33,3 +33,7 @@ module _ (s : List ℕ) (i : ℕ) where
 
   pub c-at : number 4 (drop (i * 12 + 8) s) ≡ cOf v1 (recordAt v1 s i)
   c-at = sym (field 4 8 (lit≤ tt))
+
+  -- the rule of the fields that are read
+  pub rule-read : {k a b l c : ℕ} → k ≡ getD s (i * 12 + 1) 0 → a ≡ number 2 (drop (i * 12 + 2) s) → b ≡ number 2 (drop (i * 12 + 4) s) → l ≡ number 2 (drop (i * 12 + 6) s) → c ≡ number 4 (drop (i * 12 + 8) s) → ruleWith k a b l c ≡ ruleOf v1 (recordAt v1 s i)
+  rule-read k a b l c j = ruleWith ((k ∙ kind-at) j) ((a ∙ a-at) j) ((b ∙ b-at) j) ((l ∙ label-at) j) ((c ∙ c-at) j)

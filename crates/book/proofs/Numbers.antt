@@ -1,5 +1,5 @@
 -- Numbers as bytes: what stands at an offset, bounds, and that writing and reading undo one another.
-use Prim.Native.Nat.{ℕ, zero, suc, _+_, _*_, _^_, _≤_, _<_, suc-le-suc}
+use Prim.Native.Nat.{ℕ, zero, suc, _+_, _-_, _*_, _%_, _^_, _≤_, _<_, suc-le-suc}
 use mathlib.Core.Path.{_≡_, refl, sym, ap, _∙_}
 use mathlib.Core.Bool.{false}
 use mathlib.Core.List.{List, [], _∷_}
@@ -9,7 +9,8 @@ use borrow.Author.Tests.{lt-ltb, le-ltb, ltb-false}
 use lib.ListN.{getD, drop, take}
 use lib.Dec.{lit<}
 use lib.Seq.{drop-drop}
-use native.Mathlib.Nat.{lt-of-lt-of-le, lt-of-le-of-lt, le-suc, not-suc-le-zero, le-of-suc-le-suc}
+use native.Mathlib.Decide.{decLt}
+use native.Mathlib.Nat.{mod-lt, mod-eq-of-lt, mod-eq-sub-mod, lt-of-lt-of-le, lt-of-le-of-lt, le-suc, not-suc-le-zero, le-of-suc-le-suc}
 use lib.IntN.{ℤ, pos, negsuc, negℤ, _-ℤ_, +ℤ-idl}
 use lib.Signed.{ltZ}
 use mir.Syntax.{Width, w64}
@@ -36,6 +37,7 @@ number-none s = refl
 pub one-byte : (s : List ℕ) (at : ℕ) → getD s at 0 ≡ number 1 (drop at s)
 one-byte s at = omega (arith, number-step 0 at s, number-none (drop (suc at) s))
 
+-- the number that two bytes make, and that four make
 pub two-bytes : (s : List ℕ) (at : ℕ) → getD s at 0 + 256 * getD s (at + 1) 0 ≡ number 2 (drop at s)
 two-bytes s at =
     rw add-one
@@ -53,14 +55,22 @@ four-bytes s at =
       number-none (drop (suc (suc (suc (suc at)))) s),
     ))
 
--- ---- signed numbers: w bits as 64 have them
+-- ---- signed numbers
 
-pub signed-low : (w : Width) (b : ℕ) → b < 2 ^ hbits w → b < 2 ^ 63 → toZ w64 b ≡ toZ w b
-signed-low w b h k = toZ-pos w64 b k ∙ sym (toZ-pos w b h)
-
-pub signed-high : (w : Width) (f b : ℕ) → 2 ^ bits w ≡ suc f → 2 ^ hbits w ≤ b → b < suc f → b < 2 ^ 63 → toZ w64 b -ℤ pos (suc f) ≡ toZ w b
-signed-high w f b e h l k =
-    ap (λ z. z -ℤ pos (suc f)) (toZ-pos w64 b k) ∙ rw (lt-ltb b (suc f) l, le-ltb b (2 ^ hbits w) h, e)
+-- half the range up, round the end, and half the range down: two's complement of w bits
+pub turned-round : (w : Width) (h b : ℕ) → 2 ^ hbits w ≡ suc h → 2 ^ bits w ≡ suc h + suc h → suc h + suc h ≤ 2 ^ 63 → b < suc h + suc h → toZ w64 ((b + suc h) % (suc h + suc h)) -ℤ pos (suc h) ≡ toZ w b
+turned-round w h b half whole wide fits =
+    ap (λ z. z -ℤ pos (suc h)) (toZ-pos w64 ((b + suc h) % (suc h + suc h)) (lt-of-lt-of-le (mod-lt (b + suc h) (omega arith)) wide)) ∙ go (decLt b (suc h))
+  where
+    go : Dec (b < suc h) → pos ((b + suc h) % (suc h + suc h)) -ℤ pos (suc h) ≡ toZ w b
+    go (yes low) =
+        let up : (b + suc h) % (suc h + suc h) ≡ b + suc h = mod-eq-of-lt (omega arith) in
+        let back : b + suc h - suc h ≡ b = omega arith in
+        ap (λ m. pos m -ℤ pos (suc h)) up ∙ rw (le-ltb (b + suc h) (suc h) (omega arith), back) (sym (toZ-pos w b (rw half low)))
+    go (no high) =
+        let up : (b + suc h) % (suc h + suc h) ≡ b - suc h = mod-eq-sub-mod {n = b + suc h} {m = suc h + suc h} (omega arith) ∙ mod-eq-of-lt (omega arith) ∙ omega arith in
+        let back : suc h - suc (b - suc h) ≡ suc h + suc h - suc b = omega arith in
+        ap (λ m. pos m -ℤ pos (suc h)) up ∙ rw (lt-ltb (b - suc h) (suc h) (omega arith), le-ltb b (2 ^ hbits w) (rw half (omega arith)), whole, back)
 
 pub signed-wide : (w : Width) (b : ℕ) → Fits w b → 2 ^ hbits w ≤ 2 ^ 63 → SFits w64 (toZ w b)
 signed-wide w b f k = record { sfits = lt-of-lt-of-le (toZ-fits w b f .sfits) k }

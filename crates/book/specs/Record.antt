@@ -15,6 +15,10 @@ use Rattle.book.specs.declared.Decoded.the-variants.{Sound, Kind, Slope,
 use Rattle.book.specs.Layout.{Layout, width, atKind, atPad, atA, atB, atLabel, atC}
 use Rattle.book.specs.Number.{number}
 
+-- a rule of these fields, as unsigned numbers
+abbrev pub ruleWith : (kind a b label c : ℕ) → Rule
+ruleWith kind a b label c = record { kind = kind; a = toZ w16 a; b = toZ w16 b; c = toZ w32 c; label = label }
+
 module _ (L : Layout) where
   -- record i of a book: the bytes from i · width on, as many as a record has
   unfoldable pub recordAt : List ℕ → ℕ → List ℕ
@@ -44,14 +48,7 @@ module _ (L : Layout) where
 
   -- a rule record's rule, as written
   abbrev pub ruleOf : List ℕ → Rule
-  ruleOf r =
-      record {
-        kind = kindOf r;
-        a = toZ w16 (aOf r);
-        b = toZ w16 (bOf r);
-        c = toZ w32 (cOf r);
-        label = labelOf r;
-      }
+  ruleOf r = ruleWith (kindOf r) (aOf r) (bOf r) (labelOf r) (cOf r)
 
 -- −32,768, which a, b, p and q must not be; and beyond ±1,000,000,000, where c must not be
 abbrev pub lowest : ℤ → Bool

@@ -7,14 +7,6 @@ mod labels;
 mod links;
 mod pack;
 
-use bytes::byte_at;
-use bytes::byte_in;
-use bytes::inside2;
-use bytes::inside4;
-use bytes::number2;
-use bytes::number4;
-use bytes::signed16;
-use bytes::signed32;
 use header::header_fault;
 use links::refused;
 use links::walk;
@@ -24,8 +16,6 @@ use pack::header_bytes;
 use pack::next_of;
 use pack::put_rules;
 use pack::store;
-ghost use Prim.Native.Nat.{_+_, _*_, _<_};
-ghost use lib.ListN.{length};
 ghost use mathlib.Core.Path.{_≡_};
 ghost use Rattle.book.specs.Layout.{v1};
 ghost use Rattle.book.specs.Record.{recordAt, decodedOf};
@@ -77,44 +67,15 @@ pub fn read(book: &[u8]) -> Chain
     }
 }
 
-// The rule of a record that is there: one test has shown it for all its bytes.
-fn rule_inside(book: &[u8], index: u16) -> Rule
-    requires { ⌜ index * 12 + 11 < length (now book) ⌝ }
-    ensures { λ r. ⌜ RuleAt (now (book .entry)) index r ⌝ }
-{
-    let at = index as usize * 12;
-    Rule {
-        kind: byte_in(book, at + 1),
-        a: signed16(inside2(book, at + 2)),
-        b: signed16(inside2(book, at + 4)),
-        c: signed32(inside4(book, at + 8)),
-        label: inside2(book, at + 6),
-    }
-}
-
-// The rule of a record that ends early or is not there.
-fn rule_past(book: &[u8], index: u16) -> Rule
-    ensures { λ r. ⌜ RuleAt (now (book .entry)) index r ⌝ }
-{
-    let at = index as u32 * 12;
-    Rule {
-        kind: byte_at(book, at as usize + 1),
-        a: signed16(number2(book, at + 2)),
-        b: signed16(number2(book, at + 4)),
-        c: signed32(number4(book, at + 8)),
-        label: number2(book, at + 6),
-    }
-}
-
 // The rule of a record, whether the record is on the chain or not.
 pub fn rule_at(book: &[u8], index: u16) -> Rule
     ensures { λ r. ⌜ RuleAt (now (book .entry)) index r ⌝ }
 {
     let last = index as usize * 12 + 11;
     if last < book.len() {
-        rule_inside(book, index)
+        decode::rule_inside(book, index)
     } else {
-        rule_past(book, index)
+        decode::rule_past(book, index)
     }
 }
 

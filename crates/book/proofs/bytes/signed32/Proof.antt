@@ -1,33 +1,31 @@
--- `book::bytes::signed32` meets its contract: below half the bits are the number; from half on, 4,294,967,296 less (`signed-high`).
+-- `book::bytes::signed32` meets its contract: half the range up, round the end, and half the range down (`turned-round`).
 use borrow.Author.Needs.{needs}
 use native.Mathlib.Omega.{arith}
+use Prim.Native.Nat.{_+_, _%_}
 use mathlib.Core.Path.{_≡_, refl, _∙_}
 use lib.IntN.{pos, _-ℤ_}
 use lib.Dec.{lit≤}
 use mir.Syntax.{w32, w64}
 use mir.Val.{toZ}
 use mir.Facts.{toZ-ofZ}
-use Rattle.book.proofs.Numbers.{signed-low, signed-high, signed-wide}
+use Rattle.book.proofs.Numbers.{turned-round, signed-wide}
 use Rattle.book.proofs.bytes.signed32.Statement.{statement}
 use Rattle.book.proofs.bytes.signed32.Tie as tie
+
+add-up : tie.Need-add-up
+add-up c = search needs
 
 cast-result : tie.Need-cast-result
 cast-result c = search needs
 
-cast-result-2 : tie.Need-cast-result-2
-cast-result-2 c = search needs
-
-high : (c : tie.Else1) → toZ w64 (c .before .args .bits) -ℤ pos 4294967296 ≡ toZ w32 (c .before .args .bits)
-high c = signed-high w32 4294967295 (c .before .args .bits) refl (c .if1 .left) (omega arith) (omega arith)
+value : (c : tie.Start) → toZ w64 ((c .args .bits + 2147483648) % 4294967296) -ℤ pos 2147483648 ≡ toZ w32 (c .args .bits)
+value c = turned-round w32 2147483647 (c .args .bits) refl refl (lit≤ tt) (omega arith)
 
 sub-result : tie.Need-sub-result
-sub-result c = rw (high c) (signed-wide w32 (c .before .args .bits) (c .before .fits .bits) (lit≤ tt))
+sub-result c = rw (value c) (signed-wide w32 (c .args .bits) (c .fits .bits) (lit≤ tt))
 
 returns : tie.Need-returns
-returns c = signed-low w32 (c .before .args .bits) (c .if1 .taken) (omega arith)
-
-returns-2 : tie.Need-returns-2
-returns-2 c = toZ-ofZ (sub-result c) ∙ high c
+returns c = toZ-ofZ (sub-result c) ∙ value c
 
 pub signed32-spec : {M : Type 1} → statement M
-signed32-spec = tie.close (tie.spec cast-result cast-result-2 sub-result returns returns-2)
+signed32-spec = tie.close (tie.spec add-up cast-result sub-result returns)
