@@ -2,19 +2,16 @@
 use mathlib.Core.Path.{_≡_, refl, ap, sym, _∙_}
 use mathlib.Core.Bool.{Bool, true, false, _&&_}
 use mathlib.Core.List.{List, [], _∷_}
-use Prim.Native.Nat.{ℕ, suc, _+_, _*_, _-_, _≤_, _<_}
+use Prim.Native.Nat.{ℕ, _+_, _*_, _-_, _≤_, _<_}
 use native.Mathlib.Numerals.{add-one}
 use native.Mathlib.Omega.{arith}
-use lib.Dec.{leb, eqb}
+use lib.Dec.{leb}
 use lib.ListN.{length, drop, getD, drop-of-length-le}
 use lib.Seq.{drop-cons}
 use borrow.Author.Tests.{leb-true, leb-false, lt-leb, eq-eqb, ne-eqb}
-use Rattle.typed_rules.specs.declared.Value.{Value}
 use Rattle.typed_rules.specs.declared.Value.the-variants.{Beyond}
-use Rattle.typed_rules.specs.declared.Lexed.{Lexed}
-use Rattle.typed_rules.specs.declared.Digits.{Digits}
 use Rattle.typed_rules.specs.Value.{limit, decimal, numeral}
-use Rattle.typed_rules.specs.Parser.{first, tail, digit, skip, run, past, pickNumber, pickList}
+use Rattle.typed_rules.specs.Parser.{first, tail, digit, skip, run, past, pickNumber}
 use Rattle.typed_rules.specs.Limits.{grown, capped}
 use Rattle.typed_rules.specs.Contracts.{Skips, Lexes, Runs}
 

@@ -1,14 +1,14 @@
 -- Completeness: the parser hands back every lawful tree from the text that the tree spells. So no two lawful trees spell the same text.
-use mathlib.Core.Path.{_≡_, refl, ap, sym, _∙_, subst}
-use mathlib.Core.Bool.{Bool, true, false, _&&_}
+use mathlib.Core.Path.{_≡_, refl, ap, sym, _∙_}
+use mathlib.Core.Bool.{Bool, true, false}
 use mathlib.Core.List.{List, [], _∷_, _++_}
 use Prim.Native.Nat.{ℕ, zero, suc, _+_, _*_, _≤_, _<_}
 use native.Mathlib.Omega.{arith}
 use lib.Dec.{leb, eqb}
 use lib.ListN.{length, length-append}
 use borrow.Author.Tests.{le-leb, ne-eqb}
-use Rattle.typed_rules.specs.Grammar.{Factor, Term, Side, Relation, Rule, number, rate-x, rate-y, minus, group, factor, times, term, plus, less, at-most, at-least, pad, spellFactor, spellTerm, spellSide, spellRelation, spell, Digits, none, more, Number, LawfulFactor, LawfulTerm, LawfulSide, Lawful}
-use Rattle.typed_rules.specs.Parser.{Parsed, fail, got, bind, pickParsed, pickNumber, pickList, first, tail, digit, lead, skip, run, past, next, beyond, inner, closed, numberAt, factorBy, termBy, moreFactors, sideBy, moreTerms, sideOf, ended, rightOf, relationOf, parse}
+use Rattle.typed_rules.specs.Grammar.{Factor, Term, Side, Relation, Rule, number, rate-x, rate-y, minus, group, factor, times, term, plus, less, at-most, at-least, pad, spellFactor, spellTerm, spellSide, spellRelation, spell, Digits, more, Number, LawfulFactor, LawfulTerm, LawfulSide, Lawful}
+use Rattle.typed_rules.specs.Parser.{Parsed, fail, got, bind, pickParsed, first, tail, digit, lead, skip, run, past, next, beyond, closed, numberAt, factorBy, termBy, moreFactors, sideBy, moreTerms, sideOf, ended, rightOf, relationOf, parse}
 use Rattle.typed_rules.proofs.Bytes.{run-digit, past-digit, run-other, past-other, run-none, past-none}
 use Rattle.typed_rules.proofs.Steps.{factor-digit, factor-x, factor-y, factor-minus, factor-group, term-step, side-step, factors-star, factors-end, terms-plus, terms-less, terms-end}
 use Rattle.typed_rules.proofs.Whole.{right-got, relation-most, relation-least}

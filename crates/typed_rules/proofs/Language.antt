@@ -8,13 +8,12 @@ use native.Mathlib.Omega.{arith}
 use lib.Dec.{leb}
 use lib.ListN.{length}
 use borrow.Author.Tests.{leb-true, leb-false, le-leb}
-use Rattle.typed_rules.specs.declared.Typed.{Typed}
 use Rattle.typed_rules.specs.declared.Typed.the-variants.{Refused}
 use Rattle.typed_rules.specs.Grammar.{Rule, spell, Lawful}
 use Rattle.typed_rules.specs.Value.{valueRule, pickTyped}
 use Rattle.typed_rules.specs.Parser.{Parsed, fail, got, parse, judged, answer}
 use Rattle.typed_rules.proofs.Sound.{SoundRule, parse-sound}
-use Rattle.typed_rules.proofs.Complete.{parse-complete, unique}
+use Rattle.typed_rules.proofs.Complete.{parse-complete}
 
 -- what a lawful tree spells is answered with the tree's value
 pub answered : (r : Rule) → Lawful r → answer (spell r) ≡ valueRule r

@@ -5,6 +5,10 @@ pub mod Integer
 pub mod Values
 pub mod Bytes
 pub mod Steps
+pub mod Chain
+pub mod Parsed
+pub mod Places
+pub mod Following
 pub mod Reading
 pub mod Whole
 pub mod Sound

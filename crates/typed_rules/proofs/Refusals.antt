@@ -15,10 +15,10 @@ use Rattle.typed_rules.specs.declared.Written.{Written}
 use Rattle.typed_rules.specs.declared.Typed.{Typed}
 use Rattle.typed_rules.specs.declared.Typed.the-variants.{Rule, Refused}
 use Rattle.typed_rules.specs.Grammar as G
-use Rattle.typed_rules.specs.Grammar.{number, rate-x, rate-y, minus, group, factor, times, term, plus, less, at-most, at-least}
-use Rattle.typed_rules.specs.Value.{inside, limit, form, either, checked, decimal, numeral, constant, multiplied, mulForms, addForms, subForms, negated, sum, difference, product, combine, valueFactor, valueTerm, valueSide, kindOf, pickTyped, written, final, then, conclude, valueRule}
+use Rattle.typed_rules.specs.Grammar.{number, rate-x, rate-y, minus, group, factor, times, term, plus, less}
+use Rattle.typed_rules.specs.Value.{inside, limit, form, either, checked, decimal, numeral, constant, multiplied, mulForms, addForms, subForms, negated, sum, difference, product, combine, valueFactor, valueTerm, valueSide, kindOf, pickTyped, written, final, conclude, valueRule}
 use Rattle.typed_rules.specs.Parser.{answer}
-use Rattle.typed_rules.proofs.Language.{Reads, Refuses, language, answered}
+use Rattle.typed_rules.proofs.Language.{answered}
 
 abbrev pub Fault : ℕ → Type 0
 Fault n = (n ≡ 14) ⊎ (n ≡ 15)

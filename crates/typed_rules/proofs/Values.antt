@@ -1,23 +1,21 @@
 -- Values: numbers read back from the machine's bits, forms within the limit, and the operations' cases.
 use mathlib.Core.Path.{_≡_, refl, ap, sym, _∙_, subst}
 use mathlib.Core.Bool.{Bool, true, false, _&&_}
-use Prim.Native.Nat.{ℕ, _+_, _*_, _≤_}
+use Prim.Native.Nat.{ℕ, _≤_}
 use native.Mathlib.Omega.{arith}
-use lib.Dec.{T, leb, leb→le, le→leb}
+use lib.Dec.{leb}
 use lib.IntN.{ℤ, pos, natAbs, negℤ, _+ℤ_, _-ℤ_, _*ℤ_, +ℤ-idl}
 use mir.Syntax.{w64}
-use mir.Val.{SFits, toZ, ofZ}
+use mir.Val.{SFits}
 use mir.Facts.{toZ-ofZ}
-use borrow.Author.Tests.{leb-true, le-leb, lt-leb}
+use borrow.Author.Tests.{leb-true, le-leb}
 use Rattle.ints.specs.Within.{Within}
 use Rattle.ints.proofs.Machine.{within-fits, within-add, within-sub, within-mul, within-neg, within-nat, within-numeral}
 use Rattle.typed_rules.specs.declared.Form.{Form}
 use Rattle.typed_rules.specs.declared.Value.{Value}
 use Rattle.typed_rules.specs.declared.Value.the-variants.{Linear, Beyond}
 use Rattle.typed_rules.specs.declared.Written.{Written}
-use Rattle.typed_rules.specs.declared.Typed.{Typed}
-use Rattle.typed_rules.specs.declared.Typed.the-variants.{Rule, Refused}
-use Rattle.typed_rules.specs.Value.{inside, limit, form, checked, numeral, negForm, negated, combine, then}
+use Rattle.typed_rules.specs.Value.{inside, limit, form, checked, numeral, negForm, combine}
 use Rattle.typed_rules.specs.Contracts.{SmallForm, SmallForms, Small, Smalls, Valued}
 use Rattle.typed_rules.proofs.Integer.{read}
 

@@ -1,11 +1,11 @@
 -- The whole text: the left side, the relation, the right side and the end, against the parser.
-use mathlib.Core.Path.{_≡_, refl, ap, sym, _∙_, subst}
+use mathlib.Core.Path.{_≡_, refl, ap, sym, _∙_}
 use mathlib.Core.Bool.{Bool, true, false}
-use mathlib.Core.List.{List, [], _∷_}
-use Prim.Native.Nat.{ℕ, suc, _+_, _*_, _-_, _≤_, _<_}
+use mathlib.Core.List.{List}
+use Prim.Native.Nat.{ℕ, _+_, _*_, _≤_, _<_}
 use native.Mathlib.Omega.{arith}
 use lib.Dec.{ltb, eqb}
-use lib.ListN.{length, drop, length-drop, drop-of-length-le, getD}
+use lib.ListN.{length, drop, length-drop, drop-of-length-le}
 use borrow.Author.Tests.{ltb-true, ltb-false, ne-eqb}
 use Rattle.typed_rules.specs.declared.Value.{Value}
 use Rattle.typed_rules.specs.declared.Lexed.{Lexed}
@@ -15,10 +15,10 @@ use Rattle.typed_rules.specs.declared.Typed.{Typed}
 use Rattle.typed_rules.specs.declared.Typed.the-variants.{Refused}
 use Rattle.typed_rules.specs.Grammar.{Side, Relation, Rule, at-most, at-least}
 use Rattle.typed_rules.specs.Value.{conclude, kindOf, valueSide, valueRule}
-use Rattle.typed_rules.specs.Parser.{Parsed, fail, got, bind, pickParsed, first, tail, lead, skip, next, beyond, sideBy, sideOf, ended, rightOf, relationOf, parse, judged}
+use Rattle.typed_rules.specs.Parser.{Parsed, fail, got, bind, first, tail, lead, skip, next, beyond, sideOf, ended, rightOf, relationOf, parse, judged}
 use Rattle.typed_rules.specs.Contracts.{Skips, Lexes, valued, view, ReadsSide, JudgesRight, Judges}
 use Rattle.typed_rules.proofs.Bytes.{here}
-use Rattle.typed_rules.proofs.Reading.{inv-got, inv-fail}
+use Rattle.typed_rules.proofs.Parsed.{inv-got, inv-fail}
 
 pub side-of : (text : List ℕ) (n : ℕ) (r : Step) → ReadsSide text n 8 r → valued valueSide (sideOf (drop n text)) ≡ view text r
 unfolding sideOf

@@ -1,9 +1,8 @@
 -- What the private functions promise. A place in the text stands for the text from there on.
 use mathlib.Core.Path.{_≡_}
-use mathlib.Core.Bool.{Bool, true, false}
-use mathlib.Core.List.{List, [], _∷_}
+use mathlib.Core.List.{List}
 use Prim.Native.Nat.{ℕ, suc, _+_, _*_, _-_, _≤_, _<_}
-use lib.Dec.{leb, eqb}
+use lib.Dec.{eqb}
 use lib.IntN.{ℤ}
 use lib.ListN.{length, drop}
 use Rattle.ints.specs.Within.{Within}
@@ -17,7 +16,7 @@ use Rattle.typed_rules.specs.declared.Step.the-variants.{Got, Fail}
 use Rattle.typed_rules.specs.declared.Typed.{Typed}
 use Rattle.typed_rules.specs.Grammar.{Term, Side, Relation}
 use Rattle.typed_rules.specs.Value.{limit, decimal, numeral, negated, valueFactor, valueTerm, valueSide, kindOf}
-use Rattle.typed_rules.specs.Parser.{Parsed, fail, got, first, tail, skip, run, past, next, beyond, bind, pickParsed, numberAt, factorBy, termBy, moreFactors, sideBy, moreTerms, relationOf, rightOf, judged}
+use Rattle.typed_rules.specs.Parser.{Parsed, fail, got, skip, run, past, next, beyond, bind, pickParsed, numberAt, factorBy, termBy, moreFactors, sideBy, moreTerms, relationOf, rightOf, judged}
 
 -- ---- numbers
 

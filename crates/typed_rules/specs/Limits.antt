@@ -1,5 +1,5 @@
 -- A number read digit by digit that stays where it is once it is beyond the limit. That the limit's test comes out as for the whole number is shown in
--- proofs/Digits.antt.
+-- proofs/Bytes.antt.
 use mathlib.Core.List.{List, [], _∷_}
 use Prim.Native.Nat.{ℕ, _+_, _*_, _-_}
 use lib.Dec.{leb}

@@ -4,9 +4,6 @@ use Rattle.typed_rules.specs.Parser.{answer}
 use borrow.Author.Needs.{needs}
 use Rattle.typed_rules.proofs.read_rule.Statement.{statement}
 use Rattle.typed_rules.proofs.read_rule.Tie as tie
-use Rattle.typed_rules.proofs.read_rule.Reads as reads
-use Rattle.typed_rules.proofs.read_rule.Lts as lts
-use Rattle.typed_rules.proofs.readers.read_text.Reads as read-text-reads
 
 read-text-requires : tie.Need-read-text-requires
 read-text-requires c κs = search needs

@@ -2,8 +2,6 @@
 use Rattle.ints.proofs.Machine.{sizes}
 use Rattle.typed_rules.proofs.arith.add.Statement.{statement}
 use Rattle.typed_rules.proofs.arith.add.Tie as tie
-use Rattle.typed_rules.proofs.arith.add.Reads as reads
-use Rattle.typed_rules.proofs.arith.add.Lts as lts
 
 add-result : tie.Need-add-result
 add-result c = search sizes depth 8

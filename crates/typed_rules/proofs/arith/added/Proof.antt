@@ -3,10 +3,6 @@ use Rattle.typed_rules.proofs.Values.{checked-form, form-is, add-is}
 use borrow.Author.Needs.{needs}
 use Rattle.typed_rules.proofs.arith.added.Statement.{statement}
 use Rattle.typed_rules.proofs.arith.added.Tie as tie
-use Rattle.typed_rules.proofs.arith.added.Reads as reads
-use Rattle.typed_rules.proofs.arith.added.Lts as lts
-use Rattle.typed_rules.proofs.arith.add.Reads as add-reads
-use Rattle.typed_rules.proofs.arith.checked.Reads as checked-reads
 
 add-requires : tie.Need-add-requires
 add-requires c κs = search needs

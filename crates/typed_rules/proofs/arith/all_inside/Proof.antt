@@ -1,14 +1,11 @@
 -- `typed_rules::arith::all_inside` meets its contract.
-use mathlib.Core.Path.{_≡_, refl, ap, sym, _∙_}
+use mathlib.Core.Path.{sym, _∙_}
 use mathlib.Core.Bool.{_&&_}
 use Rattle.typed_rules.specs.Value.{inside}
 use Rattle.typed_rules.proofs.Values.{inside-read, and-last, and-first}
 use borrow.Author.Needs.{needs}
 use Rattle.typed_rules.proofs.arith.all_inside.Statement.{statement}
 use Rattle.typed_rules.proofs.arith.all_inside.Tie as tie
-use Rattle.typed_rules.proofs.arith.all_inside.Reads as reads
-use Rattle.typed_rules.proofs.arith.all_inside.Lts as lts
-use Rattle.typed_rules.proofs.arith.inside.Reads as inside-reads
 
 inside-requires : tie.Need-inside-requires
 inside-requires c κs = search needs

@@ -3,9 +3,6 @@ use Rattle.typed_rules.proofs.Values.{checked-yes, checked-no}
 use borrow.Author.Needs.{needs}
 use Rattle.typed_rules.proofs.arith.checked.Statement.{statement}
 use Rattle.typed_rules.proofs.arith.checked.Tie as tie
-use Rattle.typed_rules.proofs.arith.checked.Reads as reads
-use Rattle.typed_rules.proofs.arith.checked.Lts as lts
-use Rattle.typed_rules.proofs.arith.all_inside.Reads as all-inside-reads
 
 all-inside-requires : tie.Need-all-inside-requires
 all-inside-requires c κs = search needs

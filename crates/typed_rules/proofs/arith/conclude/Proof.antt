@@ -4,9 +4,6 @@ use Rattle.typed_rules.proofs.Values.{small-forms}
 use borrow.Author.Needs.{needs}
 use Rattle.typed_rules.proofs.arith.conclude.Statement.{statement}
 use Rattle.typed_rules.proofs.arith.conclude.Tie as tie
-use Rattle.typed_rules.proofs.arith.conclude.Reads as reads
-use Rattle.typed_rules.proofs.arith.conclude.Lts as lts
-use Rattle.typed_rules.proofs.arith.finished.Reads as finished-reads
 
 enum-known-v : tie.Need-enum-known-v
 enum-known-v c = search needs

@@ -1,13 +1,10 @@
 -- `typed_rules::arith::constant` meets its contract.
-use mathlib.Core.Path.{_≡_, refl, ap, sym, _∙_}
+use mathlib.Core.Path.{sym, _∙_}
 use Rattle.typed_rules.specs.Value.{inside, constant}
 use Rattle.typed_rules.proofs.Values.{inside-read, and-last, and-first}
 use borrow.Author.Needs.{needs}
 use Rattle.typed_rules.proofs.arith.constant.Statement.{statement}
 use Rattle.typed_rules.proofs.arith.constant.Tie as tie
-use Rattle.typed_rules.proofs.arith.constant.Reads as reads
-use Rattle.typed_rules.proofs.arith.constant.Lts as lts
-use Rattle.typed_rules.proofs.arith.is_zero.Reads as is-zero-reads
 
 is-zero-requires : tie.Need-is-zero-requires
 is-zero-requires c κs = search needs

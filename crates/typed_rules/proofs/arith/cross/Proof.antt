@@ -2,8 +2,6 @@
 use Rattle.ints.proofs.Machine.{sizes}
 use Rattle.typed_rules.proofs.arith.cross.Statement.{statement}
 use Rattle.typed_rules.proofs.arith.cross.Tie as tie
-use Rattle.typed_rules.proofs.arith.cross.Reads as reads
-use Rattle.typed_rules.proofs.arith.cross.Lts as lts
 
 mul-result : tie.Need-mul-result
 mul-result c = search sizes depth 8

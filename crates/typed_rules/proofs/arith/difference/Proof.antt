@@ -4,9 +4,6 @@ use Rattle.typed_rules.proofs.Values.{small-forms, left-refused, right-
 use borrow.Author.Needs.{needs}
 use Rattle.typed_rules.proofs.arith.difference.Statement.{statement}
 use Rattle.typed_rules.proofs.arith.difference.Tie as tie
-use Rattle.typed_rules.proofs.arith.difference.Reads as reads
-use Rattle.typed_rules.proofs.arith.difference.Lts as lts
-use Rattle.typed_rules.proofs.arith.subtracted.Reads as subtracted-reads
 
 enum-known-v : tie.Need-enum-known-v
 enum-known-v c = search needs

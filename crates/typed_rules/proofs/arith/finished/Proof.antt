@@ -5,10 +5,6 @@ use Rattle.typed_rules.proofs.Values.{sub-is, written-is}
 use borrow.Author.Needs.{needs}
 use Rattle.typed_rules.proofs.arith.finished.Statement.{statement}
 use Rattle.typed_rules.proofs.arith.finished.Tie as tie
-use Rattle.typed_rules.proofs.arith.finished.Reads as reads
-use Rattle.typed_rules.proofs.arith.finished.Lts as lts
-use Rattle.typed_rules.proofs.arith.last.Reads as last-reads
-use Rattle.typed_rules.proofs.arith.sub.Reads as sub-reads
 
 sub-requires : tie.Need-sub-requires
 sub-requires c κs = search needs

@@ -6,9 +6,6 @@ use Rattle.typed_rules.proofs.Values.{inside-read, and-last, and-first}
 use borrow.Author.Needs.{needs}
 use Rattle.typed_rules.proofs.arith.in_range.Statement.{statement}
 use Rattle.typed_rules.proofs.arith.in_range.Tie as tie
-use Rattle.typed_rules.proofs.arith.in_range.Reads as reads
-use Rattle.typed_rules.proofs.arith.in_range.Lts as lts
-use Rattle.typed_rules.proofs.arith.inside.Reads as inside-reads
 
 inside-requires : tie.Need-inside-requires
 inside-requires c κs = search needs

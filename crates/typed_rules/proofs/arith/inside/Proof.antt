@@ -3,9 +3,6 @@ use Rattle.typed_rules.proofs.Values.{inside-is}
 use borrow.Author.Needs.{needs}
 use Rattle.typed_rules.proofs.arith.inside.Statement.{statement}
 use Rattle.typed_rules.proofs.arith.inside.Tie as tie
-use Rattle.typed_rules.proofs.arith.inside.Reads as reads
-use Rattle.typed_rules.proofs.arith.inside.Lts as lts
-use Rattle.typed_rules.proofs.arith.magnitude.Reads as magnitude-reads
 
 magnitude-requires : tie.Need-magnitude-requires
 magnitude-requires c κs = search needs

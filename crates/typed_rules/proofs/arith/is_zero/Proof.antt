@@ -3,9 +3,6 @@ use Rattle.typed_rules.proofs.Values.{inside-read}
 use borrow.Author.Needs.{needs}
 use Rattle.typed_rules.proofs.arith.is_zero.Statement.{statement}
 use Rattle.typed_rules.proofs.arith.is_zero.Tie as tie
-use Rattle.typed_rules.proofs.arith.is_zero.Reads as reads
-use Rattle.typed_rules.proofs.arith.is_zero.Lts as lts
-use Rattle.typed_rules.proofs.arith.inside.Reads as inside-reads
 
 inside-requires : tie.Need-inside-requires
 inside-requires c κs = search needs

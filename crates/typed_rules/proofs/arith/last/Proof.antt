@@ -4,9 +4,6 @@ use Rattle.typed_rules.specs.Value.{final}
 use borrow.Author.Needs.{needs}
 use Rattle.typed_rules.proofs.arith.last.Statement.{statement}
 use Rattle.typed_rules.proofs.arith.last.Tie as tie
-use Rattle.typed_rules.proofs.arith.last.Reads as reads
-use Rattle.typed_rules.proofs.arith.last.Lts as lts
-use Rattle.typed_rules.proofs.arith.in_range.Reads as in-range-reads
 
 in-range-requires : tie.Need-in-range-requires
 in-range-requires c κs = search needs

@@ -2,8 +2,6 @@
 use Rattle.ints.proofs.Machine.{sizes}
 use Rattle.typed_rules.proofs.arith.mul.Statement.{statement}
 use Rattle.typed_rules.proofs.arith.mul.Tie as tie
-use Rattle.typed_rules.proofs.arith.mul.Reads as reads
-use Rattle.typed_rules.proofs.arith.mul.Lts as lts
 
 mul-result : tie.Need-mul-result
 mul-result c = search sizes depth 8

@@ -1,14 +1,10 @@
 -- `typed_rules::arith::multiplied` meets its contract: the product of two forms: 14 if neither is a constant.
-use mathlib.Core.Path.{_≡_, refl, ap, sym, _∙_}
+use mathlib.Core.Path.{sym, _∙_}
 use Rattle.typed_rules.specs.Value.{multiplied}
 use Rattle.typed_rules.proofs.Values.{same-value}
 use borrow.Author.Needs.{needs}
 use Rattle.typed_rules.proofs.arith.multiplied.Statement.{statement}
 use Rattle.typed_rules.proofs.arith.multiplied.Tie as tie
-use Rattle.typed_rules.proofs.arith.multiplied.Reads as reads
-use Rattle.typed_rules.proofs.arith.multiplied.Lts as lts
-use Rattle.typed_rules.proofs.arith.constant.Reads as constant-reads
-use Rattle.typed_rules.proofs.arith.scaled.Reads as scaled-reads
 
 constant-requires : tie.Need-constant-requires
 constant-requires c κs = search needs

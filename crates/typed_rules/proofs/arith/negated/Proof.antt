@@ -1,14 +1,11 @@
 -- `typed_rules::arith::negated` meets its contract.
-use mathlib.Core.Path.{_≡_, refl, ap, sym, _∙_}
+use mathlib.Core.Path.{ap}
 use Rattle.typed_rules.specs.declared.Value.the-variants.{Linear}
 use Rattle.typed_rules.specs.Value.{negated}
 use Rattle.typed_rules.proofs.Values.{small-form, turned-small}
 use borrow.Author.Needs.{needs}
 use Rattle.typed_rules.proofs.arith.negated.Statement.{statement}
 use Rattle.typed_rules.proofs.arith.negated.Tie as tie
-use Rattle.typed_rules.proofs.arith.negated.Reads as reads
-use Rattle.typed_rules.proofs.arith.negated.Lts as lts
-use Rattle.typed_rules.proofs.arith.turned.Reads as turned-reads
 
 enum-known-v : tie.Need-enum-known-v
 enum-known-v c = search needs

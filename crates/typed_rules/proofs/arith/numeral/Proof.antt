@@ -8,8 +8,6 @@ use Rattle.typed_rules.proofs.Values.{numeral-yes}
 use borrow.Author.Needs.{needs}
 use Rattle.typed_rules.proofs.arith.numeral.Statement.{statement}
 use Rattle.typed_rules.proofs.arith.numeral.Tie as tie
-use Rattle.typed_rules.proofs.arith.numeral.Reads as reads
-use Rattle.typed_rules.proofs.arith.numeral.Lts as lts
 
 cast-t4 : tie.Need-cast-t4
 cast-t4 c = search needs

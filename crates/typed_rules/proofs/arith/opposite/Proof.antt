@@ -2,8 +2,6 @@
 use Rattle.ints.proofs.Machine.{sizes}
 use Rattle.typed_rules.proofs.arith.opposite.Statement.{statement}
 use Rattle.typed_rules.proofs.arith.opposite.Tie as tie
-use Rattle.typed_rules.proofs.arith.opposite.Reads as reads
-use Rattle.typed_rules.proofs.arith.opposite.Lts as lts
 
 sub-result : tie.Need-sub-result
 sub-result c = search sizes depth 8

@@ -4,9 +4,6 @@ use Rattle.typed_rules.proofs.Values.{small-forms, left-refused, right-
 use borrow.Author.Needs.{needs}
 use Rattle.typed_rules.proofs.arith.product.Statement.{statement}
 use Rattle.typed_rules.proofs.arith.product.Tie as tie
-use Rattle.typed_rules.proofs.arith.product.Reads as reads
-use Rattle.typed_rules.proofs.arith.product.Lts as lts
-use Rattle.typed_rules.proofs.arith.multiplied.Reads as multiplied-reads
 
 enum-known-v : tie.Need-enum-known-v
 enum-known-v c = search needs

@@ -3,11 +3,6 @@ use Rattle.typed_rules.proofs.Values.{checked-form, form-is, cross-is, 
 use borrow.Author.Needs.{needs}
 use Rattle.typed_rules.proofs.arith.scaled.Statement.{statement}
 use Rattle.typed_rules.proofs.arith.scaled.Tie as tie
-use Rattle.typed_rules.proofs.arith.scaled.Reads as reads
-use Rattle.typed_rules.proofs.arith.scaled.Lts as lts
-use Rattle.typed_rules.proofs.arith.checked.Reads as checked-reads
-use Rattle.typed_rules.proofs.arith.cross.Reads as cross-reads
-use Rattle.typed_rules.proofs.arith.mul.Reads as mul-reads
 
 cross-requires : tie.Need-cross-requires
 cross-requires c κs = search needs

@@ -2,8 +2,6 @@
 use Rattle.ints.proofs.Machine.{sizes}
 use Rattle.typed_rules.proofs.arith.sub.Statement.{statement}
 use Rattle.typed_rules.proofs.arith.sub.Tie as tie
-use Rattle.typed_rules.proofs.arith.sub.Reads as reads
-use Rattle.typed_rules.proofs.arith.sub.Lts as lts
 
 sub-result : tie.Need-sub-result
 sub-result c = search sizes depth 8

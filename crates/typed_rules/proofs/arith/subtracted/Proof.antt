@@ -3,10 +3,6 @@ use Rattle.typed_rules.proofs.Values.{checked-form, form-is, sub-is}
 use borrow.Author.Needs.{needs}
 use Rattle.typed_rules.proofs.arith.subtracted.Statement.{statement}
 use Rattle.typed_rules.proofs.arith.subtracted.Tie as tie
-use Rattle.typed_rules.proofs.arith.subtracted.Reads as reads
-use Rattle.typed_rules.proofs.arith.subtracted.Lts as lts
-use Rattle.typed_rules.proofs.arith.checked.Reads as checked-reads
-use Rattle.typed_rules.proofs.arith.sub.Reads as sub-reads
 
 sub-requires : tie.Need-sub-requires
 sub-requires c κs = search needs

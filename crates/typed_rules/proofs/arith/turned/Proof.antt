@@ -3,9 +3,6 @@ use Rattle.typed_rules.proofs.Values.{form-is, opposite-is}
 use borrow.Author.Needs.{needs}
 use Rattle.typed_rules.proofs.arith.turned.Statement.{statement}
 use Rattle.typed_rules.proofs.arith.turned.Tie as tie
-use Rattle.typed_rules.proofs.arith.turned.Reads as reads
-use Rattle.typed_rules.proofs.arith.turned.Lts as lts
-use Rattle.typed_rules.proofs.arith.opposite.Reads as opposite-reads
 
 opposite-requires : tie.Need-opposite-requires
 opposite-requires c κs = search needs

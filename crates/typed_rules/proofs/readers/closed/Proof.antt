@@ -5,9 +5,6 @@ use Rattle.typed_rules.proofs.Reading.{closed-yes, closed-no, closed-fa
 use borrow.Author.Needs.{needs}
 use Rattle.typed_rules.proofs.readers.closed.Statement.{statement}
 use Rattle.typed_rules.proofs.readers.closed.Tie as tie
-use Rattle.typed_rules.proofs.readers.closed.Reads as reads
-use Rattle.typed_rules.proofs.readers.closed.Lts as lts
-use Rattle.typed_rules.proofs.tokens.lex.Reads as lex-reads
 
 enum-known-s : tie.Need-enum-known-s
 enum-known-s c = search needs

@@ -3,10 +3,6 @@ use Rattle.typed_rules.proofs.Reading.{number-yes, number-no}
 use borrow.Author.Needs.{needs}
 use Rattle.typed_rules.proofs.readers.number.Statement.{statement}
 use Rattle.typed_rules.proofs.readers.number.Tie as tie
-use Rattle.typed_rules.proofs.readers.number.Reads as reads
-use Rattle.typed_rules.proofs.readers.number.Lts as lts
-use Rattle.typed_rules.proofs.arith.numeral.Reads as numeral-reads
-use Rattle.typed_rules.proofs.tokens.digits.Reads as digits-reads
 
 digits-requires : tie.Need-digits-requires
 digits-requires c κs = search needs

@@ -1,13 +1,9 @@
 -- `typed_rules::readers::read_text` meets its contract: a whole text of any length.
-use Rattle.typed_rules.proofs.Reading.{reached}
+use Rattle.typed_rules.proofs.Places.{reached}
 use Rattle.typed_rules.proofs.Whole.{text-got, text-fails}
 use borrow.Author.Needs.{needs}
 use Rattle.typed_rules.proofs.readers.read_text.Statement.{statement}
 use Rattle.typed_rules.proofs.readers.read_text.Tie as tie
-use Rattle.typed_rules.proofs.readers.read_text.Reads as reads
-use Rattle.typed_rules.proofs.readers.read_text.Lts as lts
-use Rattle.typed_rules.proofs.readers.relation.Reads as relation-reads
-use Rattle.typed_rules.proofs.readers.side.Reads as side-reads
 
 side-requires : tie.Need-side-requires
 side-requires c κs = search needs
@@ -17,7 +13,7 @@ enum-known-v c = search needs
 
 relation-requires : tie.Need-relation-requires
 relation-requires c κs =
-    let p = reached {text = c .before .before .before .before .before .args .text .now} {low = 1} (c .before .v .given .1) (c .before .before .before .side .ensures .moved) in
+    let p = reached (c .before .before .before .before .before .args .text .now) (1) (c .before .v .given .1) (c .before .before .before .side .ensures .moved) in
     record { high = p .high; small = p .small }
 
 enum-told : tie.Need-enum-told

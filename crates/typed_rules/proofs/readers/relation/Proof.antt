@@ -3,10 +3,6 @@ use Rattle.typed_rules.proofs.Whole.{judges-most, judges-least, judges-
 use borrow.Author.Needs.{needs}
 use Rattle.typed_rules.proofs.readers.relation.Statement.{statement}
 use Rattle.typed_rules.proofs.readers.relation.Tie as tie
-use Rattle.typed_rules.proofs.readers.relation.Reads as reads
-use Rattle.typed_rules.proofs.readers.relation.Lts as lts
-use Rattle.typed_rules.proofs.readers.right.Reads as right-reads
-use Rattle.typed_rules.proofs.tokens.lex.Reads as lex-reads
 
 lex-requires : tie.Need-lex-requires
 lex-requires c κs = search needs

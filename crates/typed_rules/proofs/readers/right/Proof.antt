@@ -2,17 +2,11 @@
 use mathlib.Core.Path.{sym, _∙_}
 use Prim.Native.Nat.{suc, _+_}
 use native.Mathlib.Omega.{arith}
-use Rattle.typed_rules.proofs.Reading.{reached}
+use Rattle.typed_rules.proofs.Places.{reached}
 use Rattle.typed_rules.proofs.Whole.{byte-inside, right-more, right-ends, right-fails, right-no}
 use borrow.Author.Needs.{needs}
 use Rattle.typed_rules.proofs.readers.right.Statement.{statement}
 use Rattle.typed_rules.proofs.readers.right.Tie as tie
-use Rattle.typed_rules.proofs.readers.right.Reads as reads
-use Rattle.typed_rules.proofs.readers.right.Lts as lts
-use Rattle.typed_rules.proofs.arith.conclude.Reads as conclude-reads
-use Rattle.typed_rules.proofs.readers.side.Reads as side-reads
-use Rattle.typed_rules.proofs.tokens.byte_at.Reads as byte-at-reads
-use Rattle.typed_rules.proofs.tokens.skip.Reads as skip-reads
 
 byte-at-requires : tie.Need-byte-at-requires
 byte-at-requires c κs = search needs
@@ -33,14 +27,14 @@ skip-requires : tie.Need-skip-requires
 skip-requires c κs =
     let st = c .before .before .before .before .before .before .before in
     let b = c .before .before .before .before .before .byte-at in
-    let p = reached {text = st .args .text .now} {low = suc (st .args .at + 1)} (c .before .w .given .1) (c .before .before .before .side .ensures .moved) in
+    let p = reached (st .args .text .now) (suc (st .args .at + 1)) (c .before .w .given .1) (c .before .before .before .side .ensures .moved) in
     p .high
 
 conclude-requires : tie.Need-conclude-requires
 conclude-requires c κs =
     let st = c .before .before .before .before .before .before .before .before .before in
     let b = c .before .before .before .before .before .before .before .byte-at in
-    let p = reached {text = st .args .text .now} {low = suc (st .args .at + 1)} (c .before .before .before .w .given .1) (c .before .before .before .before .before .side .ensures .moved) in
+    let p = reached (st .args .text .now) (suc (st .args .at + 1)) (c .before .before .before .w .given .1) (c .before .before .before .before .before .side .ensures .moved) in
     record { left = st .pre .small; right = p .small }
 
 enum-told : tie.Need-enum-told

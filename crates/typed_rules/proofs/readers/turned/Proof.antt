@@ -6,9 +6,6 @@ use Rattle.typed_rules.specs.Contracts.{SmallStep}
 use borrow.Author.Needs.{needs}
 use Rattle.typed_rules.proofs.readers.turned.Statement.{statement}
 use Rattle.typed_rules.proofs.readers.turned.Tie as tie
-use Rattle.typed_rules.proofs.readers.turned.Reads as reads
-use Rattle.typed_rules.proofs.readers.turned.Lts as lts
-use Rattle.typed_rules.proofs.arith.negated.Reads as negated-reads
 
 enum-known-s : tie.Need-enum-known-s
 enum-known-s c = search needs

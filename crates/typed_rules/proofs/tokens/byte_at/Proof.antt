@@ -3,8 +3,6 @@ use Rattle.typed_rules.proofs.Bytes.{first-here, first-end}
 use borrow.Author.Needs.{needs}
 use Rattle.typed_rules.proofs.tokens.byte_at.Statement.{statement}
 use Rattle.typed_rules.proofs.tokens.byte_at.Tie as tie
-use Rattle.typed_rules.proofs.tokens.byte_at.Reads as reads
-use Rattle.typed_rules.proofs.tokens.byte_at.Lts as lts
 
 shared-slice-read-result : tie.Need-shared-slice-read-result
 shared-slice-read-result c = search needs

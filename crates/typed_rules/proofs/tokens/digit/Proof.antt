@@ -1,12 +1,10 @@
 -- `typed_rules::tokens::digit` meets its contract.
-use mathlib.Core.Path.{_≡_, refl, ap, sym, _∙_}
+use mathlib.Core.Path.{refl}
 use lib.Dec.{leb}
 use borrow.Author.Tests.{le-leb, lt-leb}
 use Rattle.typed_rules.proofs.Values.{and-last, and-first}
 use Rattle.typed_rules.proofs.tokens.digit.Statement.{statement}
 use Rattle.typed_rules.proofs.tokens.digit.Tie as tie
-use Rattle.typed_rules.proofs.tokens.digit.Reads as reads
-use Rattle.typed_rules.proofs.tokens.digit.Lts as lts
 
 returns : tie.Need-returns
 returns c = and-last (le-leb 48 (c .before .args .b) (c .if1 .taken)) refl

@@ -7,10 +7,6 @@ use borrow.Author.Needs.{needs}
 use Rattle.typed_rules.proofs.Bytes.{Running, run-start, run-more, run-stop, run-end, digit-low}
 use Rattle.typed_rules.proofs.tokens.digits.Statement.{statement}
 use Rattle.typed_rules.proofs.tokens.digits.Tie as tie
-use Rattle.typed_rules.proofs.tokens.digits.Reads as reads
-use Rattle.typed_rules.proofs.tokens.digits.Lts as lts
-use Rattle.typed_rules.proofs.tokens.digit.Reads as digit-reads
-use Rattle.typed_rules.proofs.tokens.grow.Reads as grow-reads
 
 abbrev Inv-loop : tie.InvT-loop
 Inv-loop text at number₀ i₀ number i = Running text at number i

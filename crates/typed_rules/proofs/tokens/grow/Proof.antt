@@ -1,14 +1,11 @@
 -- `typed_rules::tokens::grow` meets its contract: a number with a digit more.
-use mathlib.Core.Path.{ap, _∙_}
+use mathlib.Core.Path.{ap}
 use Prim.Native.Nat.{ℕ, _+_, _*_}
 use borrow.Author.Tests.{le-leb, lt-leb}
 use Rattle.typed_rules.specs.Value.{limit}
 use borrow.Author.Needs.{needs}
 use Rattle.typed_rules.proofs.tokens.grow.Statement.{statement}
 use Rattle.typed_rules.proofs.tokens.grow.Tie as tie
-use Rattle.typed_rules.proofs.tokens.grow.Reads as reads
-use Rattle.typed_rules.proofs.tokens.grow.Lts as lts
-use Rattle.typed_rules.proofs.tokens.wide.Reads as wide-reads
 
 mul-result : tie.Need-mul-result
 mul-result c = search needs

@@ -3,9 +3,6 @@ use Rattle.typed_rules.proofs.Bytes.{lex-here, lex-end}
 use borrow.Author.Needs.{needs}
 use Rattle.typed_rules.proofs.tokens.lex.Statement.{statement}
 use Rattle.typed_rules.proofs.tokens.lex.Tie as tie
-use Rattle.typed_rules.proofs.tokens.lex.Reads as reads
-use Rattle.typed_rules.proofs.tokens.lex.Lts as lts
-use Rattle.typed_rules.proofs.tokens.skip.Reads as skip-reads
 
 skip-requires : tie.Need-skip-requires
 skip-requires c κs = search needs

@@ -5,8 +5,6 @@ use lib.ListN.{length}
 use Rattle.typed_rules.proofs.Bytes.{Skipping, skip-start, skip-more, skip-stop, skip-end}
 use Rattle.typed_rules.proofs.tokens.skip.Statement.{statement}
 use Rattle.typed_rules.proofs.tokens.skip.Tie as tie
-use Rattle.typed_rules.proofs.tokens.skip.Reads as reads
-use Rattle.typed_rules.proofs.tokens.skip.Lts as lts
 
 abbrev Inv-loop : tie.InvT-loop
 Inv-loop text at i₀ i = Skipping text at i
