@@ -7,67 +7,14 @@ use native.Mathlib.Omega.{arith}
 use lib.Dec.{leb, eqb}
 use lib.ListN.{length, length-append}
 use borrow.Author.Tests.{le-leb, ne-eqb}
+use Rattle.typed_rules.specs.declared.Value.{Value}
 use Rattle.typed_rules.specs.Grammar.{Factor, Term, Side, Relation, Rule, number, rate-x, rate-y, minus, group, factor, times, term, plus, less, at-most, at-least, pad, spellFactor, spellTerm, spellSide, spellRelation, spell, Digits, more, Number, LawfulFactor, LawfulTerm, LawfulSide, Lawful}
-use Rattle.typed_rules.specs.Parser.{Parsed, fail, got, bind, pickParsed, first, tail, digit, lead, skip, run, past, next, beyond, closed, numberAt, factorBy, termBy, moreFactors, sideBy, moreTerms, sideOf, ended, rightOf, relationOf, parse}
+use Rattle.typed_rules.specs.Parser.{Parsed, fail, got, bind, pickParsed, first, digit, lead, skip, run, past, next, beyond, closed, numberAt, factorBy, termBy, sideBy, sideOf, ended, rightOf, relationOf, parse}
 use Rattle.typed_rules.proofs.Bytes.{run-digit, past-digit, run-other, past-other, run-none, past-none}
-use Rattle.typed_rules.proofs.Steps.{factor-digit, factor-x, factor-y, factor-minus, factor-group, term-step, side-step, factors-star, factors-end, terms-plus, terms-less, terms-end}
-use Rattle.typed_rules.proofs.Whole.{right-got, relation-most, relation-least}
-
--- ---- spaces before an item
-
-lead-pad : (i : ℕ) (q : List ℕ) → lead q ≡ 0 → lead (pad i q) ≡ i
-unfolding lead pad
-lead-pad zero q e = e
-lead-pad (suc i) q e = ap suc (lead-pad i q e)
-
-skip-pad : (i : ℕ) (q : List ℕ) → skip q ≡ q → skip (pad i q) ≡ q
-unfolding skip pad
-skip-pad zero q e = e
-skip-pad (suc i) q e = skip-pad i q e
-
-lead-byte : (b : ℕ) (r : List ℕ) → eqb b 32 ≡ false → lead (b ∷ r) ≡ 0
-unfolding lead
-lead-byte b r e = rw e
-
-skip-byte : (b : ℕ) (r : List ℕ) → eqb b 32 ≡ false → skip (b ∷ r) ≡ b ∷ r
-unfolding skip
-skip-byte b r e = rw e
-
-skip-nil : skip [] ≡ []
-unfolding skip
-skip-nil = refl
-
-lead-nil : lead [] ≡ 0
-unfolding lead
-lead-nil = refl
-
-first-end : (n : ℕ) → digit (first (pad n [])) ≡ false
-unfolding pad
-first-end zero = refl
-first-end (suc n) = refl
-
-lead-in : (i b : ℕ) (r : List ℕ) → eqb b 32 ≡ false → lead (pad i (b ∷ r)) ≡ i
-lead-in i b r e = lead-pad i (b ∷ r) (lead-byte b r e)
-
-skip-in : (i b : ℕ) (r : List ℕ) → eqb b 32 ≡ false → skip (pad i (b ∷ r)) ≡ b ∷ r
-skip-in i b r e = skip-pad i (b ∷ r) (skip-byte b r e)
-
-next-in : (i b : ℕ) (r : List ℕ) → eqb b 32 ≡ false → next (pad i (b ∷ r)) ≡ b
-next-in i b r e = ap first (skip-in i b r e)
-
-beyond-in : (i b : ℕ) (r : List ℕ) → eqb b 32 ≡ false → beyond (pad i (b ∷ r)) ≡ r
-beyond-in i b r e = ap tail (skip-in i b r e)
-
-length-pad : (i : ℕ) (q : List ℕ) → length (pad i q) ≡ i + length q
-unfolding pad
-length-pad zero q = omega arith
-length-pad (suc i) q = omega (arith, length-pad i q)
-
--- after spaces and a byte that is no digit there is no digit at once
-first-pad : (i b : ℕ) (r : List ℕ) → digit b ≡ false → digit (first (pad i (b ∷ r))) ≡ false
-unfolding pad
-first-pad zero b r e = e
-first-pad (suc i) b r e = refl
+use Rattle.typed_rules.proofs.Steps.{factor-digit, factor-x, factor-y, factor-minus, factor-group, factors-end, terms-end}
+use Rattle.typed_rules.proofs.Whole.{rule, right-got, relation-most, relation-least}
+use Rattle.typed_rules.proofs.Chain.{Chain, Begins, Joins, terms, sides, one-factor, one-term, by-star, by-plus, by-minus}
+use Rattle.typed_rules.proofs.Spaces.{lead-pad, skip-pad, skip-nil, lead-nil, first-end, skip-in, next-in, lead-in, length-pad, first-pad, in-pad, not-next}
 
 -- ---- lengths
 
@@ -126,134 +73,77 @@ pub record AfterTerm (r : List ℕ) : Type 0 where
   pub no-star : eqb (next r) 42 ≡ false
 
 pub record AfterSide (r : List ℕ) : Type 0 where
-  pub no-digit : digit (first r) ≡ false
-  pub no-star : eqb (next r) 42 ≡ false
+  pub term : AfterTerm r
   pub no-plus : eqb (next r) 43 ≡ false
   pub no-minus : eqb (next r) 45 ≡ false
 
 after-term : (i b : ℕ) (r : List ℕ) → digit b ≡ false → eqb b 32 ≡ false → eqb b 42 ≡ false → AfterTerm (pad i (b ∷ r))
-after-term i b r d s e = record { no-digit = first-pad i b r d; no-star = ap (λ (c : ℕ). eqb c 42) (next-in i b r s) ∙ e }
+after-term i b r d s e = record { no-digit = first-pad i b r d; no-star = not-next i b 42 r s e }
 
 after-side : (i b : ℕ) (r : List ℕ) → digit b ≡ false → eqb b 32 ≡ false → eqb b 42 ≡ false → eqb b 43 ≡ false → eqb b 45 ≡ false → AfterSide (pad i (b ∷ r))
-after-side i b r d s e f g =
-    record {
-      no-digit = first-pad i b r d;
-      no-star = ap (λ (c : ℕ). eqb c 42) (next-in i b r s) ∙ e;
-      no-plus = ap (λ (c : ℕ). eqb c 43) (next-in i b r s) ∙ f;
-      no-minus = ap (λ (c : ℕ). eqb c 45) (next-in i b r s) ∙ g;
-    }
+after-side i b r d s e f g = record { term = after-term i b r d s e; no-plus = not-next i b 43 r s f; no-minus = not-next i b 45 r s g }
 
 rate-x-complete : (k d i : ℕ) (r : List ℕ) → factorBy (suc k) d (pad i (120 ∷ r)) ≡ got (rate-x i) r
-rate-x-complete k d i r =
-    factor-x k d (pad i (120 ∷ r)) (next-in i 120 r refl)
-    ∙ ap (λ (j : ℕ). got (rate-x j) (beyond (pad i (120 ∷ r)))) (lead-in i 120 r refl)
-    ∙ ap (got (rate-x i)) (beyond-in i 120 r refl)
+rate-x-complete k d i r = factor-x k d (pad i (120 ∷ r)) (next-in i 120 r refl) ∙ in-pad (λ j q. got (rate-x j) q) i 120 r refl
 
 rate-y-complete : (k d i : ℕ) (r : List ℕ) → factorBy (suc k) d (pad i (121 ∷ r)) ≡ got (rate-y i) r
-rate-y-complete k d i r =
-    factor-y k d (pad i (121 ∷ r)) (next-in i 121 r refl)
-    ∙ ap (λ (j : ℕ). got (rate-y j) (beyond (pad i (121 ∷ r)))) (lead-in i 121 r refl)
-    ∙ ap (got (rate-y i)) (beyond-in i 121 r refl)
+rate-y-complete k d i r = factor-y k d (pad i (121 ∷ r)) (next-in i 121 r refl) ∙ in-pad (λ j q. got (rate-y j) q) i 121 r refl
 
 minus-complete : (k d i : ℕ) (f : Factor) (q r : List ℕ) → factorBy k d q ≡ got f r → factorBy (suc k) d (pad i (45 ∷ q)) ≡ got (minus i f) r
 minus-complete k d i f q r e =
     factor-minus k d (pad i (45 ∷ q)) (next-in i 45 q refl)
-    ∙ ap (λ (j : ℕ). bind (factorBy k d (beyond (pad i (45 ∷ q)))) (λ g w. got (minus j g) w)) (lead-in i 45 q refl)
-    ∙ ap (λ (z : List ℕ). bind (factorBy k d z) (λ g w. got (minus i g) w)) (beyond-in i 45 q refl)
+    ∙ in-pad (λ j z. bind (factorBy k d z) (λ g w. got (minus j g) w)) i 45 q refl
     ∙ ap (λ (p : Parsed Factor). bind p (λ g w. got (minus i g) w)) e
 
 group-complete : (k d i : ℕ) (a : Side) (j : ℕ) (q r : List ℕ) → sideBy k d q ≡ got a (pad j (41 ∷ r)) → factorBy (suc k) (suc d) (pad i (40 ∷ q)) ≡ got (group i a j) r
 group-complete k d i a j q r e =
     factor-group k (suc d) (pad i (40 ∷ q)) (next-in i 40 q refl)
-    ∙ ap (λ (n : ℕ). bind (sideBy k d (beyond (pad i (40 ∷ q)))) (λ b w. closed n b w)) (lead-in i 40 q refl)
-    ∙ ap (λ (z : List ℕ). bind (sideBy k d z) (λ b w. closed i b w)) (beyond-in i 40 q refl)
+    ∙ in-pad (λ n z. bind (sideBy k d z) (λ b w. closed n b w)) i 40 q refl
     ∙ ap (λ (p : Parsed Side). bind p (λ b w. closed i b w)) e
     ∙ ap (λ (n : ℕ). pickParsed (eqb n 41) (got (group i a (lead (pad j (41 ∷ r)))) (beyond (pad j (41 ∷ r)))) fail) (next-in j 41 r refl)
-    ∙ ap (λ (n : ℕ). got (group i a n) (beyond (pad j (41 ∷ r)))) (lead-in j 41 r refl)
-    ∙ ap (got (group i a j)) (beyond-in j 41 r refl)
+    ∙ in-pad (λ n z. got (group i a n) z) j 41 r refl
 
--- a term read as far as its own last factor, with fuel left for the rest
-pub record RunsTerm (k d : ℕ) (s : List ℕ) (t : Term) (r : List ℕ) : Type 0 where
+-- ---- chains
+
+-- a whole read as far as its own last item, with fuel left for the rest
+pub record Runs {A B : Type 0} (c : Chain A B) (k d : ℕ) (s : List ℕ) (b : B) (r : List ℕ) : Type 0 where
   pub fuel : ℕ
-  pub same : termBy k d s ≡ moreFactors (suc fuel) d t r
+  pub same : c .whole-by k d s ≡ c .more (suc fuel) d b r
   pub enough : 3 * length r ≤ fuel
 
-pub record RunsSide (k d : ℕ) (s : List ℕ) (a : Side) (r : List ℕ) : Type 0 where
-  pub fuel : ℕ
-  pub same : sideBy k d s ≡ moreTerms (suc fuel) d a r
-  pub enough : 3 * length r ≤ fuel
+-- an item is read whole, with enough fuel
+abbrev Takes : {A B : Type 0} → Chain A B → ℕ → List ℕ → A → List ℕ → Type 0
+Takes c d s a r = (m : ℕ) → 3 * length s + c .extra < m → c .item-by m d s ≡ got a r
 
-times-run : (k d : ℕ) (s : List ℕ) (t : Term) (i : ℕ) (f : Factor) (q r : List ℕ) → (x : RunsTerm k d s t (pad i (42 ∷ q))) → ((m : ℕ) → 3 * length q < m → factorBy m d q ≡ got f r) → length r ≤ length q → RunsTerm k d s (times t i f) r
-times-run k d s t i f q r x h l = go (x .fuel) (x .same) (x .enough)
-  where
-    go : (m : ℕ) → termBy k d s ≡ moreFactors (suc m) d t (pad i (42 ∷ q)) → 3 * length (pad i (42 ∷ q)) ≤ m → RunsTerm k d s (times t i f) r
-    go zero e g = absurd (omega (arith, g, length-pad i (42 ∷ q)))
-    go (suc m) e g =
-        record {
-          fuel = m;
-          same = e ∙ factors-star (suc m) d (pad i (42 ∷ q)) t (next-in i 42 q refl)
-              ∙ ap (λ (n : ℕ). bind (factorBy (suc m) d (beyond (pad i (42 ∷ q)))) (λ b w. moreFactors (suc m) d (times t n b) w)) (lead-in i 42 q refl)
-              ∙ ap (λ (z : List ℕ). bind (factorBy (suc m) d z) (λ b w. moreFactors (suc m) d (times t i b) w)) (beyond-in i 42 q refl)
-              ∙ ap (λ (p : Parsed Factor). bind p (λ b w. moreFactors (suc m) d (times t i b) w)) (h (suc m) (omega (arith, g, length-pad i (42 ∷ q))));
-          enough = omega (arith, g, l, length-pad i (42 ∷ q));
-        }
-
-plus-run : (k d : ℕ) (s : List ℕ) (a : Side) (i : ℕ) (t : Term) (q r : List ℕ) → (x : RunsSide k d s a (pad i (43 ∷ q))) → ((m : ℕ) → 3 * length q + 1 < m → termBy m d q ≡ got t r) → length r ≤ length q → RunsSide k d s (plus a i t) r
-plus-run k d s a i t q r x h l = go (x .fuel) (x .same) (x .enough)
-  where
-    go : (m : ℕ) → sideBy k d s ≡ moreTerms (suc m) d a (pad i (43 ∷ q)) → 3 * length (pad i (43 ∷ q)) ≤ m → RunsSide k d s (plus a i t) r
-    go zero e g = absurd (omega (arith, g, length-pad i (43 ∷ q)))
-    go (suc m) e g =
-        record {
-          fuel = m;
-          same = e ∙ terms-plus (suc m) d (pad i (43 ∷ q)) a (next-in i 43 q refl)
-              ∙ ap (λ (n : ℕ). bind (termBy (suc m) d (beyond (pad i (43 ∷ q)))) (λ b w. moreTerms (suc m) d (plus a n b) w)) (lead-in i 43 q refl)
-              ∙ ap (λ (z : List ℕ). bind (termBy (suc m) d z) (λ b w. moreTerms (suc m) d (plus a i b) w)) (beyond-in i 43 q refl)
-              ∙ ap (λ (p : Parsed Term). bind p (λ b w. moreTerms (suc m) d (plus a i b) w)) (h (suc m) (omega (arith, g, length-pad i (43 ∷ q))));
-          enough = omega (arith, g, l, length-pad i (43 ∷ q));
-        }
-
-less-run : (k d : ℕ) (s : List ℕ) (a : Side) (i : ℕ) (t : Term) (q r : List ℕ) → (x : RunsSide k d s a (pad i (45 ∷ q))) → ((m : ℕ) → 3 * length q + 1 < m → termBy m d q ≡ got t r) → length r ≤ length q → RunsSide k d s (less a i t) r
-less-run k d s a i t q r x h l = go (x .fuel) (x .same) (x .enough)
-  where
-    go : (m : ℕ) → sideBy k d s ≡ moreTerms (suc m) d a (pad i (45 ∷ q)) → 3 * length (pad i (45 ∷ q)) ≤ m → RunsSide k d s (less a i t) r
-    go zero e g = absurd (omega (arith, g, length-pad i (45 ∷ q)))
-    go (suc m) e g =
-        record {
-          fuel = m;
-          same = e ∙ terms-less (suc m) d (pad i (45 ∷ q)) a (next-in i 45 q refl)
-              ∙ ap (λ (n : ℕ). bind (termBy (suc m) d (beyond (pad i (45 ∷ q)))) (λ b w. moreTerms (suc m) d (less a n b) w)) (lead-in i 45 q refl)
-              ∙ ap (λ (z : List ℕ). bind (termBy (suc m) d z) (λ b w. moreTerms (suc m) d (less a i b) w)) (beyond-in i 45 q refl)
-              ∙ ap (λ (p : Parsed Term). bind p (λ b w. moreTerms (suc m) d (less a i b) w)) (h (suc m) (omega (arith, g, length-pad i (45 ∷ q))));
-          enough = omega (arith, g, l, length-pad i (45 ∷ q));
-        }
-
--- the first factor of a term, the first term of a side
-one-factor : (k d : ℕ) (s : List ℕ) (f : Factor) (r : List ℕ) → 3 * length s + 1 < k → length r ≤ length s → ((m : ℕ) → 3 * length s < m → factorBy m d s ≡ got f r) → RunsTerm k d s (factor f) r
-one-factor zero d s f r e l h = absurd (omega (arith, e))
-one-factor (suc zero) d s f r e l h = absurd (omega (arith, e))
-one-factor (suc (suc k)) d s f r e l h =
+first-run : {A B : Type 0} {c : Chain A B} (o : Begins c) (k d : ℕ) (s : List ℕ) (a : A) (r : List ℕ) → 3 * length s + suc (c .extra) < k → length r ≤ length s → Takes c d s a r → Runs c k d s (c .one a) r
+first-run o zero d s a r e l h = absurd (omega (arith, e))
+first-run o (suc zero) d s a r e l h = absurd (omega (arith, e))
+first-run {A} {c = c} o (suc (suc k)) d s a r e l h =
     record {
       fuel = k;
-      same = term-step (suc k) d s ∙ ap (λ (p : Parsed Factor). bind p (λ b w. moreFactors (suc k) d (factor b) w)) (h (suc k) (omega (arith, e)));
+      same = o .step (suc k) d s ∙ ap (λ (p : Parsed A). bind p (λ b w. c .more (suc k) d (c .one b) w)) (h (suc k) (omega (arith, e)));
       enough = omega (arith, e, l);
     }
 
-one-term : (k d : ℕ) (s : List ℕ) (t : Term) (r : List ℕ) → 3 * length s + 2 < k → length r ≤ length s → ((m : ℕ) → 3 * length s + 1 < m → termBy m d s ≡ got t r) → RunsSide k d s (term t) r
-one-term zero d s t r e l h = absurd (omega (arith, e))
-one-term (suc zero) d s t r e l h = absurd (omega (arith, e))
-one-term (suc (suc k)) d s t r e l h =
-    record {
-      fuel = k;
-      same = side-step (suc k) d s ∙ ap (λ (p : Parsed Term). bind p (λ b w. moreTerms (suc k) d (term b) w)) (h (suc k) (omega (arith, e)));
-      enough = omega (arith, e, l);
-    }
+next-run : {A B : Type 0} {c : Chain A B} {byte : ℕ} {join : B → ℕ → A → B} {op : Value → Value → Value} (j : Joins c byte join op) (k d : ℕ) (s : List ℕ) (b : B) (i : ℕ) (a : A) (q r : List ℕ) → Runs c k d s b (pad i (byte ∷ q)) → Takes c d q a r → length r ≤ length q → Runs c k d s (join b i a) r
+next-run {A} {c = c} {byte = byte} {join = join} j k d s b i a q r x h l = go (x .fuel) (x .same) (x .enough)
+  where
+    go : (m : ℕ) → c .whole-by k d s ≡ c .more (suc m) d b (pad i (byte ∷ q)) → 3 * length (pad i (byte ∷ q)) ≤ m → Runs c k d s (join b i a) r
+    go zero e g = absurd (omega (arith, g, length-pad i (byte ∷ q)))
+    go (suc m) e g =
+        record {
+          fuel = m;
+          same = e ∙ j .step (suc m) d (pad i (byte ∷ q)) b (next-in i byte q (j .no-space))
+              ∙ in-pad (λ n z. bind (c .item-by (suc m) d z) (λ o w. c .more (suc m) d (join b n o) w)) i byte q (j .no-space)
+              ∙ ap (λ (p : Parsed A). bind p (λ o w. c .more (suc m) d (join b i o) w)) (h (suc m) (omega (arith, g, length-pad i (byte ∷ q), j .few)));
+          enough = omega (arith, g, l, length-pad i (byte ∷ q));
+        }
 
 -- with what may follow, reading stops there
-term-stops : (k d : ℕ) (s : List ℕ) (t : Term) (r : List ℕ) → AfterTerm r → RunsTerm k d s t r → termBy k d s ≡ got t r
+term-stops : (k d : ℕ) (s : List ℕ) (t : Term) (r : List ℕ) → AfterTerm r → Runs terms k d s t r → termBy k d s ≡ got t r
 term-stops k d s t r a x = x .same ∙ factors-end (x .fuel) d r t (a .no-star)
 
-side-stops : (k d : ℕ) (s : List ℕ) (a : Side) (r : List ℕ) → AfterSide r → RunsSide k d s a r → sideBy k d s ≡ got a r
+side-stops : (k d : ℕ) (s : List ℕ) (a : Side) (r : List ℕ) → AfterSide r → Runs sides k d s a r → sideBy k d s ≡ got a r
 side-stops k d s a r z x = x .same ∙ terms-end (x .fuel) d r a (z .no-plus) (z .no-minus)
 
 mutual
@@ -276,23 +166,23 @@ mutual
       (side-stops k d (spellSide s (pad j (41 ∷ r))) s (pad j (41 ∷ r)) (after-side j 41 r refl refl refl refl refl)
       (side-run s k d (pad j (41 ∷ r)) l (after-term j 41 r refl refl refl) (omega (arith, h, length-pad i (40 ∷ spellSide s (pad j (41 ∷ r)))))))
 
-  pub term-run : (t : Term) (k d : ℕ) (r : List ℕ) → LawfulTerm t d → digit (first r) ≡ false → 3 * length (spellTerm t r) + 1 < k → RunsTerm k d (spellTerm t r) t r
-  term-run (factor f) k d r l e h = one-factor k d (spellFactor f r) f r h (long-factor f r) (λ m g. factor-complete f m d r l e g)
+  pub term-run : (t : Term) (k d : ℕ) (r : List ℕ) → LawfulTerm t d → digit (first r) ≡ false → 3 * length (spellTerm t r) + 1 < k → Runs terms k d (spellTerm t r) t r
+  term-run (factor f) k d r l e h = first-run one-factor k d (spellFactor f r) f r h (long-factor f r) (λ m g. factor-complete f m d r l e (omega (arith, g)))
   term-run (times t i f) k d r l e h =
-      times-run k d (spellTerm t (pad i (42 ∷ spellFactor f r))) t i f (spellFactor f r) r
+      next-run by-star k d (spellTerm t (pad i (42 ∷ spellFactor f r))) t i f (spellFactor f r) r
       (term-run t k d (pad i (42 ∷ spellFactor f r)) (l .0) (first-pad i 42 (spellFactor f r) refl) h)
-      (λ m g. factor-complete f m d r (l .1) e g) (long-factor f r)
+      (λ m g. factor-complete f m d r (l .1) e (omega (arith, g))) (long-factor f r)
 
-  pub side-run : (a : Side) (k d : ℕ) (r : List ℕ) → LawfulSide a d → AfterTerm r → 3 * length (spellSide a r) + 2 < k → RunsSide k d (spellSide a r) a r
+  pub side-run : (a : Side) (k d : ℕ) (r : List ℕ) → LawfulSide a d → AfterTerm r → 3 * length (spellSide a r) + 2 < k → Runs sides k d (spellSide a r) a r
   side-run (term t) k d r l z h =
-      one-term k d (spellTerm t r) t r h (long-term t r)
+      first-run one-term k d (spellTerm t r) t r h (long-term t r)
       (λ m g. term-stops m d (spellTerm t r) t r z (term-run t m d r l (z .no-digit) g))
   side-run (plus a i t) k d r l z h =
-      plus-run k d (spellSide a (pad i (43 ∷ spellTerm t r))) a i t (spellTerm t r) r
+      next-run by-plus k d (spellSide a (pad i (43 ∷ spellTerm t r))) a i t (spellTerm t r) r
       (side-run a k d (pad i (43 ∷ spellTerm t r)) (l .0) (after-term i 43 (spellTerm t r) refl refl refl) h)
       (λ m g. term-stops m d (spellTerm t r) t r z (term-run t m d r (l .1) (z .no-digit) g)) (long-term t r)
   side-run (less a i t) k d r l z h =
-      less-run k d (spellSide a (pad i (45 ∷ spellTerm t r))) a i t (spellTerm t r) r
+      next-run by-minus k d (spellSide a (pad i (45 ∷ spellTerm t r))) a i t (spellTerm t r) r
       (side-run a k d (pad i (45 ∷ spellTerm t r)) (l .0) (after-term i 45 (spellTerm t r) refl refl refl) h)
       (λ m g. term-stops m d (spellTerm t r) t r z (term-run t m d r (l .1) (z .no-digit) g)) (long-term t r)
 
@@ -302,7 +192,7 @@ side-complete : (a : Side) (r : List ℕ) → LawfulSide a 8 → AfterSide r →
 unfolding sideOf
 side-complete a r l z =
     side-stops (3 * length (spellSide a r) + 3) 8 (spellSide a r) a r z
-    (side-run a (3 * length (spellSide a r) + 3) 8 r l (record { no-digit = z .no-digit; no-star = z .no-star }) (omega arith))
+    (side-run a (3 * length (spellSide a r) + 3) 8 r l (z .term) (omega arith))
 
 none-left : (n : ℕ) → skip (pad n []) ≡ []
 none-left n = skip-pad n [] skip-nil
@@ -313,8 +203,7 @@ lead-left n = lead-pad n [] lead-nil
 end-after : (n : ℕ) → AfterSide (pad n [])
 end-after n =
     record {
-      no-digit = first-end n;
-      no-star = ap (λ (q : List ℕ). eqb (first q) 42) (none-left n);
+      term = record { no-digit = first-end n; no-star = ap (λ (q : List ℕ). eqb (first q) 42) (none-left n) };
       no-plus = ap (λ (q : List ℕ). eqb (first q) 43) (none-left n);
       no-minus = ap (λ (q : List ℕ). eqb (first q) 45) (none-left n);
     }
@@ -324,9 +213,6 @@ unfolding spellRelation
 relation-after at-most n r = after-side n 60 (61 ∷ r) refl refl refl refl refl
 relation-after at-least n r = after-side n 62 (61 ∷ r) refl refl refl refl refl
 
-abbrev rule : Side → ℕ → Relation → Side → ℕ → Rule
-rule a i k b j = record { left = a; gap = i; relation = k; right = b; end = j }
-
 right-complete : (a : Side) (i : ℕ) (k : Relation) (b : Side) (n : ℕ) → LawfulSide b 8 → rightOf a i k (61 ∷ spellSide b (pad n [])) ≡ got (rule a i k b n) []
 right-complete a i k b n l =
     right-got a i k (61 ∷ spellSide b (pad n [])) b (pad n []) refl (side-complete b (pad n []) l (end-after n))
@@ -335,18 +221,17 @@ right-complete a i k b n l =
 
 relation-complete : (a : Side) (i : ℕ) (k : Relation) (b : Side) (n : ℕ) → LawfulSide b 8 → relationOf a (pad i (spellRelation k (spellSide b (pad n [])))) ≡ got (rule a i k b n) []
 unfolding spellRelation
-relation-complete a i at-most b n l =
-    let q : List ℕ = 61 ∷ spellSide b (pad n []) in
-    relation-most a (pad i (60 ∷ q)) (next-in i 60 q refl)
-    ∙ ap (λ (m : ℕ). rightOf a m at-most (beyond (pad i (60 ∷ q)))) (lead-in i 60 q refl)
-    ∙ ap (rightOf a i at-most) (beyond-in i 60 q refl)
-    ∙ right-complete a i at-most b n l
-relation-complete a i at-least b n l =
-    let q : List ℕ = 61 ∷ spellSide b (pad n []) in
-    relation-least a (pad i (62 ∷ q)) (next-in i 62 q refl)
-    ∙ ap (λ (m : ℕ). rightOf a m at-least (beyond (pad i (62 ∷ q)))) (lead-in i 62 q refl)
-    ∙ ap (rightOf a i at-least) (beyond-in i 62 q refl)
-    ∙ right-complete a i at-least b n l
+relation-complete a i k b n l = go k
+  where
+    q : List ℕ
+    q = 61 ∷ spellSide b (pad n [])
+
+    by : (k : Relation) (c : ℕ) → eqb c 32 ≡ false → relationOf a (pad i (c ∷ q)) ≡ rightOf a (lead (pad i (c ∷ q))) k (beyond (pad i (c ∷ q))) → relationOf a (pad i (c ∷ q)) ≡ got (rule a i k b n) []
+    by k c e f = f ∙ in-pad (λ m z. rightOf a m k z) i c q e ∙ right-complete a i k b n l
+
+    go : (k : Relation) → relationOf a (pad i (spellRelation k (spellSide b (pad n [])))) ≡ got (rule a i k b n) []
+    go at-most = by at-most 60 refl (relation-most a (pad i (60 ∷ q)) (next-in i 60 q refl))
+    go at-least = by at-least 62 refl (relation-least a (pad i (62 ∷ q)) (next-in i 62 q refl))
 
 pub parse-complete : (r : Rule) → LawfulSide (r .left) 8 → LawfulSide (r .right) 8 → parse (spell r) ≡ got r []
 unfolding parse spell

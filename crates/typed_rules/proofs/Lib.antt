@@ -11,6 +11,7 @@ pub mod Places
 pub mod Following
 pub mod Reading
 pub mod Whole
+pub mod Spaces
 pub mod Sound
 pub mod Complete
 pub mod Language

@@ -2,14 +2,17 @@
 use mathlib.Core.Path.{_≡_, refl, ap, _∙_}
 use mathlib.Core.Bool.{Bool, true, false, _&&_}
 use mathlib.Core.List.{List, [], _∷_, _++_}
-use Prim.Native.Nat.{ℕ, zero, suc, _+_, _*_, _≤_}
+use Prim.Native.Nat.{ℕ, zero, suc, _+_, _*_, _≤_, _<_}
 use native.Mathlib.Omega.{arith}
 use lib.Dec.{leb, eqb}
 use lib.ListN.{length}
 use borrow.Author.Tests.{leb-true, eqb-true}
-use Rattle.typed_rules.specs.Grammar.{Factor, Term, Side, Relation, Rule, number, rate-x, rate-y, minus, group, factor, times, term, plus, less, at-most, at-least, pad, spellFactor, spellTerm, spellSide, spellRelation, spell, Digits, none, more, LawfulFactor, LawfulTerm, LawfulSide}
+use Rattle.typed_rules.specs.declared.Value.{Value}
+use Rattle.typed_rules.specs.Grammar.{Factor, Term, Side, Relation, Rule, number, rate-x, rate-y, minus, group, at-most, at-least, pad, spellFactor, spellTerm, spellSide, spellRelation, spell, Digits, none, more, LawfulFactor, LawfulTerm, LawfulSide}
 use Rattle.typed_rules.specs.Parser.{Parsed, fail, got, bind, pickParsed, pickNumber, pickList, first, tail, digit, lead, skip, run, past, next, beyond, inner, closed, numberAt, factorBy, termBy, moreFactors, sideBy, moreTerms, sideOf, ended, rightOf, relationOf, parse}
 use Rattle.typed_rules.proofs.Bytes.{run-some}
+use Rattle.typed_rules.proofs.Chain.{Chain, Begins, Joins, one-factor, one-term, by-star, by-plus, by-minus}
+use Rattle.typed_rules.proofs.Whole.{rule}
 
 -- ---- bytes
 
@@ -24,13 +27,13 @@ led (b ∷ s) = go (eqb b 32) refl (led s)
     go false e h = refl
 
 -- a byte that is not 0 is the first of a text
-front : (s : List ℕ) (n : ℕ) → first s ≡ suc n → s ≡ suc n ∷ tail s
-front [] n e = absurd (omega (arith, e))
-front (b ∷ s) n e = ap (λ (c : ℕ). c ∷ s) e
+front : (s : List ℕ) (b : ℕ) → 0 < b → first s ≡ b → s ≡ b ∷ tail s
+front [] b h e = absurd (omega (arith, e, h))
+front (c ∷ s) b h e = ap (λ (z : ℕ). z ∷ s) e
 
 -- the next item with the spaces before it
-pub item : (s : List ℕ) (n : ℕ) → next s ≡ suc n → s ≡ pad (lead s) (suc n ∷ beyond s)
-item s n e = led s ∙ ap (pad (lead s)) (front (skip s) n e)
+item : (s : List ℕ) (b : ℕ) → 0 < b → next s ≡ b → s ≡ pad (lead s) (b ∷ beyond s)
+item s b h e = led s ∙ ap (pad (lead s)) (front (skip s) b h e)
 
 -- digits and what comes after them
 ran : (s : List ℕ) → s ≡ run s ++ past s
@@ -91,17 +94,17 @@ number-sound d s e = go (leb (length (run (skip s))) 10) refl
 
 rate-x-sound : (d : ℕ) (s : List ℕ) → next s ≡ 120 → SoundFactor d s (got (rate-x (lead s)) (beyond s))
 unfolding spellFactor LawfulFactor
-rate-x-sound d s e = record { text = item s 119 e; law = tt }
+rate-x-sound d s e = record { text = item s 120 (omega arith) e; law = tt }
 
 rate-y-sound : (d : ℕ) (s : List ℕ) → next s ≡ 121 → SoundFactor d s (got (rate-y (lead s)) (beyond s))
 unfolding spellFactor LawfulFactor
-rate-y-sound d s e = record { text = item s 120 e; law = tt }
+rate-y-sound d s e = record { text = item s 121 (omega arith) e; law = tt }
 
 minus-sound : (d : ℕ) (s : List ℕ) → next s ≡ 45 → (p : Parsed Factor) → SoundFactor d (beyond s) p → SoundFactor d s (bind p (λ f r. got (minus (lead s) f) r))
 unfolding spellFactor LawfulFactor
 minus-sound d s e fail h = tt
 minus-sound d s e (got f r) h =
-    record { text = item s 44 e ∙ ap (λ (q : List ℕ). pad (lead s) (45 ∷ q)) (h .text); law = h .law }
+    record { text = item s 45 (omega arith) e ∙ ap (λ (q : List ℕ). pad (lead s) (45 ∷ q)) (h .text); law = h .law }
 
 group-sound : (d : ℕ) (s : List ℕ) → next s ≡ 40 → (p : Parsed Side) → SoundSide d (beyond s) p → SoundFactor (suc d) s (bind p (λ a r. closed (lead s) a r))
 unfolding spellFactor LawfulFactor
@@ -111,7 +114,7 @@ group-sound d s e (got a r) h = go (eqb (next r) 41) refl
     go : (t : Bool) → eqb (next r) 41 ≡ t → SoundFactor (suc d) s (pickParsed t (got (group (lead s) a (lead r)) (beyond r)) fail)
     go true f =
         record {
-          text = item s 39 e ∙ ap (λ (q : List ℕ). pad (lead s) (40 ∷ q)) (h .text ∙ ap (spellSide a) (item r 40 (eqb-true (next r) 41 f)));
+          text = item s 40 (omega arith) e ∙ ap (λ (q : List ℕ). pad (lead s) (40 ∷ q)) (h .text ∙ ap (spellSide a) (item r 41 (omega arith) (eqb-true (next r) 41 f)));
           law = h .law;
         }
     go false f = tt
@@ -125,48 +128,29 @@ branch : {A : Type 0} (Q : Parsed A → Type 0) (t : Bool) (l r : Parsed A) → 
 branch Q true l r f g = f refl
 branch Q false l r f g = g refl
 
-module _ (d : ℕ) where
-  times-sound : (t : Term) (s : List ℕ) → LawfulTerm t d → next s ≡ 42 → (f : Factor) (r : List ℕ) → Spelt spellFactor (λ g. LawfulFactor g d) (beyond s) f r → (spellTerm t s ≡ spellTerm (times t (lead s) f) r) × LawfulTerm (times t (lead s) f) d
-  unfolding spellFactor LawfulFactor
-  times-sound t s l e f r h = (ap (spellTerm t) (item s 41 e ∙ ap (λ (q : List ℕ). pad (lead s) (42 ∷ q)) (h .text)), (l, h .law))
+-- ---- chains
 
-  plus-sound : (a : Side) (s : List ℕ) → LawfulSide a d → next s ≡ 43 → (t : Term) (r : List ℕ) → Spelt spellTerm (λ g. LawfulTerm g d) (beyond s) t r → (spellSide a s ≡ spellSide (plus a (lead s) t) r) × LawfulSide (plus a (lead s) t) d
-  unfolding spellFactor LawfulFactor
-  plus-sound a s l e t r h = (ap (spellSide a) (item s 42 e ∙ ap (λ (q : List ℕ). pad (lead s) (43 ∷ q)) (h .text)), (l, h .law))
+abbrev SoundItem : {A B : Type 0} → Chain A B → ℕ → List ℕ → Parsed A → Type 0
+SoundItem c d s p = Sound (c .spell-item) (λ a. c .LawfulItem a d) s p
 
-  less-sound : (a : Side) (s : List ℕ) → LawfulSide a d → next s ≡ 45 → (t : Term) (r : List ℕ) → Spelt spellTerm (λ g. LawfulTerm g d) (beyond s) t r → (spellSide a s ≡ spellSide (less a (lead s) t) r) × LawfulSide (less a (lead s) t) d
-  unfolding spellFactor LawfulFactor
-  less-sound a s l e t r h = (ap (spellSide a) (item s 44 e ∙ ap (λ (q : List ℕ). pad (lead s) (45 ∷ q)) (h .text)), (l, h .law))
+abbrev SoundWhole : {A B : Type 0} → Chain A B → ℕ → List ℕ → Parsed B → Type 0
+SoundWhole c d s p = Sound (c .spell-whole) (λ b. c .LawfulWhole b d) s p
 
--- what follows the first item, and what follows the next, where what follows is sound for every tree
+-- a reader of what follows that is sound after every whole
+abbrev SoundMore : {A B : Type 0} → Chain A B → ℕ → (B → List ℕ → Parsed B) → Type 0
+SoundMore {A} {B} c d m = (b : B) (r s : List ℕ) → c .LawfulWhole b d → s ≡ c .spell-whole b r → SoundWhole c d s (m b r)
 
-first-factor : (d : ℕ) (s : List ℕ) (p : Parsed Factor) → SoundFactor d s p → (m : Term → List ℕ → Parsed Term) → ((u : Term) (w z : List ℕ) → LawfulTerm u d → z ≡ spellTerm u w → SoundTerm d z (m u w)) → SoundTerm d s (bind p (λ f r. m (factor f) r))
-unfolding spellFactor LawfulFactor
-first-factor d s fail h m g = tt
-first-factor d s (got f r) h m g = g (factor f) r s (h .law) (h .text)
+first-sound : {A B : Type 0} {c : Chain A B} (o : Begins c) (d : ℕ) (s : List ℕ) (p : Parsed A) → SoundItem c d s p → (m : B → List ℕ → Parsed B) → SoundMore c d m → SoundWhole c d s (bind p (λ a r. m (c .one a) r))
+first-sound o d s fail h m g = tt
+first-sound {c = c} o d s (got a r) h m g = g (c .one a) r s (o .lawful a d (h .law)) (h .text ∙ o .spelt a r)
 
-first-term : (d : ℕ) (s : List ℕ) (p : Parsed Term) → SoundTerm d s p → (m : Side → List ℕ → Parsed Side) → ((u : Side) (w z : List ℕ) → LawfulSide u d → z ≡ spellSide u w → SoundSide d z (m u w)) → SoundSide d s (bind p (λ f r. m (term f) r))
-unfolding spellFactor LawfulFactor
-first-term d s fail h m g = tt
-first-term d s (got f r) h m g = g (term f) r s (h .law) (h .text)
-
-next-factor : (d : ℕ) (t : Term) (r q : List ℕ) → LawfulTerm t d → q ≡ spellTerm t r → next r ≡ 42 → (p : Parsed Factor) → SoundFactor d (beyond r) p → (m : Term → List ℕ → Parsed Term) → ((u : Term) (w z : List ℕ) → LawfulTerm u d → z ≡ spellTerm u w → SoundTerm d z (m u w)) → SoundTerm d q (bind p (λ f w. m (times t (lead r) f) w))
-next-factor d t r q l e b fail h m g = tt
-next-factor d t r q l e b (got f w) h m g =
-    let z = times-sound d t r l b f w h in
-    g (times t (lead r) f) w q (z .1) (e ∙ z .0)
-
-next-plus : (d : ℕ) (t : Side) (r q : List ℕ) → LawfulSide t d → q ≡ spellSide t r → next r ≡ 43 → (p : Parsed Term) → SoundTerm d (beyond r) p → (m : Side → List ℕ → Parsed Side) → ((u : Side) (w z : List ℕ) → LawfulSide u d → z ≡ spellSide u w → SoundSide d z (m u w)) → SoundSide d q (bind p (λ f w. m (plus t (lead r) f) w))
-next-plus d t r q l e b fail h m g = tt
-next-plus d t r q l e b (got f w) h m g =
-    let z = plus-sound d t r l b f w h in
-    g (plus t (lead r) f) w q (z .1) (e ∙ z .0)
-
-next-less : (d : ℕ) (t : Side) (r q : List ℕ) → LawfulSide t d → q ≡ spellSide t r → next r ≡ 45 → (p : Parsed Term) → SoundTerm d (beyond r) p → (m : Side → List ℕ → Parsed Side) → ((u : Side) (w z : List ℕ) → LawfulSide u d → z ≡ spellSide u w → SoundSide d z (m u w)) → SoundSide d q (bind p (λ f w. m (less t (lead r) f) w))
-next-less d t r q l e b fail h m g = tt
-next-less d t r q l e b (got f w) h m g =
-    let z = less-sound d t r l b f w h in
-    g (less t (lead r) f) w q (z .1) (e ∙ z .0)
+next-sound : {A B : Type 0} {c : Chain A B} {byte : ℕ} {join : B → ℕ → A → B} {op : Value → Value → Value} (j : Joins c byte join op) (d : ℕ) (b : B) (r s : List ℕ) → c .LawfulWhole b d → s ≡ c .spell-whole b r → eqb (next r) byte ≡ true → (p : Parsed A) → SoundItem c d (beyond r) p → (m : B → List ℕ → Parsed B) → SoundMore c d m → SoundWhole c d s (bind p (λ a w. m (join b (lead r) a) w))
+next-sound j d b r s l e n fail h m g = tt
+next-sound {c = c} {byte = byte} {join = join} j d b r s l e n (got a w) h m g =
+    g (join b (lead r) a) w s (j .lawful b (lead r) a d l (h .law))
+    (e
+    ∙ ap (c .spell-whole b) (item r byte (j .some) (eqb-true (next r) byte n) ∙ ap (λ (q : List ℕ). pad (lead r) (byte ∷ q)) (h .text))
+    ∙ j .spelt b (lead r) a w)
 
 mutual
   unfolding factorBy
@@ -183,26 +167,26 @@ mutual
 
   pub term-sound : (k d : ℕ) (s : List ℕ) → SoundTerm d s (termBy k d s)
   term-sound zero d s = tt
-  term-sound (suc k) d s = first-factor d s (factorBy k d s) (factor-sound k d s) (λ t r. moreFactors k d t r) (λ t r q l e. factors-sound k d t r q l e)
+  term-sound (suc k) d s = first-sound one-factor d s (factorBy k d s) (factor-sound k d s) (moreFactors k d) (λ b w z m h. factors-sound k d b w z m h)
 
   pub factors-sound : (k d : ℕ) (t : Term) (r q : List ℕ) → LawfulTerm t d → q ≡ spellTerm t r → SoundTerm d q (moreFactors k d t r)
   factors-sound zero d t r q l e = tt
   factors-sound (suc k) d t r q l e =
       branch (SoundTerm d q) (eqb (next r) 42) _ _
-      (λ f. next-factor d t r q l e (eqb-true (next r) 42 f) (factorBy k d (beyond r)) (factor-sound k d (beyond r)) (λ u w. moreFactors k d u w) (λ u w p m g. factors-sound k d u w p m g))
+      (λ f. next-sound by-star d t r q l e f (factorBy k d (beyond r)) (factor-sound k d (beyond r)) (moreFactors k d) (λ b w z m h. factors-sound k d b w z m h))
       (λ _. record { text = e; law = l })
 
   pub side-sound : (k d : ℕ) (s : List ℕ) → SoundSide d s (sideBy k d s)
   side-sound zero d s = tt
-  side-sound (suc k) d s = first-term d s (termBy k d s) (term-sound k d s) (λ t r. moreTerms k d t r) (λ t r q l e. terms-sound k d t r q l e)
+  side-sound (suc k) d s = first-sound one-term d s (termBy k d s) (term-sound k d s) (moreTerms k d) (λ b w z m h. terms-sound k d b w z m h)
 
   pub terms-sound : (k d : ℕ) (a : Side) (r q : List ℕ) → LawfulSide a d → q ≡ spellSide a r → SoundSide d q (moreTerms k d a r)
   terms-sound zero d a r q l e = tt
   terms-sound (suc k) d a r q l e =
       branch (SoundSide d q) (eqb (next r) 43) _ _
-      (λ f. next-plus d a r q l e (eqb-true (next r) 43 f) (termBy k d (beyond r)) (term-sound k d (beyond r)) (λ u w. moreTerms k d u w) (λ u w p m g. terms-sound k d u w p m g))
+      (λ f. next-sound by-plus d a r q l e f (termBy k d (beyond r)) (term-sound k d (beyond r)) (moreTerms k d) (λ b w z m h. terms-sound k d b w z m h))
       (λ _. branch (SoundSide d q) (eqb (next r) 45) _ _
-      (λ f. next-less d a r q l e (eqb-true (next r) 45 f) (termBy k d (beyond r)) (term-sound k d (beyond r)) (λ u w. moreTerms k d u w) (λ u w p m g. terms-sound k d u w p m g))
+      (λ f. next-sound by-minus d a r q l e f (termBy k d (beyond r)) (term-sound k d (beyond r)) (moreTerms k d) (λ b w z m h. terms-sound k d b w z m h))
       (λ _. record { text = e; law = l }))
 
 -- ---- a whole text
@@ -219,9 +203,6 @@ pub record SpeltRule (s : List ℕ) (r : Rule) : Type 0 where
 abbrev pub SoundRule : List ℕ → Parsed Rule → Type 0
 SoundRule s fail = Unit {0}
 SoundRule s (got r q) = SpeltRule s r
-
-abbrev rule : Side → ℕ → Relation → Side → ℕ → Rule
-rule a i k b j = record { left = a; gap = i; relation = k; right = b; end = j }
 
 ended-sound : (s q : List ℕ) (a : Side) (i : ℕ) (k : Relation) (b : Side) → LawfulSide a 8 → LawfulSide b 8 → s ≡ spellSide a (pad i (spellRelation k (spellSide b q))) → (z : List ℕ) → skip q ≡ z → SoundRule s (ended z (rule a i k b (lead q)))
 unfolding spell
@@ -243,19 +224,14 @@ right-sound s a i k w l e = go (eqb (first w) 61) refl
 
 relation-sound : (s : List ℕ) (a : Side) (r : List ℕ) → LawfulSide a 8 → s ≡ spellSide a r → SoundRule s (relationOf a r)
 unfolding relationOf spellRelation
-relation-sound s a r l e = go (eqb (next r) 60) refl
+relation-sound s a r l e =
+    branch (SoundRule s) (eqb (next r) 60) _ _ (by at-most 60 (omega arith) (λ x. refl))
+    (λ _. branch (SoundRule s) (eqb (next r) 62) _ _ (by at-least 62 (omega arith) (λ x. refl)) (λ _. tt))
   where
-    least : (t : Bool) → eqb (next r) 62 ≡ t → SoundRule s (pickParsed t (rightOf a (lead r) at-least (beyond r)) fail)
-    least true f =
-        right-sound s a (lead r) at-least (beyond r) l
-        (λ g. e ∙ ap (spellSide a) (item r 61 (eqb-true (next r) 62 f) ∙ ap (λ (x : List ℕ). pad (lead r) (62 ∷ x)) (front (beyond r) 60 g)))
-    least false f = tt
-
-    go : (t : Bool) → eqb (next r) 60 ≡ t → SoundRule s (pickParsed t (rightOf a (lead r) at-most (beyond r)) (pickParsed (eqb (next r) 62) (rightOf a (lead r) at-least (beyond r)) fail))
-    go true f =
-        right-sound s a (lead r) at-most (beyond r) l
-        (λ g. e ∙ ap (spellSide a) (item r 59 (eqb-true (next r) 60 f) ∙ ap (λ (x : List ℕ). pad (lead r) (60 ∷ x)) (front (beyond r) 60 g)))
-    go false f = least (eqb (next r) 62) refl
+    by : (k : Relation) (b : ℕ) → 0 < b → ((x : List ℕ) → b ∷ 61 ∷ x ≡ spellRelation k x) → eqb (next r) b ≡ true → SoundRule s (rightOf a (lead r) k (beyond r))
+    by k b h p f =
+        right-sound s a (lead r) k (beyond r) l
+        (λ g. e ∙ ap (spellSide a) (item r b h (eqb-true (next r) b f) ∙ ap (λ (x : List ℕ). pad (lead r) (b ∷ x)) (front (beyond r) 61 (omega arith) g) ∙ ap (pad (lead r)) (p (tail (beyond r)))))
 
 pub parse-sound : (s : List ℕ) → SoundRule s (parse s)
 unfolding parse
