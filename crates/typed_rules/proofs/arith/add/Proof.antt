@@ -3,11 +3,9 @@ use Rattle.ints.proofs.Machine.{sizes}
 use Rattle.typed_rules.proofs.arith.add.Statement.{statement}
 use Rattle.typed_rules.proofs.arith.add.Tie as tie
 
-add-result : tie.Need-add-result
-add-result c = search sizes depth 8
-
-returns : tie.Need-returns
-returns c = search sizes depth 8
-
 pub add-spec : {M : Type 1} → statement M
-add-spec = tie.close (tie.spec add-result returns)
+add-spec =
+    tie.close
+    (tie.spec
+    (λ c. search sizes depth 8)
+    (λ c. search sizes depth 8))

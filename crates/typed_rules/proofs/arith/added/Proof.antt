@@ -4,21 +4,12 @@ use borrow.Author.Needs.{needs}
 use Rattle.typed_rules.proofs.arith.added.Statement.{statement}
 use Rattle.typed_rules.proofs.arith.added.Tie as tie
 
-add-requires : tie.Need-add-requires
-add-requires c κs = search needs
-
-add-requires-2 : tie.Need-add-requires-2
-add-requires-2 c κs = search needs
-
-add-requires-3 : tie.Need-add-requires-3
-add-requires-3 c κs = search needs
-
-checked-requires : tie.Need-checked-requires
-checked-requires c κs = search needs
-
-returns : tie.Need-returns
-returns c = let pre = c .before .before .before .before .before .before .before .before .before .before .pre in checked-form (form-is (add-is (c .before .before .before .before .before .before .before .add .result) (pre .left .a) (pre .right .a) (c .before .before .before .before .before .before .before .add .ensures)) (add-is (c .before .before .before .before .add2 .result) (pre .left .b) (pre .right .b) (c .before .before .before .before .add2 .ensures)) (add-is (c .before .add3 .result) (pre .left .c) (pre .right .c) (c .before .add3 .ensures))) (c .checked .ensures)
-
 pub added-spec : {M : Type 1} → statement M
 added-spec =
-    tie.close (tie.spec add-requires add-requires-2 add-requires-3 checked-requires returns)
+    tie.close
+    (tie.spec
+    (λ c κs. search needs)
+    (λ c κs. search needs)
+    (λ c κs. search needs)
+    (λ c κs. search needs)
+    (λ c. let pre = c .before .before .before .before .before .before .before .before .before .before .pre in checked-form (form-is (add-is (c .before .before .before .before .before .before .before .add .result) (pre .left .a) (pre .right .a) (c .before .before .before .before .before .before .before .add .ensures)) (add-is (c .before .before .before .before .add2 .result) (pre .left .b) (pre .right .b) (c .before .before .before .before .add2 .ensures)) (add-is (c .before .add3 .result) (pre .left .c) (pre .right .c) (c .before .add3 .ensures))) (c .checked .ensures)))

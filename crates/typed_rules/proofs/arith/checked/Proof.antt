@@ -4,14 +4,10 @@ use borrow.Author.Needs.{needs}
 use Rattle.typed_rules.proofs.arith.checked.Statement.{statement}
 use Rattle.typed_rules.proofs.arith.checked.Tie as tie
 
-all-inside-requires : tie.Need-all-inside-requires
-all-inside-requires c κs = search needs
-
-returns : tie.Need-returns
-returns c = checked-yes (c .before .before .args .f) (c .before .all-inside .ensures) (c .if1 .taken)
-
-returns-2 : tie.Need-returns-2
-returns-2 c = checked-no (c .before .before .args .f) (c .before .all-inside .ensures) (c .if1 .left)
-
 pub checked-spec : {M : Type 1} → statement M
-checked-spec = tie.close (tie.spec all-inside-requires returns returns-2)
+checked-spec =
+    tie.close
+    (tie.spec
+    (λ c κs. search needs)
+    (λ c. checked-yes (c .before .before .args .f) (c .before .all-inside .ensures) (c .if1 .taken))
+    (λ c. checked-no (c .before .before .args .f) (c .before .all-inside .ensures) (c .if1 .left)))

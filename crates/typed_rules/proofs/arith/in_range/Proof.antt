@@ -7,25 +7,13 @@ use borrow.Author.Needs.{needs}
 use Rattle.typed_rules.proofs.arith.in_range.Statement.{statement}
 use Rattle.typed_rules.proofs.arith.in_range.Tie as tie
 
-inside-requires : tie.Need-inside-requires
-inside-requires c κs = search needs
-
-inside-requires-2 : tie.Need-inside-requires-2
-inside-requires-2 c κs = search needs
-
-inside-requires-3 : tie.Need-inside-requires-3
-inside-requires-3 c κs = search needs
-
-returns : tie.Need-returns
-returns c = and-last (sym (inside-read 32767 (c .before .before .before .before .before .before .before .before .args .w .a) (record { sfits = c .before .before .before .before .before .before .before .struct-told .given .1 .0 .1 }) (c .before .before .before .before .before .before .inside .ensures)) ∙ c .before .before .before .before .before .if1 .taken) (and-last (sym (inside-read 32767 (c .before .before .before .before .before .before .before .before .args .w .b) (record { sfits = c .before .before .before .before .struct-told2 .given .1 .1 .0 .1 }) (c .before .before .before .inside2 .ensures)) ∙ c .before .before .if2 .taken) (inside-read 1000000000 (c .before .before .before .before .before .before .before .before .args .w .c) (record { sfits = c .before .struct-told3 .given .1 .1 .1 .0 .1 }) (c .inside3 .ensures)))
-
-returns-2 : tie.Need-returns-2
-returns-2 c = and-last (sym (inside-read 32767 (c .before .before .before .before .before .before .args .w .a) (record { sfits = c .before .before .before .before .before .struct-told .given .1 .0 .1 }) (c .before .before .before .before .inside .ensures)) ∙ c .before .before .before .if1 .taken) (and-first (inside 1000000000 (c .before .before .before .before .before .before .args .w .c)) (inside-read 32767 (c .before .before .before .before .before .before .args .w .b) (record { sfits = c .before .before .struct-told2 .given .1 .1 .0 .1 }) (c .before .inside2 .ensures)) (c .if2 .left))
-
-returns-3 : tie.Need-returns-3
-returns-3 c = and-first (inside 32767 (c .before .before .before .args .w .b) && inside 1000000000 (c .before .before .before .args .w .c)) (inside-read 32767 (c .before .before .before .args .w .a) (record { sfits = c .before .before .struct-told .given .1 .0 .1 }) (c .before .inside .ensures)) (c .if1 .left)
-
 pub in-range-spec : {M : Type 1} → statement M
 in-range-spec =
     tie.close
-    (tie.spec inside-requires inside-requires-2 inside-requires-3 returns returns-2 returns-3)
+    (tie.spec
+    (λ c κs. search needs)
+    (λ c κs. search needs)
+    (λ c κs. search needs)
+    (λ c. and-last (sym (inside-read 32767 (c .before .before .before .before .before .before .before .before .args .w .a) (record { sfits = c .before .before .before .before .before .before .before .struct-told .given .1 .0 .1 }) (c .before .before .before .before .before .before .inside .ensures)) ∙ c .before .before .before .before .before .if1 .taken) (and-last (sym (inside-read 32767 (c .before .before .before .before .before .before .before .before .args .w .b) (record { sfits = c .before .before .before .before .struct-told2 .given .1 .1 .0 .1 }) (c .before .before .before .inside2 .ensures)) ∙ c .before .before .if2 .taken) (inside-read 1000000000 (c .before .before .before .before .before .before .before .before .args .w .c) (record { sfits = c .before .struct-told3 .given .1 .1 .1 .0 .1 }) (c .inside3 .ensures))))
+    (λ c. and-last (sym (inside-read 32767 (c .before .before .before .before .before .before .args .w .a) (record { sfits = c .before .before .before .before .before .struct-told .given .1 .0 .1 }) (c .before .before .before .before .inside .ensures)) ∙ c .before .before .before .if1 .taken) (and-first (inside 1000000000 (c .before .before .before .before .before .before .args .w .c)) (inside-read 32767 (c .before .before .before .before .before .before .args .w .b) (record { sfits = c .before .before .struct-told2 .given .1 .1 .0 .1 }) (c .before .inside2 .ensures)) (c .if2 .left)))
+    (λ c. and-first (inside 32767 (c .before .before .before .args .w .b) && inside 1000000000 (c .before .before .before .args .w .c)) (inside-read 32767 (c .before .before .before .args .w .a) (record { sfits = c .before .before .struct-told .given .1 .0 .1 }) (c .before .inside .ensures)) (c .if1 .left)))

@@ -4,11 +4,9 @@ use borrow.Author.Needs.{needs}
 use Rattle.typed_rules.proofs.arith.inside.Statement.{statement}
 use Rattle.typed_rules.proofs.arith.inside.Tie as tie
 
-magnitude-requires : tie.Need-magnitude-requires
-magnitude-requires c κs = search needs
-
-returns : tie.Need-returns
-returns c = inside-is (c .before .args .n) (c .before .args .z) (c .magnitude .result) (c .before .fits .z) (c .magnitude .ensures)
-
 pub inside-spec : {M : Type 1} → statement M
-inside-spec = tie.close (tie.spec magnitude-requires returns)
+inside-spec =
+    tie.close
+    (tie.spec
+    (λ c κs. search needs)
+    (λ c. inside-is (c .before .args .n) (c .before .args .z) (c .magnitude .result) (c .before .fits .z) (c .magnitude .ensures)))

@@ -4,11 +4,9 @@ use borrow.Author.Needs.{needs}
 use Rattle.typed_rules.proofs.arith.is_zero.Statement.{statement}
 use Rattle.typed_rules.proofs.arith.is_zero.Tie as tie
 
-inside-requires : tie.Need-inside-requires
-inside-requires c κs = search needs
-
-returns : tie.Need-returns
-returns c = inside-read 0 (c .before .args .z) (c .before .fits .z) (c .inside .ensures)
-
 pub is-zero-spec : {M : Type 1} → statement M
-is-zero-spec = tie.close (tie.spec inside-requires returns)
+is-zero-spec =
+    tie.close
+    (tie.spec
+    (λ c κs. search needs)
+    (λ c. inside-read 0 (c .before .args .z) (c .before .fits .z) (c .inside .ensures)))

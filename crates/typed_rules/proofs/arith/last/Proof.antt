@@ -5,16 +5,11 @@ use borrow.Author.Needs.{needs}
 use Rattle.typed_rules.proofs.arith.last.Statement.{statement}
 use Rattle.typed_rules.proofs.arith.last.Tie as tie
 
-in-range-requires : tie.Need-in-range-requires
-in-range-requires c κs = search needs
-
-returns : tie.Need-returns
-unfolding final
-returns c = rw (sym (c .before .in-range .ensures) ∙ c .if1 .taken)
-
-returns-2 : tie.Need-returns-2
-unfolding final
-returns-2 c = rw (sym (c .before .in-range .ensures) ∙ c .if1 .left)
-
 pub last-spec : {M : Type 1} → statement M
-last-spec = tie.close (tie.spec in-range-requires returns returns-2)
+unfolding final
+last-spec =
+    tie.close
+    (tie.spec
+    (λ c κs. search needs)
+    (λ c. rw (sym (c .before .in-range .ensures) ∙ c .if1 .taken))
+    (λ c. rw (sym (c .before .in-range .ensures) ∙ c .if1 .left)))

@@ -4,28 +4,14 @@ use Rattle.typed_rules.proofs.Integer.{negative, counted}
 use Rattle.typed_rules.proofs.arith.magnitude.Statement.{statement}
 use Rattle.typed_rules.proofs.arith.magnitude.Tie as tie
 
-add-result : tie.Need-add-result
-add-result c = negative (c .before .args .z) (c .before .fits .z) (c .if1 .taken) .raised-fits
-
-sub-result : tie.Need-sub-result
-sub-result c = negative (c .before .args .z) (c .before .fits .z) (c .if1 .taken) .turned-fits
-
-cast-result : tie.Need-cast-result
-cast-result c = negative (c .before .args .z) (c .before .fits .z) (c .if1 .taken) .counts
-
-add-result-2 : tie.Need-add-result-2
-add-result-2 c = negative (c .before .args .z) (c .before .fits .z) (c .if1 .taken) .one-more
-
-cast-result-2 : tie.Need-cast-result-2
-cast-result-2 c = counted (c .before .args .z) (c .before .fits .z) (c .if1 .left)
-
-returns : tie.Need-returns
-returns c = negative (c .before .args .z) (c .before .fits .z) (c .if1 .taken) .magnitude
-
-returns-2 : tie.Need-returns-2
-returns-2 c = search needs
-
 pub magnitude-spec : {M : Type 1} → statement M
 magnitude-spec =
     tie.close
-    (tie.spec add-result sub-result cast-result add-result-2 cast-result-2 returns returns-2)
+    (tie.spec
+    (λ c. negative (c .before .args .z) (c .before .fits .z) (c .if1 .taken) .raised-fits)
+    (λ c. negative (c .before .args .z) (c .before .fits .z) (c .if1 .taken) .turned-fits)
+    (λ c. negative (c .before .args .z) (c .before .fits .z) (c .if1 .taken) .counts)
+    (λ c. negative (c .before .args .z) (c .before .fits .z) (c .if1 .taken) .one-more)
+    (λ c. counted (c .before .args .z) (c .before .fits .z) (c .if1 .left))
+    (λ c. negative (c .before .args .z) (c .before .fits .z) (c .if1 .taken) .magnitude)
+    (λ c. search needs))

@@ -9,15 +9,11 @@ use borrow.Author.Needs.{needs}
 use Rattle.typed_rules.proofs.arith.numeral.Statement.{statement}
 use Rattle.typed_rules.proofs.arith.numeral.Tie as tie
 
-cast-t4 : tie.Need-cast-t4
-cast-t4 c = search needs
-
-returns : tie.Need-returns
-returns c = numeral-yes (c .before .args .n) _ (c .if1 .taken) (toZ-pos w64 (omega arith))
-
-returns-2 : tie.Need-returns-2
-unfolding numeral
-returns-2 c = record { same = rw (lt-leb _ _ (c .if1 .left)); small = tt }
-
 pub numeral-spec : {M : Type 1} → statement M
-numeral-spec = tie.close (tie.spec cast-t4 returns returns-2)
+unfolding numeral
+numeral-spec =
+    tie.close
+    (tie.spec
+    (λ c. search needs)
+    (λ c. numeral-yes (c .before .args .n) _ (c .if1 .taken) (toZ-pos w64 (omega arith)))
+    (λ c. record { same = rw (lt-leb _ _ (c .if1 .left)); small = tt }))

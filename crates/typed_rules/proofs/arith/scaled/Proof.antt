@@ -4,21 +4,12 @@ use borrow.Author.Needs.{needs}
 use Rattle.typed_rules.proofs.arith.scaled.Statement.{statement}
 use Rattle.typed_rules.proofs.arith.scaled.Tie as tie
 
-cross-requires : tie.Need-cross-requires
-cross-requires c κs = search needs
-
-cross-requires-2 : tie.Need-cross-requires-2
-cross-requires-2 c κs = search needs
-
-mul-requires : tie.Need-mul-requires
-mul-requires c κs = search needs
-
-checked-requires : tie.Need-checked-requires
-checked-requires c κs = search needs
-
-returns : tie.Need-returns
-returns c = let pre = c .before .before .before .before .before .before .before .before .before .before .before .before .before .before .pre in checked-form (form-is (cross-is (c .before .before .before .before .before .before .before .before .before .cross .result) (pre .left .a) (pre .right .c) (pre .left .c) (pre .right .a) (c .before .before .before .before .before .before .before .before .before .cross .ensures)) (cross-is (c .before .before .before .before .cross2 .result) (pre .left .b) (pre .right .c) (pre .left .c) (pre .right .b) (c .before .before .before .before .cross2 .ensures)) (mul-is (c .before .mul .result) (pre .left .c) (pre .right .c) (c .before .mul .ensures))) (c .checked .ensures)
-
 pub scaled-spec : {M : Type 1} → statement M
 scaled-spec =
-    tie.close (tie.spec cross-requires cross-requires-2 mul-requires checked-requires returns)
+    tie.close
+    (tie.spec
+    (λ c κs. search needs)
+    (λ c κs. search needs)
+    (λ c κs. search needs)
+    (λ c κs. search needs)
+    (λ c. let pre = c .before .before .before .before .before .before .before .before .before .before .before .before .before .before .pre in checked-form (form-is (cross-is (c .before .before .before .before .before .before .before .before .before .cross .result) (pre .left .a) (pre .right .c) (pre .left .c) (pre .right .a) (c .before .before .before .before .before .before .before .before .before .cross .ensures)) (cross-is (c .before .before .before .before .cross2 .result) (pre .left .b) (pre .right .c) (pre .left .c) (pre .right .b) (c .before .before .before .before .cross2 .ensures)) (mul-is (c .before .mul .result) (pre .left .c) (pre .right .c) (c .before .mul .ensures))) (c .checked .ensures)))

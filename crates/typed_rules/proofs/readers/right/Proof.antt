@@ -8,74 +8,34 @@ use borrow.Author.Needs.{needs}
 use Rattle.typed_rules.proofs.readers.right.Statement.{statement}
 use Rattle.typed_rules.proofs.readers.right.Tie as tie
 
-byte-at-requires : tie.Need-byte-at-requires
-byte-at-requires c κs = search needs
-
-add-side : tie.Need-add-side
-add-side c = search needs
-
-side-requires : tie.Need-side-requires
-side-requires c κs =
-    let st = c .before .before .before in
-    let b = c .before .byte-at in
-    omega (arith, byte-inside (st .args .text .now) (st .args .at) 61 (sym (b .ensures) ∙ c .if1 .taken) (omega arith))
-
-enum-known-w : tie.Need-enum-known-w
-enum-known-w c = search needs
-
-skip-requires : tie.Need-skip-requires
-skip-requires c κs =
-    let st = c .before .before .before .before .before .before .before in
-    let b = c .before .before .before .before .before .byte-at in
-    let p = reached (st .args .text .now) (suc (st .args .at + 1)) (c .before .w .given .1) (c .before .before .before .side .ensures .moved) in
-    p .high
-
-conclude-requires : tie.Need-conclude-requires
-conclude-requires c κs =
-    let st = c .before .before .before .before .before .before .before .before .before in
-    let b = c .before .before .before .before .before .before .before .byte-at in
-    let p = reached (st .args .text .now) (suc (st .args .at + 1)) (c .before .before .before .w .given .1) (c .before .before .before .before .before .side .ensures .moved) in
-    record { left = st .pre .small; right = p .small }
-
-enum-told : tie.Need-enum-told
-enum-told c = search needs
-
-returns : tie.Need-returns
-returns c =
-    let st = c .before .before .before .before .before .before .before .before .before in
-    let b = c .before .before .before .before .before .before .before .byte-at in
-    right-more (st .args .text .now) (st .args .at) (st .args .kind) (st .args .v) (b .result) (c .before .before .before .before .before .side .result) (c .before .before .before .w .given .0 .0) (c .before .before .before .w .given .0 .1 .0) (c .before .skip .result) (b .ensures) (c .before .before .before .before .before .before .if1 .taken) (c .before .before .before .w .given .1) (c .before .before .before .before .before .side .ensures) (c .before .skip .ensures) (c .if2 .taken)
-
-returns-2 : tie.Need-returns-2
-returns-2 c =
-    let st = c .before .before .before .before .before .before .before .before .before .before in
-    let b = c .before .before .before .before .before .before .before .before .byte-at in
-    right-ends (st .args .text .now) (st .args .at) (st .args .kind) (st .args .v) (b .result) (c .before .before .before .before .before .before .side .result) (c .before .before .before .before .w .given .0 .0) (c .before .before .before .before .w .given .0 .1 .0) (c .before .before .skip .result) (c .conclude .result) (b .ensures) (c .before .before .before .before .before .before .before .if1 .taken) (c .before .before .before .before .w .given .1) (c .before .before .before .before .before .before .side .ensures) (c .before .before .skip .ensures) (c .before .if2 .left) (c .conclude .ensures)
-
-returns-3 : tie.Need-returns-3
-returns-3 c =
-    let st = c .before .before .before .before .before .before in
-    let b = c .before .before .before .before .byte-at in
-    right-fails (st .args .text .now) (st .args .at) (st .args .kind) (st .args .v) (b .result) (c .before .before .side .result) (b .ensures) (c .before .before .before .if1 .taken) (c .enum-told .given .1) (c .before .before .side .ensures)
-
-returns-4 : tie.Need-returns-4
-returns-4 c =
-    let st = c .before .before .before in
-    let b = c .before .byte-at in
-    right-no (st .args .text .now) (st .args .at) (st .args .kind) (st .args .v) (b .result) (b .ensures) (c .if1 .left)
-
 pub right-spec : {M : Type 1} → statement M
 right-spec =
     tie.close
     (tie.spec
-    byte-at-requires
-    add-side
-    side-requires
-    enum-known-w
-    skip-requires
-    conclude-requires
-    enum-told
-    returns
-    returns-2
-    returns-3
-    returns-4)
+    (λ c κs. search needs)
+    (λ c. search needs)
+    (λ c κs. let st = c .before .before .before in
+    let b = c .before .byte-at in
+    omega (arith, byte-inside (st .args .text .now) (st .args .at) 61 (sym (b .ensures) ∙ c .if1 .taken) (omega arith)))
+    (λ c. search needs)
+    (λ c κs. let st = c .before .before .before .before .before .before .before in
+    let b = c .before .before .before .before .before .byte-at in
+    let p = reached (st .args .text .now) (suc (st .args .at + 1)) (c .before .w .given .1) (c .before .before .before .side .ensures .moved) in
+    p .high)
+    (λ c κs. let st = c .before .before .before .before .before .before .before .before .before in
+    let b = c .before .before .before .before .before .before .before .byte-at in
+    let p = reached (st .args .text .now) (suc (st .args .at + 1)) (c .before .before .before .w .given .1) (c .before .before .before .before .before .side .ensures .moved) in
+    record { left = st .pre .small; right = p .small })
+    (λ c. search needs)
+    (λ c. let st = c .before .before .before .before .before .before .before .before .before in
+    let b = c .before .before .before .before .before .before .before .byte-at in
+    right-more (st .args .text .now) (st .args .at) (st .args .kind) (st .args .v) (b .result) (c .before .before .before .before .before .side .result) (c .before .before .before .w .given .0 .0) (c .before .before .before .w .given .0 .1 .0) (c .before .skip .result) (b .ensures) (c .before .before .before .before .before .before .if1 .taken) (c .before .before .before .w .given .1) (c .before .before .before .before .before .side .ensures) (c .before .skip .ensures) (c .if2 .taken))
+    (λ c. let st = c .before .before .before .before .before .before .before .before .before .before in
+    let b = c .before .before .before .before .before .before .before .before .byte-at in
+    right-ends (st .args .text .now) (st .args .at) (st .args .kind) (st .args .v) (b .result) (c .before .before .before .before .before .before .side .result) (c .before .before .before .before .w .given .0 .0) (c .before .before .before .before .w .given .0 .1 .0) (c .before .before .skip .result) (c .conclude .result) (b .ensures) (c .before .before .before .before .before .before .before .if1 .taken) (c .before .before .before .before .w .given .1) (c .before .before .before .before .before .before .side .ensures) (c .before .before .skip .ensures) (c .before .if2 .left) (c .conclude .ensures))
+    (λ c. let st = c .before .before .before .before .before .before in
+    let b = c .before .before .before .before .byte-at in
+    right-fails (st .args .text .now) (st .args .at) (st .args .kind) (st .args .v) (b .result) (c .before .before .side .result) (b .ensures) (c .before .before .before .if1 .taken) (c .enum-told .given .1) (c .before .before .side .ensures))
+    (λ c. let st = c .before .before .before in
+    let b = c .before .byte-at in
+    right-no (st .args .text .now) (st .args .at) (st .args .kind) (st .args .v) (b .result) (b .ensures) (c .if1 .left)))
