@@ -32,6 +32,11 @@ placed text low Fail m = tt
 pub reached : (text : List ℕ) (low : ℕ) {r : Step} {v : Value} {n : ℕ} → r ≡ Got v n → Moved text low r → Reached text low v n
 reached text low e m = subst (Moved text low) e m
 
+pub follows : (text : List ℕ) (low : ℕ) {r : Step} {v : Value} {n : ℕ} → r ≡ Got v n → Moved text low r → Follows text n v
+follows text low e m =
+    let p = reached text low e m in
+    record { high = p .high; small = p .small }
+
 -- ---- fuel
 
 lower : (l at n m : ℕ) → at < n → n ≤ l → m ≤ 2 → 3 * (l - n) + m < 3 * (l - at) + 0
@@ -57,7 +62,7 @@ call-next {text} {at} {l} m x e b h = (omega (arith, lower (length text) at (l .
 pub call-first : (text : List ℕ) (at m : ℕ) {s : Step} {v : Value} {n t : ℕ} → s ≡ Got v n → Moved text (suc at) s → Left text at m ≡ t → (Left text n 0 < t) × Follows text n v
 call-first text at m {n = n} e w h =
     let p = reached text (suc at) e w in
-    (omega (arith, lower (length text) at n 0 (p .low) (p .high) (omega arith)), record { high = p .high; small = p .small })
+    (omega (arith, lower (length text) at n 0 (p .low) (p .high) (omega arith)), follows text (suc at) e w)
 
 -- after the next byte and an item, with the value of both
 pub call-more : {text : List ℕ} {at : ℕ} {l : Lexed} {s : Step} {v u : Value} {n t : ℕ} → Lexes text at l → s ≡ Got v n → Moved text (suc (l .next)) s → Left text at 0 ≡ t → 0 < l .byte → Small u → (Left text n 0 < t) × Follows text n u

@@ -7,7 +7,7 @@ use native.Mathlib.Omega.{arith}
 use lib.Dec.{eqb}
 use lib.IntN.{pos}
 use lib.ListN.{length, drop}
-use borrow.Author.Tests.{le-leb, lt-leb, ne-eqb}
+use borrow.Author.Tests.{le-leb, lt-leb}
 use Rattle.ints.proofs.Machine.{within-numeral}
 use Rattle.typed_rules.specs.declared.Value.{Value}
 use Rattle.typed_rules.specs.declared.Value.the-variants.{Linear, Beyond}
@@ -26,9 +26,9 @@ use Rattle.typed_rules.proofs.Steps.{factor-digit, factor-x, factor-y, 
 
 -- ---- numbers
 
-pub number-yes : (text : List ℕ) (at : ℕ) (l : Digits) (w : Value) → Runs text at l → l .end - at ≤ 10 → Valued (numeral (l .number)) w → ReadsNumber text at (Got w (l .end))
+pub number-yes : {text : List ℕ} {at : ℕ} {l : Digits} {w : Value} → Runs text at l → l .end - at ≤ 10 → Valued (numeral (l .number)) w → ReadsNumber text at (Got w (l .end))
 unfolding valueFactor
-number-yes text at l w d h v =
+number-yes {text} {at} {l} {w} d h v =
     record {
       same = λ i.
           ap (λ (t : Bool). valued valueFactor (pickParsed t (got (number i (run (drop at text))) (past (drop at text))) fail)) (le-leb (length (run (drop at text))) 10 (omega (arith, d .count)))
@@ -37,8 +37,8 @@ number-yes text at l w d h v =
       moved = record { small = v .small; low = omega (arith, d .count); high = d .high };
     }
 
-pub number-no : (text : List ℕ) (at : ℕ) (l : Digits) → Runs text at l → 10 < l .end - at → ReadsNumber text at Fail
-number-no text at l d h =
+pub number-no : {text : List ℕ} {at : ℕ} {l : Digits} → Runs text at l → 10 < l .end - at → ReadsNumber text at Fail
+number-no {text} {at} {l} d h =
     record {
       same = λ i. ap (λ (t : Bool). valued valueFactor (pickParsed t (got (number i (run (drop at text))) (past (drop at text))) fail)) (lt-leb (length (run (drop at text))) 10 (omega (arith, d .count)));
       moved = tt;
@@ -46,24 +46,24 @@ number-no text at l d h =
 
 -- ---- the parenthesis after a side
 
-pub closed-yes : (text : List ℕ) (s : Step) (v : Value) (n : ℕ) (l : Lexed) → s ≡ Got v n → Lexes text n l → l .byte ≡ 41 → Closes text s (Got v (l .next))
-closed-yes text s v n l e x b =
+pub closed-yes : {text : List ℕ} {s : Step} {v : Value} {n : ℕ} {l : Lexed} → s ≡ Got v n → Lexes text n l → l .byte ≡ 41 → Closes text s (Got v (l .next))
+closed-yes {v = v} e x b =
     rw e
     (record {
       same = rw (sym (x .same) ∙ b) (ap (got v) (sym (x .goes-on)));
       onward = (refl, x .falls (omega (arith, b)), x .high);
     })
 
-pub closed-no : (text : List ℕ) (s : Step) (v : Value) (n : ℕ) (l : Lexed) → s ≡ Got v n → Lexes text n l → (l .byte ≡ 41 → ⊥) → Closes text s Fail
-closed-no text s v n l e x b =
+pub closed-no : {text : List ℕ} {s : Step} {v : Value} {n : ℕ} {l : Lexed} → s ≡ Got v n → Lexes text n l → (l .byte ≡ 41 → ⊥) → Closes text s Fail
+closed-no {text} {v = v} {n = n} e x b =
     rw e
     (record {
-      same = ap (λ (t : Bool). pickParsed t (got v (beyond (drop n text))) fail) (ap (λ (y : ℕ). eqb y 41) (sym (x .same)) ∙ ne-eqb (l .byte) 41 b);
+      same = ap (λ (t : Bool). pickParsed t (got v (beyond (drop n text))) fail) (other x 41 b);
       onward = tt;
     })
 
-pub closed-fail : (text : List ℕ) (s : Step) → s ≡ Fail → Closes text s Fail
-closed-fail text s e = rw e (record { same = refl; onward = tt })
+pub closed-fail : {text : List ℕ} {s : Step} → s ≡ Fail → Closes text s Fail
+closed-fail e = rw e (record { same = refl; onward = tt })
 
 -- ---- factors
 

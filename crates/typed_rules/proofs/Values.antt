@@ -31,23 +31,23 @@ inside-read n z f e = e ∙ ap (inside n) (toZ-ofZ {w = w64} f)
 small-fits : {z : ℤ} → Within limit z → SFits w64 z
 small-fits h = within-fits h tt
 
-pub add-is : {y z : ℤ} (r : ℤ) → Within limit y → Within limit z → r ≡ read y +ℤ read z → read r ≡ y +ℤ z
-add-is {y} {z} r h k e =
+pub add-is : {y z r : ℤ} → Within limit y → Within limit z → r ≡ read y +ℤ read z → read r ≡ y +ℤ z
+add-is {y} {z} {r} h k e =
     let g : r ≡ y +ℤ z = e ∙ ap (λ (t : ℤ). t +ℤ read z) (toZ-ofZ {w = w64} (small-fits h)) ∙ ap (λ (t : ℤ). y +ℤ t) (toZ-ofZ {w = w64} (small-fits k)) in
     ap read g ∙ toZ-ofZ {w = w64} (within-fits (within-add h k) tt)
 
-pub sub-is : {y z : ℤ} (r : ℤ) → Within limit y → Within limit z → r ≡ read y -ℤ read z → read r ≡ y -ℤ z
-sub-is {y} {z} r h k e =
+pub sub-is : {y z r : ℤ} → Within limit y → Within limit z → r ≡ read y -ℤ read z → read r ≡ y -ℤ z
+sub-is {y} {z} {r} h k e =
     let g : r ≡ y -ℤ z = e ∙ ap (λ (t : ℤ). t -ℤ read z) (toZ-ofZ {w = w64} (small-fits h)) ∙ ap (λ (t : ℤ). y -ℤ t) (toZ-ofZ {w = w64} (small-fits k)) in
     ap read g ∙ toZ-ofZ {w = w64} (within-fits (within-sub h k) tt)
 
-pub mul-is : {y z : ℤ} (r : ℤ) → Within limit y → Within limit z → r ≡ read y *ℤ read z → read r ≡ y *ℤ z
-mul-is {y} {z} r h k e =
+pub mul-is : {y z r : ℤ} → Within limit y → Within limit z → r ≡ read y *ℤ read z → read r ≡ y *ℤ z
+mul-is {y} {z} {r} h k e =
     let g : r ≡ y *ℤ z = e ∙ ap (λ (t : ℤ). t *ℤ read z) (toZ-ofZ {w = w64} (small-fits h)) ∙ ap (λ (t : ℤ). y *ℤ t) (toZ-ofZ {w = w64} (small-fits k)) in
     ap read g ∙ toZ-ofZ {w = w64} (within-fits (within-mul h k) tt)
 
-pub cross-is : {p q s t : ℤ} (r : ℤ) → Within limit p → Within limit q → Within limit s → Within limit t → r ≡ read p *ℤ read q +ℤ read s *ℤ read t → read r ≡ p *ℤ q +ℤ s *ℤ t
-cross-is {p} {q} {s} {t} r hp hq hs ht e =
+pub cross-is : {p q s t r : ℤ} → Within limit p → Within limit q → Within limit s → Within limit t → r ≡ read p *ℤ read q +ℤ read s *ℤ read t → read r ≡ p *ℤ q +ℤ s *ℤ t
+cross-is {p} {q} {s} {t} {r} hp hq hs ht e =
     let g : r ≡ p *ℤ q +ℤ s *ℤ t =
     e ∙ ap (λ (z : ℤ). z *ℤ read q +ℤ read s *ℤ read t) (toZ-ofZ {w = w64} (small-fits hp))
     ∙ ap (λ (z : ℤ). p *ℤ z +ℤ read s *ℤ read t) (toZ-ofZ {w = w64} (small-fits hq))
@@ -58,8 +58,8 @@ cross-is {p} {q} {s} {t} r hp hq hs ht e =
 pub within-opposite : {z : ℤ} → Within limit z → Within limit (pos 0 -ℤ z)
 within-opposite {z} h = subst (λ (y : ℤ). Within limit y) (sym (+ℤ-idl (negℤ z))) (within-neg h)
 
-pub opposite-is : {z : ℤ} (r : ℤ) → Within limit z → r ≡ pos 0 -ℤ read z → read r ≡ pos 0 -ℤ z
-opposite-is {z} r h e =
+pub opposite-is : {z r : ℤ} → Within limit z → r ≡ pos 0 -ℤ read z → read r ≡ pos 0 -ℤ z
+opposite-is {z} {r} h e =
     let g : r ≡ pos 0 -ℤ z = e ∙ ap (λ (t : ℤ). pos 0 -ℤ t) (toZ-ofZ {w = w64} (small-fits h)) in
     ap read g ∙ toZ-ofZ {w = w64} (small-fits (within-opposite h))
 

@@ -12,4 +12,4 @@ added-spec =
     (λ c κs. search needs)
     (λ c κs. search needs)
     (λ c κs. search needs)
-    (λ c. let pre = c .before .before .before .before .before .before .before .before .before .before .pre in checked-form (form-is (add-is (c .before .before .before .before .before .before .before .add .result) (pre .left .a) (pre .right .a) (c .before .before .before .before .before .before .before .add .ensures)) (add-is (c .before .before .before .before .add2 .result) (pre .left .b) (pre .right .b) (c .before .before .before .before .add2 .ensures)) (add-is (c .before .add3 .result) (pre .left .c) (pre .right .c) (c .before .add3 .ensures))) (c .checked .ensures)))
+    (λ c. let pre = c .before .before .before .before .before .before .before .before .before .before .pre in checked-form (form-is (add-is (pre .left .a) (pre .right .a) (c .before .before .before .before .before .before .before .add .ensures)) (add-is (pre .left .b) (pre .right .b) (c .before .before .before .before .add2 .ensures)) (add-is (pre .left .c) (pre .right .c) (c .before .add3 .ensures))) (c .checked .ensures)))

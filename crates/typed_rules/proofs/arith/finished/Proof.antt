@@ -14,4 +14,4 @@ finished-spec =
     (λ c κs. search needs)
     (λ c κs. search needs)
     (λ c κs. search needs)
-    (λ c. let pre = c .before .before .before .before .before .before .before .before .before .before .pre in c .last .ensures ∙ ap final (written-is (c .before .before .before .before .before .before .before .before .before .before .args .kind) (sub-is (c .before .before .before .before .before .before .before .sub .result) (pre .left .a) (pre .right .a) (c .before .before .before .before .before .before .before .sub .ensures)) (sub-is (c .before .before .before .before .sub2 .result) (pre .left .b) (pre .right .b) (c .before .before .before .before .sub2 .ensures)) (sub-is (c .before .sub3 .result) (pre .right .c) (pre .left .c) (c .before .sub3 .ensures)))))
+    (λ c. let pre = c .before .before .before .before .before .before .before .before .before .before .pre in c .last .ensures ∙ ap final (written-is (c .before .before .before .before .before .before .before .before .before .before .args .kind) (sub-is (pre .left .a) (pre .right .a) (c .before .before .before .before .before .before .before .sub .ensures)) (sub-is (pre .left .b) (pre .right .b) (c .before .before .before .before .sub2 .ensures)) (sub-is (pre .right .c) (pre .left .c) (c .before .sub3 .ensures)))))

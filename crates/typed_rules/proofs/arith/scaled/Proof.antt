@@ -12,4 +12,4 @@ scaled-spec =
     (λ c κs. search needs)
     (λ c κs. search needs)
     (λ c κs. search needs)
-    (λ c. let pre = c .before .before .before .before .before .before .before .before .before .before .before .before .before .before .pre in checked-form (form-is (cross-is (c .before .before .before .before .before .before .before .before .before .cross .result) (pre .left .a) (pre .right .c) (pre .left .c) (pre .right .a) (c .before .before .before .before .before .before .before .before .before .cross .ensures)) (cross-is (c .before .before .before .before .cross2 .result) (pre .left .b) (pre .right .c) (pre .left .c) (pre .right .b) (c .before .before .before .before .cross2 .ensures)) (mul-is (c .before .mul .result) (pre .left .c) (pre .right .c) (c .before .mul .ensures))) (c .checked .ensures)))
+    (λ c. let pre = c .before .before .before .before .before .before .before .before .before .before .before .before .before .before .pre in checked-form (form-is (cross-is (pre .left .a) (pre .right .c) (pre .left .c) (pre .right .a) (c .before .before .before .before .before .before .before .before .before .cross .ensures)) (cross-is (pre .left .b) (pre .right .c) (pre .left .c) (pre .right .b) (c .before .before .before .before .cross2 .ensures)) (mul-is (pre .left .c) (pre .right .c) (c .before .mul .ensures))) (c .checked .ensures)))

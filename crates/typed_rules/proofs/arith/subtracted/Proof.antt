@@ -12,4 +12,4 @@ subtracted-spec =
     (λ c κs. search needs)
     (λ c κs. search needs)
     (λ c κs. search needs)
-    (λ c. let pre = c .before .before .before .before .before .before .before .before .before .before .pre in checked-form (form-is (sub-is (c .before .before .before .before .before .before .before .sub .result) (pre .left .a) (pre .right .a) (c .before .before .before .before .before .before .before .sub .ensures)) (sub-is (c .before .before .before .before .sub2 .result) (pre .left .b) (pre .right .b) (c .before .before .before .before .sub2 .ensures)) (sub-is (c .before .sub3 .result) (pre .left .c) (pre .right .c) (c .before .sub3 .ensures))) (c .checked .ensures)))
+    (λ c. let pre = c .before .before .before .before .before .before .before .before .before .before .pre in checked-form (form-is (sub-is (pre .left .a) (pre .right .a) (c .before .before .before .before .before .before .before .sub .ensures)) (sub-is (pre .left .b) (pre .right .b) (c .before .before .before .before .sub2 .ensures)) (sub-is (pre .left .c) (pre .right .c) (c .before .sub3 .ensures))) (c .checked .ensures)))

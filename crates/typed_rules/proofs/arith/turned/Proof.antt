@@ -11,4 +11,4 @@ turned-spec =
     (λ c κs. search needs)
     (λ c κs. search needs)
     (λ c κs. search needs)
-    (λ c. let pre = c .before .before .before .before .before .before .pre in form-is (opposite-is (c .before .before .before .before .opposite .result) (pre .a) (c .before .before .before .before .opposite .ensures)) (opposite-is (c .before .before .opposite2 .result) (pre .b) (c .before .before .opposite2 .ensures)) (opposite-is (c .opposite3 .result) (pre .c) (c .opposite3 .ensures))))
+    (λ c. let pre = c .before .before .before .before .before .before .pre in form-is (opposite-is (pre .a) (c .before .before .before .before .opposite .ensures)) (opposite-is (pre .b) (c .before .before .opposite2 .ensures)) (opposite-is (pre .c) (c .opposite3 .ensures))))

@@ -11,5 +11,5 @@ number-spec =
     (λ c κs. search needs)
     (λ c. search needs)
     (λ c κs. search needs)
-    (λ c. number-yes _ (c .before .before .before .before .args .at) (c .before .before .digits .result) (c .numeral .result) (c .before .before .digits .ensures) (c .before .if1 .taken) (c .numeral .ensures))
-    (λ c. number-no _ (c .before .before .before .args .at) (c .before .digits .result) (c .before .digits .ensures) (c .if1 .left)))
+    (λ c. number-yes (c .before .before .digits .ensures) (c .before .if1 .taken) (c .numeral .ensures))
+    (λ c. number-no (c .before .digits .ensures) (c .if1 .left)))

@@ -1,5 +1,5 @@
 -- `typed_rules::readers::read_text` meets its contract: a whole text of any length.
-use Rattle.typed_rules.proofs.Places.{reached}
+use Rattle.typed_rules.proofs.Places.{follows}
 use Rattle.typed_rules.proofs.Whole.{text-got, text-fails}
 use borrow.Author.Needs.{needs}
 use Rattle.typed_rules.proofs.readers.read_text.Statement.{statement}
@@ -11,8 +11,7 @@ read-text-spec =
     (tie.spec
     (λ c κs. search needs)
     (λ c. search needs)
-    (λ c κs. let p = reached (c .before .before .before .before .before .args .text .now) (1) (c .before .v .given .1) (c .before .before .before .side .ensures .moved) in
-    record { high = p .high; small = p .small })
+    (λ c κs. follows (c .before .before .before .before .before .args .text .now) 1 (c .before .v .given .1) (c .before .before .before .side .ensures .moved))
     (λ c. search needs)
-    (λ c. text-got (c .before .before .before .before .before .before .args .text .now) (c .before .before .before .before .side .result) (c .before .before .v .given .0 .0) (c .before .before .v .given .0 .1 .0) (c .relation .result) (c .before .before .v .given .1) (c .before .before .before .before .side .ensures) (c .relation .ensures))
-    (λ c. text-fails (c .before .before .before .before .args .text .now) (c .before .before .side .result) (c .enum-told .given .1) (c .before .before .side .ensures)))
+    (λ c. text-got (c .before .before .v .given .1) (c .before .before .before .before .side .ensures) (c .relation .ensures))
+    (λ c. text-fails (c .enum-told .given .1) (c .before .before .side .ensures)))

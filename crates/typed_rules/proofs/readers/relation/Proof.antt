@@ -11,12 +11,6 @@ relation-spec =
     (λ c κs. search needs)
     (λ c κs. search needs)
     (λ c κs. search needs)
-    (λ c. let st = c .before .before .before .before .before in
-    let l = c .before .before .before .lex in
-    judges-most (st .args .text .now) (st .args .at) (st .args .v) (l .result) (l .ensures) (c .right .result) (c .before .if1 .taken) (c .right .ensures))
-    (λ c. let st = c .before .before .before .before .before .before .before in
-    let l = c .before .before .before .before .before .lex in
-    judges-least (st .args .text .now) (st .args .at) (st .args .v) (l .result) (l .ensures) (c .right2 .result) (c .before .if2 .taken) (c .right2 .ensures))
-    (λ c. let st = c .before .before .before .before .before .before in
-    let l = c .before .before .before .before .lex in
-    judges-other (st .args .text .now) (st .args .at) (st .args .v) (l .result) (l .ensures) (c .before .before .if1 .left) (c .if2 .left)))
+    (λ c. judges-most (c .before .before .before .lex .ensures) (c .before .if1 .taken) (c .right .ensures))
+    (λ c. judges-least (c .before .before .before .before .before .lex .ensures) (c .before .if2 .taken) (c .right2 .ensures))
+    (λ c. judges-other (c .before .before .before .before .lex .ensures) (c .before .before .if1 .left) (c .if2 .left)))
