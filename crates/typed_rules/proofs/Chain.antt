@@ -68,16 +68,7 @@ one-factor = record { few = omega arith; lawful = λ a d l. l; spelt = λ a r. r
 
 pub by-star : Joins terms 42 times product
 unfolding spellFactor LawfulFactor valueFactor
-by-star =
-    record {
-      few = omega arith;
-      some = omega arith;
-      no-space = refl;
-      lawful = λ b i a d l m. (l, m);
-      spelt = λ b i a r. refl;
-      worth = λ b i a. refl;
-      step = factors-star;
-    }
+by-star = record { few = omega arith; some = omega arith; no-space = refl; lawful = λ b i a d l m. (l, m); spelt = λ b i a r. refl; worth = λ b i a. refl; step = factors-star }
 
 -- ---- terms in a side
 
@@ -103,26 +94,8 @@ one-term = record { few = omega arith; lawful = λ a d l. l; spelt = λ a r. ref
 
 pub by-plus : Joins sides 43 plus sum
 unfolding spellFactor LawfulFactor valueFactor
-by-plus =
-    record {
-      few = omega arith;
-      some = omega arith;
-      no-space = refl;
-      lawful = λ b i a d l m. (l, m);
-      spelt = λ b i a r. refl;
-      worth = λ b i a. refl;
-      step = terms-plus;
-    }
+by-plus = record { few = omega arith; some = omega arith; no-space = refl; lawful = λ b i a d l m. (l, m); spelt = λ b i a r. refl; worth = λ b i a. refl; step = terms-plus }
 
 pub by-minus : Joins sides 45 less difference
 unfolding spellFactor LawfulFactor valueFactor
-by-minus =
-    record {
-      few = omega arith;
-      some = omega arith;
-      no-space = refl;
-      lawful = λ b i a d l m. (l, m);
-      spelt = λ b i a r. refl;
-      worth = λ b i a. refl;
-      step = terms-less;
-    }
+by-minus = record { few = omega arith; some = omega arith; no-space = refl; lawful = λ b i a d l m. (l, m); spelt = λ b i a r. refl; worth = λ b i a. refl; step = terms-less }

@@ -31,20 +31,20 @@ inside-read n z f e = e ∙ ap (inside n) (toZ-ofZ {w = w64} f)
 small-fits : {z : ℤ} → Within limit z → SFits w64 z
 small-fits h = within-fits h tt
 
+-- an operation on numbers that were read back
+two-is : (op : ℤ → ℤ → ℤ) {y z r : ℤ} → Within limit y → Within limit z → SFits w64 (op y z) → r ≡ op (read y) (read z) → read r ≡ op y z
+two-is op {y} {z} {r} h k f e =
+    let g : r ≡ op y z = e ∙ ap (λ (t : ℤ). op t (read z)) (toZ-ofZ {w = w64} (small-fits h)) ∙ ap (op y) (toZ-ofZ {w = w64} (small-fits k)) in
+    ap read g ∙ toZ-ofZ {w = w64} f
+
 pub add-is : {y z r : ℤ} → Within limit y → Within limit z → r ≡ read y +ℤ read z → read r ≡ y +ℤ z
-add-is {y} {z} {r} h k e =
-    let g : r ≡ y +ℤ z = e ∙ ap (λ (t : ℤ). t +ℤ read z) (toZ-ofZ {w = w64} (small-fits h)) ∙ ap (λ (t : ℤ). y +ℤ t) (toZ-ofZ {w = w64} (small-fits k)) in
-    ap read g ∙ toZ-ofZ {w = w64} (within-fits (within-add h k) tt)
+add-is h k e = two-is _+ℤ_ h k (within-fits (within-add h k) tt) e
 
 pub sub-is : {y z r : ℤ} → Within limit y → Within limit z → r ≡ read y -ℤ read z → read r ≡ y -ℤ z
-sub-is {y} {z} {r} h k e =
-    let g : r ≡ y -ℤ z = e ∙ ap (λ (t : ℤ). t -ℤ read z) (toZ-ofZ {w = w64} (small-fits h)) ∙ ap (λ (t : ℤ). y -ℤ t) (toZ-ofZ {w = w64} (small-fits k)) in
-    ap read g ∙ toZ-ofZ {w = w64} (within-fits (within-sub h k) tt)
+sub-is h k e = two-is _-ℤ_ h k (within-fits (within-sub h k) tt) e
 
 pub mul-is : {y z r : ℤ} → Within limit y → Within limit z → r ≡ read y *ℤ read z → read r ≡ y *ℤ z
-mul-is {y} {z} {r} h k e =
-    let g : r ≡ y *ℤ z = e ∙ ap (λ (t : ℤ). t *ℤ read z) (toZ-ofZ {w = w64} (small-fits h)) ∙ ap (λ (t : ℤ). y *ℤ t) (toZ-ofZ {w = w64} (small-fits k)) in
-    ap read g ∙ toZ-ofZ {w = w64} (within-fits (within-mul h k) tt)
+mul-is h k e = two-is _*ℤ_ h k (within-fits (within-mul h k) tt) e
 
 pub cross-is : {p q s t r : ℤ} → Within limit p → Within limit q → Within limit s → Within limit t → r ≡ read p *ℤ read q +ℤ read s *ℤ read t → read r ≡ p *ℤ q +ℤ s *ℤ t
 cross-is {p} {q} {s} {t} {r} hp hq hs ht e =

@@ -9,7 +9,6 @@ pub read-rule-spec : {M : Type 1} → statement M
 unfolding answer
 read-rule-spec =
     tie.close
-    (tie.spec
-    (λ c κs. search needs)
+    (tie.spec (λ c κs. search needs)
     (λ c. rw (le-leb _ 120 (c .before .if1 .taken)) (c .read-text .ensures))
     (λ c. rw (lt-leb _ 120 (c .if1 .left))))

@@ -4,8 +4,4 @@ use Rattle.typed_rules.proofs.arith.add.Statement.{statement}
 use Rattle.typed_rules.proofs.arith.add.Tie as tie
 
 pub add-spec : {M : Type 1} → statement M
-add-spec =
-    tie.close
-    (tie.spec
-    (λ c. search sizes depth 8)
-    (λ c. search sizes depth 8))
+add-spec = tie.close (tie.spec (λ c. search sizes depth 8) (λ c. search sizes depth 8))

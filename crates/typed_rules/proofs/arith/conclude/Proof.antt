@@ -9,11 +9,7 @@ pub conclude-spec : {M : Type 1} → statement M
 unfolding conclude
 conclude-spec =
     tie.close
-    (tie.spec
-    (λ c. search needs)
-    (λ c. search needs)
-    (λ c. search needs)
-    (λ c. search needs)
+    (tie.spec (λ c. search needs) (λ c. search needs) (λ c. search needs) (λ c. search needs)
     (λ c κs. small-forms (c .before .before .before .before .before .before .pre) (c .before .before .before .before .v2 .given .1) (c .before .w2 .given .1))
     (λ c. rw (c .before .v .given .1))
     (λ c. rw (c .before .before .before .before .v2 .given .1, c .before .w .given .1))

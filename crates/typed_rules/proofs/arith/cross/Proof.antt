@@ -4,10 +4,4 @@ use Rattle.typed_rules.proofs.arith.cross.Statement.{statement}
 use Rattle.typed_rules.proofs.arith.cross.Tie as tie
 
 pub cross-spec : {M : Type 1} → statement M
-cross-spec =
-    tie.close
-    (tie.spec
-    (λ c. search sizes depth 8)
-    (λ c. search sizes depth 8)
-    (λ c. search sizes depth 8)
-    (λ c. search sizes depth 8))
+cross-spec = tie.close (tie.spec (λ c. search sizes depth 8) (λ c. search sizes depth 8) (λ c. search sizes depth 8) (λ c. search sizes depth 8))

@@ -9,7 +9,6 @@ pub last-spec : {M : Type 1} → statement M
 unfolding final
 last-spec =
     tie.close
-    (tie.spec
-    (λ c κs. search needs)
+    (tie.spec (λ c κs. search needs)
     (λ c. rw (sym (c .before .in-range .ensures) ∙ c .if1 .taken))
     (λ c. rw (sym (c .before .in-range .ensures) ∙ c .if1 .left)))

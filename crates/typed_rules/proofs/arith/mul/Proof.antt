@@ -4,8 +4,4 @@ use Rattle.typed_rules.proofs.arith.mul.Statement.{statement}
 use Rattle.typed_rules.proofs.arith.mul.Tie as tie
 
 pub mul-spec : {M : Type 1} → statement M
-mul-spec =
-    tie.close
-    (tie.spec
-    (λ c. search sizes depth 8)
-    (λ c. search sizes depth 8))
+mul-spec = tie.close (tie.spec (λ c. search sizes depth 8) (λ c. search sizes depth 8))

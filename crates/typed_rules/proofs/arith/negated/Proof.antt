@@ -11,8 +11,7 @@ pub negated-spec : {M : Type 1} → statement M
 unfolding negated
 negated-spec =
     tie.close
-    (tie.spec
-    (λ c. search needs)
+    (tie.spec (λ c. search needs)
     (λ c κs. small-form (c .before .before .before .pre) (c .before .v .given .1))
     (λ c. search needs)
     (λ c. record { same = rw (c .before .before .v .given .1) (ap Linear (c .turned .ensures)); small = turned-small (small-form (c .before .before .before .before .pre) (c .before .before .v .given .1)) (c .turned .ensures) })

@@ -13,7 +13,6 @@ pub numeral-spec : {M : Type 1} → statement M
 unfolding numeral
 numeral-spec =
     tie.close
-    (tie.spec
-    (λ c. search needs)
+    (tie.spec (λ c. search needs)
     (λ c. numeral-yes (c .before .args .n) _ (c .if1 .taken) (toZ-pos w64 (omega arith)))
     (λ c. record { same = rw (lt-leb _ _ (c .if1 .left)); small = tt }))

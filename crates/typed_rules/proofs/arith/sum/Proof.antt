@@ -9,11 +9,7 @@ pub sum-spec : {M : Type 1} → statement M
 unfolding sum
 sum-spec =
     tie.close
-    (tie.spec
-    (λ c. search needs)
-    (λ c. search needs)
-    (λ c. search needs)
-    (λ c. search needs)
+    (tie.spec (λ c. search needs) (λ c. search needs) (λ c. search needs) (λ c. search needs)
     (λ c κs. small-forms (c .before .before .before .before .before .before .pre) (c .before .before .before .before .v2 .given .1) (c .before .w2 .given .1))
     (λ c. left-refused (λ f g. checked (addForms f g)) (c .before .before .before .args .v) (c .before .before .before .args .w) (c .before .v .given .1))
     (λ c. right-refused (λ f g. checked (addForms f g)) (c .before .before .before .before .before .before .args .v) (c .before .before .before .before .before .before .args .w) (c .before .before .before .before .v2 .given .1) (c .before .w .given .1))

@@ -7,8 +7,5 @@ use Rattle.typed_rules.proofs.arith.turned.Tie as tie
 pub turned-spec : {M : Type 1} → statement M
 turned-spec =
     tie.close
-    (tie.spec
-    (λ c κs. search needs)
-    (λ c κs. search needs)
-    (λ c κs. search needs)
+    (tie.spec (λ c κs. search needs) (λ c κs. search needs) (λ c κs. search needs)
     (λ c. let pre = c .before .before .before .before .before .before .pre in form-is (opposite-is (pre .a) (c .before .before .before .before .opposite .ensures)) (opposite-is (pre .b) (c .before .before .opposite2 .ensures)) (opposite-is (pre .c) (c .opposite3 .ensures))))

@@ -7,9 +7,6 @@ use Rattle.typed_rules.proofs.readers.number.Tie as tie
 pub number-spec : {M : Type 1} → statement M
 number-spec =
     tie.close
-    (tie.spec
-    (λ c κs. search needs)
-    (λ c. search needs)
-    (λ c κs. search needs)
+    (tie.spec (λ c κs. search needs) (λ c. search needs) (λ c κs. search needs)
     (λ c. number-yes (c .before .before .digits .ensures) (c .before .if1 .taken) (c .numeral .ensures))
     (λ c. number-no (c .before .digits .ensures) (c .if1 .left)))

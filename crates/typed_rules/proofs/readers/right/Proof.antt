@@ -11,9 +11,7 @@ use Rattle.typed_rules.proofs.readers.right.Tie as tie
 pub right-spec : {M : Type 1} → statement M
 right-spec =
     tie.close
-    (tie.spec
-    (λ c κs. search needs)
-    (λ c. search needs)
+    (tie.spec (λ c κs. search needs) (λ c. search needs)
     (λ c κs. omega (arith, byte-inside (c .before .before .before .args .text .now) (c .before .before .before .args .at) 61 (sym (c .before .byte-at .ensures) ∙ c .if1 .taken) (omega arith)))
     (λ c. search needs)
     (λ c κs. follows (c .before .before .before .before .before .before .before .args .text .now) (suc (c .before .before .before .before .before .before .before .args .at + 1)) (c .before .w .given .1) (c .before .before .before .side .ensures .moved) .high)

@@ -10,8 +10,7 @@ use Rattle.typed_rules.proofs.readers.turned.Tie as tie
 pub turned-spec : {M : Type 1} → statement M
 turned-spec =
     tie.close
-    (tie.spec
-    (λ c. search needs)
+    (tie.spec (λ c. search needs)
     (λ c κs. subst SmallStep (c .before .s .given .1) (c .before .before .before .pre))
     (λ c. search needs)
     (λ c. rw (c .before .before .s .given .1) (ap (λ (v : Value). Got v (c .before .before .s .given .0 .1 .0)) (c .negated .ensures .same)))
