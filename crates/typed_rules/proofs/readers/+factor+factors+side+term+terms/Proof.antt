@@ -11,6 +11,8 @@ use Rattle.typed_rules.proofs.Chain.{by-plus, by-minus}
 use Rattle.typed_rules.proofs.Places.{small-step, placed, call-same, call-next, call-first, call-more, call-both}
 use Rattle.typed_rules.proofs.Reading.{reads-number, reads-x, reads-y, reads-minus, reads-deep, reads-group, reads-other}
 use Rattle.typed_rules.proofs.Following.{reads-term, term-fails, reads-side, side-fails, reads-times, times-fails, factors-stop, reads-joined, joined-fails, terms-stop}
+use mathlib.Core.List.{List}
+use borrow.Fn.Kind.{PK}
 use borrow.Fn.Kinds.{In}
 use borrow.Fn.PlainCycle.{Measures, is, falls, and}
 use Rattle.typed_rules.proofs.readers.factor.Reads as factor
@@ -54,35 +56,27 @@ abbrev μ-term : Measures 1 term-kinds.ps ℕ
 abbrev μ-terms : Measures 1 terms-kinds.ps ℕ
 μ-terms κs a = 3 * (length (a .0 .now) - a .1 .0) + 0
 
-abbrev factor-at : ℕ → In 1 factor-kinds.ps
-factor-at t = and 1 factor-kinds.ps (is 1 factor-kinds.ps μ-factor t) factor.Pre
+-- what a member is given at the measure t, and what a call of it asks below t
+abbrev at : (ps : List (PK 1)) → Measures 1 ps ℕ → In 1 ps → ℕ → In 1 ps
+at ps μ P t = and 1 ps (is 1 ps μ t) P
+
+abbrev below : (ps : List (PK 1)) → Measures 1 ps ℕ → In 1 ps → ℕ → In 1 ps
+below ps μ P t = and 1 ps (falls 1 ps _<_ μ t) P
 
 abbrev factor-below : ℕ → In 1 factor-kinds.ps
-factor-below t = and 1 factor-kinds.ps (falls 1 factor-kinds.ps _<_ μ-factor t) factor.Pre
-
-abbrev factors-at : ℕ → In 1 factors-kinds.ps
-factors-at t = and 1 factors-kinds.ps (is 1 factors-kinds.ps μ-factors t) factors.Pre
+factor-below t = below factor-kinds.ps μ-factor factor.Pre t
 
 abbrev factors-below : ℕ → In 1 factors-kinds.ps
-factors-below t = and 1 factors-kinds.ps (falls 1 factors-kinds.ps _<_ μ-factors t) factors.Pre
-
-abbrev side-at : ℕ → In 1 side-kinds.ps
-side-at t = and 1 side-kinds.ps (is 1 side-kinds.ps μ-side t) side.Pre
+factors-below t = below factors-kinds.ps μ-factors factors.Pre t
 
 abbrev side-below : ℕ → In 1 side-kinds.ps
-side-below t = and 1 side-kinds.ps (falls 1 side-kinds.ps _<_ μ-side t) side.Pre
-
-abbrev term-at : ℕ → In 1 term-kinds.ps
-term-at t = and 1 term-kinds.ps (is 1 term-kinds.ps μ-term t) term.Pre
+side-below t = below side-kinds.ps μ-side side.Pre t
 
 abbrev term-below : ℕ → In 1 term-kinds.ps
-term-below t = and 1 term-kinds.ps (falls 1 term-kinds.ps _<_ μ-term t) term.Pre
-
-abbrev terms-at : ℕ → In 1 terms-kinds.ps
-terms-at t = and 1 terms-kinds.ps (is 1 terms-kinds.ps μ-terms t) terms.Pre
+term-below t = below term-kinds.ps μ-term term.Pre t
 
 abbrev terms-below : ℕ → In 1 terms-kinds.ps
-terms-below t = and 1 terms-kinds.ps (falls 1 terms-kinds.ps _<_ μ-terms t) terms.Pre
+terms-below t = below terms-kinds.ps μ-terms terms.Pre t
 
 pub +factor+factors+side+term+terms-spec : {M : Type 1} → statement M
 +factor+factors+side+term+terms-spec =
@@ -90,7 +84,7 @@ pub +factor+factors+side+term+terms-spec : {M : Type 1} → statement M
     -- factor: a number, x, y, a minus, a parenthesis, or nothing of these
     (λ t. factor-lts.spec
     (lex-reads.Asked, lex-reads.Learnt, digit-reads.Asked, digit-reads.Learnt, number-reads.Asked, number-reads.Learnt, factor-below t, factor.Post, turned-reads.Asked, turned-reads.Learnt, side-below t, side.Post, closed-reads.Asked, closed-reads.Learnt)
-    (factor-at t) factor.Post
+    (at factor-kinds.ps μ-factor factor.Pre t) factor.Post
     (λ c κs. c .before .pre .1)
     (λ c κs. search needs)
     (λ c κs. omega (arith, c .before .before .lex .ensures .middle, c .before .before .lex .ensures .high))
@@ -109,7 +103,7 @@ pub +factor+factors+side+term+terms-spec : {M : Type 1} → statement M
     -- factors: a star and what follows, or the end
     (λ t. factors-lts.spec
     (lex-reads.Asked, lex-reads.Learnt, factor-below t, factor.Post, product-reads.Asked, product-reads.Learnt, factors-below t, factors.Post)
-    (factors-at t) factors.Post
+    (at factors-kinds.ps μ-factors factors.Pre t) factors.Post
     (λ c κs. c .before .pre .1 .high)
     (λ c κs. call-next 0 (c .before .before .lex .ensures) (c .before .before .before .before .pre .0) (omega (arith, c .if1 .taken)) (omega arith))
     (λ c. search needs)
@@ -120,7 +114,7 @@ pub +factor+factors+side+term+terms-spec : {M : Type 1} → statement M
     (λ c. times-fails (c .before .before .before .before .before .lex .ensures) (c .before .before .before .if1 .taken) (c .enum-told .given .1) (c .before .before .factor .ensures))
     (λ c. factors-stop (c .before .before .lex .ensures) (c .if1 .left) (c .before .before .before .before .pre .1)))
     -- side: a term and what follows
-    (λ t. side-lts.spec (term-below t, term.Post, terms-below t, terms.Post) (side-at t) side.Post
+    (λ t. side-lts.spec (term-below t, term.Post, terms-below t, terms.Post) (at side-kinds.ps μ-side side.Pre t) side.Post
     (λ c κs. call-same (c .before .args .text .now) (c .before .args .at) 1 (c .before .pre .0) (c .before .pre .1))
     (λ c. search needs)
     (λ c κs. call-first (c .before .before .before .before .before .args .text .now) (c .before .before .before .before .before .args .at) 2 (c .before .v .given .1) (c .before .before .before .term .ensures .moved) (c .before .before .before .before .before .pre .0))
@@ -128,7 +122,7 @@ pub +factor+factors+side+term+terms-spec : {M : Type 1} → statement M
     (λ c. reads-side (c .before .before .v .given .1) (c .before .before .before .before .term .ensures) (c .terms .ensures))
     (λ c. side-fails (c .enum-told .given .1) (c .before .before .term .ensures)))
     -- term: a factor and what follows
-    (λ t. term-lts.spec (factor-below t, factor.Post, factors-below t, factors.Post) (term-at t) term.Post
+    (λ t. term-lts.spec (factor-below t, factor.Post, factors-below t, factors.Post) (at term-kinds.ps μ-term term.Pre t) term.Post
     (λ c κs. call-same (c .before .args .text .now) (c .before .args .at) 0 (c .before .pre .0) (c .before .pre .1))
     (λ c. search needs)
     (λ c κs. call-first (c .before .before .before .before .before .args .text .now) (c .before .before .before .before .before .args .at) 1 (c .before .v .given .1) (c .before .before .before .factor .ensures .moved) (c .before .before .before .before .before .pre .0))
@@ -138,7 +132,7 @@ pub +factor+factors+side+term+terms-spec : {M : Type 1} → statement M
     -- terms: a plus, a minus and what follows, or the end
     (λ t. terms-lts.spec
     (lex-reads.Asked, lex-reads.Learnt, term-below t, term.Post, sum-reads.Asked, sum-reads.Learnt, terms-below t, terms.Post, difference-reads.Asked, difference-reads.Learnt)
-    (terms-at t) terms.Post
+    (at terms-kinds.ps μ-terms terms.Pre t) terms.Post
     (λ c κs. c .before .pre .1 .high)
     (λ c κs. call-next 1 (c .before .before .lex .ensures) (c .before .before .before .before .pre .0) (omega (arith, c .if1 .taken)) (omega arith))
     (λ c. search needs)
