@@ -242,6 +242,9 @@ parse-complete r l m =
 same-rule : {r q : Rule} {s t : List ℕ} → got r s ≡ got q t → r ≡ q
 same-rule e = cc
 
+pub unique-sides : (r q : Rule) → LawfulSide (r .left) 8 → LawfulSide (r .right) 8 → LawfulSide (q .left) 8 → LawfulSide (q .right) 8 → spell r ≡ spell q → r ≡ q
+unique-sides r q a b c d e = same-rule (sym (parse-complete r a b) ∙ ap parse e ∙ parse-complete q c d)
+
 -- each text in one way: two lawful trees that spell the same text are equal
 pub unique : (r q : Rule) → Lawful r → Lawful q → spell r ≡ spell q → r ≡ q
-unique r q l m e = same-rule (sym (parse-complete r (l .left) (l .right)) ∙ ap parse e ∙ parse-complete q (m .left) (m .right))
+unique r q l m e = unique-sides r q (l .left) (l .right) (m .left) (m .right) e

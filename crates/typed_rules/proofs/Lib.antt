@@ -16,4 +16,5 @@ pub mod Sound
 pub mod Complete
 pub mod Language
 pub mod Refusals
+pub mod Bare
 pub mod Examples
