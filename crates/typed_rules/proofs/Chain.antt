@@ -28,7 +28,6 @@ pub record Chain (A B : Type 0) : Type 1 where
 
 -- one item is a whole
 pub record Begins {A B : Type 0} (c : Chain A B) : Type 0 where
-  pub few : c .extra ≤ 1
   pub lawful : (a : A) (d : ℕ) → c .LawfulItem a d → c .LawfulWhole (c .one a) d
   pub spelt : (a : A) (r : List ℕ) → c .spell-item a r ≡ c .spell-whole (c .one a) r
   pub worth : (a : A) → c .worth-whole (c .one a) ≡ c .worth-item a
@@ -64,7 +63,7 @@ terms =
 
 pub one-factor : Begins terms
 unfolding spellFactor LawfulFactor valueFactor
-one-factor = record { few = omega arith; lawful = λ a d l. l; spelt = λ a r. refl; worth = λ a. refl; step = term-step }
+one-factor = record { lawful = λ a d l. l; spelt = λ a r. refl; worth = λ a. refl; step = term-step }
 
 pub by-star : Joins terms 42 times product
 unfolding spellFactor LawfulFactor valueFactor
@@ -90,7 +89,7 @@ sides =
 
 pub one-term : Begins sides
 unfolding spellFactor LawfulFactor valueFactor
-one-term = record { few = omega arith; lawful = λ a d l. l; spelt = λ a r. refl; worth = λ a. refl; step = side-step }
+one-term = record { lawful = λ a d l. l; spelt = λ a r. refl; worth = λ a. refl; step = side-step }
 
 pub by-plus : Joins sides 43 plus sum
 unfolding spellFactor LawfulFactor valueFactor

@@ -46,7 +46,7 @@ module _ {A B : Type 0} {c : Chain A B} (o : Begins c) (text : List ℕ) (at dep
 
 -- ---- an item more
 
-module _ {A B : Type 0} {c : Chain A B} {byte : ℕ} {join : B → ℕ → A → B} {op : Value → Value → Value} (j : Joins c byte join op) {text : List ℕ} {at : ℕ} (depth : ℕ) {l : Lexed} (x : Lexes text at l) (b : l .byte ≡ byte) (s : Step) (f : ReadsItem c text (l .next) depth s) where
+module _ {A B : Type 0} {c : Chain A B} {byte : ℕ} {join : B → ℕ → A → B} {op : Value → Value → Value} (j : Joins c byte join op) {text : List ℕ} {at : ℕ} (depth : ℕ) {l : Lexed} (x : Lexes text at l) (b : l .byte ≡ byte) where
   falls : at < l .next
   falls = x .falls (omega (arith, b, j .some))
 
@@ -55,21 +55,21 @@ module _ {A B : Type 0} {c : Chain A B} {byte : ℕ} {join : B → ℕ → A →
       j .step k depth (drop at text) t (sym (x .same) ∙ b)
       ∙ ap (λ (z : List ℕ). bind (c .item-by k depth z) (λ a w. c .more k depth (join t (lead (drop at text)) a) w)) (sym (x .goes-on))
 
-  next-got : (r : Step) {v w u : Value} {n : ℕ} → s ≡ Got w n → Moved text (suc (l .next)) s → u ≡ op v w → ReadsMore c text n depth u r → ReadsMore c text at depth v r
-  next-got r e m y g zero h t z = absurd (omega (arith, h))
-  next-got r {v} {n = n} e m y g (suc k) h t z =
+  next-got : (s r : Step) {v w u : Value} {n : ℕ} → ReadsItem c text (l .next) depth s → s ≡ Got w n → Moved text (suc (l .next)) s → u ≡ op v w → ReadsMore c text n depth u r → ReadsMore c text at depth v r
+  next-got s r f e m y g zero h t z = absurd (omega (arith, h))
+  next-got s r {v} {n = n} f e m y g (suc k) h t z =
       let p = reached text (suc (l .next)) e m in
       let q = inv-got (c .worth-item) (c .item-by k depth (drop (l .next) text)) (f k (spent text at (l .next) (c .extra) k falls (x .high) (omega (arith, j .few)) h) ∙ ap (view text) e) in
       let i = lead (drop at text) in
       ap (valued (c .worth-whole)) (onward k t ∙ ap (λ (o : Parsed A). bind o (λ a d. c .more k depth (join t i a) d)) (q .1))
       ∙ g k (spent text at n 0 k (omega (arith, falls, p .low)) (p .high) (omega arith) h) (join t i (q .0)) (j .worth t i (q .0) ∙ ap (λ (o : Value). op o (c .worth-item (q .0))) z ∙ ap (op v) (q .2) ∙ sym y)
 
-  next-moved : (r : Step) {w : Value} {n : ℕ} → s ≡ Got w n → Moved text (suc (l .next)) s → Moved text n r → Moved text at r
+  next-moved : {s : Step} (r : Step) {w : Value} {n : ℕ} → s ≡ Got w n → Moved text (suc (l .next)) s → Moved text n r → Moved text at r
   next-moved r {n = n} e m g = moved-on text at n r (omega (arith, falls, reached text (suc (l .next)) e m .low)) g
 
-  next-fails : (v : Value) → s ≡ Fail → ReadsMore c text at depth v Fail
-  next-fails v e zero h t z = absurd (omega (arith, h))
-  next-fails v e (suc k) h t z =
+  next-fails : (s : Step) (v : Value) → ReadsItem c text (l .next) depth s → s ≡ Fail → ReadsMore c text at depth v Fail
+  next-fails s v f e zero h t z = absurd (omega (arith, h))
+  next-fails s v f e (suc k) h t z =
       let q = inv-fail (c .worth-item) (c .item-by k depth (drop (l .next) text)) (f k (spent text at (l .next) (c .extra) k falls (x .high) (omega (arith, j .few)) h) ∙ ap (view text) e) in
       ap (valued (c .worth-whole)) (onward k t ∙ ap (λ (o : Parsed A). bind o (λ a d. c .more k depth (join t (lead (drop at text)) a) d)) q)
 
@@ -98,12 +98,12 @@ module _ {text : List ℕ} {at depth : ℕ} where
   pub reads-times : {l : Lexed} {s r : Step} {v w u : Value} {n : ℕ} → Lexes text at l → l .byte ≡ 42 → s ≡ Got w n → ReadsFactor text (l .next) depth s → u ≡ product v w → ReadsFactors text n depth u r → ReadsFactors text at depth v r
   reads-times {s = s} {r = r} x b e f m g =
       record {
-        same = next-got by-star depth x b s (f .same) r e (f .moved) m (g .same);
-        moved = next-moved by-star depth x b s (f .same) r e (f .moved) (g .moved);
+        same = next-got by-star depth x b s r (f .same) e (f .moved) m (g .same);
+        moved = next-moved by-star depth x b r e (f .moved) (g .moved);
       }
 
   pub times-fails : {l : Lexed} {s : Step} {v : Value} → Lexes text at l → l .byte ≡ 42 → s ≡ Fail → ReadsFactor text (l .next) depth s → ReadsFactors text at depth v Fail
-  times-fails {s = s} {v = v} x b e f = record { same = next-fails by-star depth x b s (f .same) v e; moved = tt }
+  times-fails {s = s} {v = v} x b e f = record { same = next-fails by-star depth x b s v (f .same) e; moved = tt }
 
   pub factors-stop : {l : Lexed} {v : Value} → Lexes text at l → (l .byte ≡ 42 → ⊥) → Follows text at v → ReadsFactors text at depth v (Got v at)
   factors-stop {v = v} x b o = record { same = stops terms text at depth v (λ k t. factors-end k depth (drop at text) t (other x 42 b)); moved = here o }
@@ -124,12 +124,12 @@ module _ {text : List ℕ} {at depth : ℕ} where
   pub reads-joined : {byte : ℕ} {join : Side → ℕ → Term → Side} {op : Value → Value → Value} {l : Lexed} {s r : Step} {v w u : Value} {n : ℕ} → Joins sides byte join op → Lexes text at l → l .byte ≡ byte → s ≡ Got w n → ReadsTerm text (l .next) depth s → u ≡ op v w → ReadsTerms text n depth u r → ReadsTerms text at depth v r
   reads-joined {s = s} {r = r} j x b e f m g =
       record {
-        same = next-got j depth x b s (f .same) r e (f .moved) m (g .same);
-        moved = next-moved j depth x b s (f .same) r e (f .moved) (g .moved);
+        same = next-got j depth x b s r (f .same) e (f .moved) m (g .same);
+        moved = next-moved j depth x b r e (f .moved) (g .moved);
       }
 
   pub joined-fails : {byte : ℕ} {join : Side → ℕ → Term → Side} {op : Value → Value → Value} {l : Lexed} {s : Step} {v : Value} → Joins sides byte join op → Lexes text at l → l .byte ≡ byte → s ≡ Fail → ReadsTerm text (l .next) depth s → ReadsTerms text at depth v Fail
-  joined-fails {s = s} {v = v} j x b e f = record { same = next-fails j depth x b s (f .same) v e; moved = tt }
+  joined-fails {s = s} {v = v} j x b e f = record { same = next-fails j depth x b s v (f .same) e; moved = tt }
 
   pub terms-stop : {l : Lexed} {v : Value} → Lexes text at l → (l .byte ≡ 43 → ⊥) → (l .byte ≡ 45 → ⊥) → Follows text at v → ReadsTerms text at depth v (Got v at)
   terms-stop {v = v} x b d o = record { same = stops sides text at depth v (λ k t. terms-end k depth (drop at text) t (other x 43 b) (other x 45 d)); moved = here o }

@@ -1,12 +1,12 @@
 -- The refusals of a tree's value are 14 and 15, so 13 means that no lawful tree spells the text; and an accepted rule is within its limits.
-use mathlib.Core.Path.{_≡_, refl, sym, _∙_}
+use mathlib.Core.Path.{_≡_, refl, ap, sym, _∙_}
 use mathlib.Core.Logic.{_⊎_, inl, inr}
 use mathlib.Core.Bool.{Bool, true, false, _&&_}
 use mathlib.Core.List.{List}
 use Prim.Native.Nat.{ℕ, _≤_}
 use native.Mathlib.Omega.{arith}
 use lib.Dec.{leb}
-use lib.IntN.{natAbs}
+use lib.IntN.{pos, natAbs}
 use borrow.Author.Tests.{leb-true}
 use Rattle.typed_rules.specs.declared.Form.{Form}
 use Rattle.typed_rules.specs.declared.Value.{Value}
@@ -15,7 +15,7 @@ use Rattle.typed_rules.specs.declared.Written.{Written}
 use Rattle.typed_rules.specs.declared.Typed.{Typed}
 use Rattle.typed_rules.specs.declared.Typed.the-variants.{Rule, Refused}
 use Rattle.typed_rules.specs.Grammar as G
-use Rattle.typed_rules.specs.Grammar.{number, rate-x, rate-y, minus, group, factor, times, term, plus, less}
+use Rattle.typed_rules.specs.Grammar.{number, rate-x, rate-y, minus, group, factor, times, term, plus, less, at-most, at-least}
 use Rattle.typed_rules.specs.Value.{inside, limit, form, either, checked, decimal, numeral, constant, multiplied, mulForms, addForms, subForms, negated, sum, difference, product, combine, valueFactor, valueTerm, valueSide, kindOf, pickTyped, written, final, conclude, valueRule}
 use Rattle.typed_rules.specs.Parser.{answer}
 use Rattle.typed_rules.proofs.Language.{answered}
@@ -39,7 +39,7 @@ numeral-plain : (n : ℕ) → Plain (numeral n)
 unfolding numeral
 numeral-plain n = go (leb n limit)
   where
-    go : (t : Bool) → Plain (either t (Linear (form (lib.IntN.pos 0) (lib.IntN.pos 0) (lib.IntN.pos n))) (Beyond 15))
+    go : (t : Bool) → Plain (either t (Linear (form (pos 0) (pos 0) (pos n))) (Beyond 15))
     go true = tt
     go false = inr refl
 
@@ -94,8 +94,12 @@ mutual
   side-plain (plus a i t) = sum-plain (valueSide a) (valueTerm t) (side-plain a) (term-plain t)
   side-plain (less a i t) = difference-plain (valueSide a) (valueTerm t) (side-plain a) (term-plain t)
 
+abbrev pub Kind : ℕ → Type 0
+Kind k = (k ≡ 1) ⊎ (k ≡ 2)
+
 -- an accepted rule: kind 1 or 2, a and b at most 32,767 and c at most 1,000,000,000 either way
 pub record InRange (w : Written) : Type 0 where
+  pub kind : Kind (w .kind)
   pub a : natAbs (w .a) ≤ 32767
   pub b : natAbs (w .b) ≤ 32767
   pub c : natAbs (w .c) ≤ 1000000000
@@ -104,27 +108,31 @@ abbrev pub Sound : Typed → Type 0
 Sound (Rule w) = InRange w
 Sound (Refused n) = Fault n
 
-final-sound : (w : Written) → Sound (final w)
+final-sound : (w : Written) → Kind (w .kind) → Sound (final w)
 unfolding final
-final-sound w = go (inside 32767 (w .a)) refl (inside 32767 (w .b)) refl (inside limit (w .c)) refl
+final-sound w k = go (inside 32767 (w .a)) refl (inside 32767 (w .b)) refl (inside limit (w .c)) refl
   where
     go : (s : Bool) → inside 32767 (w .a) ≡ s → (t : Bool) → inside 32767 (w .b) ≡ t → (u : Bool) → inside limit (w .c) ≡ u → Sound (pickTyped (s && (t && u)) (Rule w) (Refused 15))
-    go true e true f true g = record { a = leb-true (natAbs (w .a)) 32767 e; b = leb-true (natAbs (w .b)) 32767 f; c = leb-true (natAbs (w .c)) limit g }
+    go true e true f true g = record { kind = k; a = leb-true (natAbs (w .a)) 32767 e; b = leb-true (natAbs (w .b)) 32767 f; c = leb-true (natAbs (w .c)) limit g }
     go true e true f false g = inr refl
     go true e false f u g = inr refl
     go false e t f u g = inr refl
 
-conclude-sound : (k : ℕ) (v w : Value) → Plain v → Plain w → Sound (conclude k v w)
+conclude-sound : (k : ℕ) → Kind k → (v w : Value) → Plain v → Plain w → Sound (conclude k v w)
 unfolding conclude
-conclude-sound k (Linear f) (Linear g) p q = final-sound (written k f g)
-conclude-sound k (Linear f) (Beyond n) p q = q
-conclude-sound k (Beyond n) (Linear g) p q = p
-conclude-sound k (Beyond n) (Beyond m) p q = p
+conclude-sound k h (Linear f) (Linear g) p q = final-sound (written k f g) h
+conclude-sound k h (Linear f) (Beyond n) p q = q
+conclude-sound k h (Beyond n) (Linear g) p q = p
+conclude-sound k h (Beyond n) (Beyond m) p q = p
+
+kind-of : (k : G.Relation) → Kind (kindOf k)
+kind-of at-most = inl refl
+kind-of at-least = inr refl
 
 -- a tree's value is a rule within its limits, or 14, or 15
 pub value-sound : (r : G.Rule) → Sound (valueRule r)
 unfolding valueRule
-value-sound r = conclude-sound (kindOf (r .relation)) (valueSide (r .left)) (valueSide (r .right)) (side-plain (r .left)) (side-plain (r .right))
+value-sound r = conclude-sound (kindOf (r .relation)) (kind-of (r .relation)) (valueSide (r .left)) (valueSide (r .right)) (side-plain (r .left)) (side-plain (r .right))
 
 thirteen : (t : Typed) → Sound t → t ≡ Refused 13 → ⊥
 thirteen (Rule w) h e = let z : _≡_ {A = ℕ} 0 1 = cc in omega arith
@@ -133,4 +141,4 @@ thirteen (Refused n) (inr h) e = let z : n ≡ 13 = cc in omega arith
 
 -- 13 exactly if no lawful tree spells the text
 pub refused-13 : (s : List ℕ) → answer s ≡ Refused 13 → (r : G.Rule) → G.Lawful r → s ≡ G.spell r → ⊥
-refused-13 s e r l p = thirteen (valueRule r) (value-sound r) (sym (answered r l) ∙ mathlib.Core.Path.ap answer (sym p) ∙ e)
+refused-13 s e r l p = thirteen (valueRule r) (value-sound r) (sym (answered r l) ∙ ap answer (sym p) ∙ e)

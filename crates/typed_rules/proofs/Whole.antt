@@ -67,7 +67,7 @@ module _ (a : Side) (s : List ℕ) where
 
 -- ---- the right side
 
-module _ (text : List ℕ) (at : ℕ) {b : ℕ} (x : b ≡ first (drop at text)) (y : b ≡ 61) (s : Step) (f : ReadsSide text (at + 1) 8 s) where
+module _ (text : List ℕ) (at : ℕ) {b : ℕ} (x : b ≡ first (drop at text)) (y : b ≡ 61) where
   equals : first (drop at text) ≡ 61
   equals = sym x ∙ y
 
@@ -75,8 +75,8 @@ module _ (text : List ℕ) (at : ℕ) {b : ℕ} (x : b ≡ first (drop at text))
   right-tail = after-byte text at (byte-inside text at 61 equals (omega arith))
 
   -- a right side of the value w, with the text after its spaces
-  right-reads : {w : Value} {n e : ℕ} (rest : List ℕ) → s ≡ Got w n → Skips text n e → drop e text ≡ rest → (a : Side) (i : ℕ) (k : Relation) → (z : Side) × (rightOf a i k (drop at text) ≡ ended rest (rule a i k z (lead (drop n text)))) × (valueSide z ≡ w)
-  right-reads {n = n} rest g k h a i r =
+  right-reads : {s : Step} {w : Value} {n e : ℕ} (rest : List ℕ) → ReadsSide text (at + 1) 8 s → s ≡ Got w n → Skips text n e → drop e text ≡ rest → (a : Side) (i : ℕ) (k : Relation) → (z : Side) × (rightOf a i k (drop at text) ≡ ended rest (rule a i k z (lead (drop n text)))) × (valueSide z ≡ w)
+  right-reads {s} {n = n} rest f g k h a i r =
       let z = inv-got valueSide (sideOf (drop (at + 1) text)) (side-of text (at + 1) s f ∙ ap (view text) g) in (
         z .0,
         right-got a i r (drop at text) (z .0) (drop n text) equals (ap sideOf (sym right-tail) ∙ z .1)
@@ -86,15 +86,15 @@ module _ (text : List ℕ) (at : ℕ) {b : ℕ} (x : b ≡ first (drop at text))
 
 module _ {text : List ℕ} {at kind : ℕ} {v : Value} {b : ℕ} (x : b ≡ first (drop at text)) where
   pub right-more : {s : Step} {w : Value} {n e : ℕ} → b ≡ 61 → s ≡ Got w n → ReadsSide text (at + 1) 8 s → Skips text n e → e < length text → JudgesRight text at kind v (Refused 13)
-  right-more {s} {e = e} y g f k h =
-      record { same = λ a i r p q. sym (ap judged (right-reads text at x y s f (getD text e 0 ∷ drop (e + 1) text) g k (here text e h) a i r .1)) }
+  right-more {e = e} y g f k h =
+      record { same = λ a i r p q. sym (ap judged (right-reads text at x y (getD text e 0 ∷ drop (e + 1) text) f g k (here text e h) a i r .1)) }
 
   pub right-ends : {s : Step} {w : Value} {n e : ℕ} {t : Typed} → b ≡ 61 → s ≡ Got w n → ReadsSide text (at + 1) 8 s → Skips text n e → length text ≤ e → t ≡ conclude kind v w → JudgesRight text at kind v t
   unfolding valueRule
-  right-ends {s} {w} y g f k h c =
+  right-ends {w = w} y g f k h c =
       record {
         same = λ a i r p q.
-            let z = right-reads text at x y s f [] g k (drop-of-length-le text h) a i r in
+            let z = right-reads text at x y [] f g k (drop-of-length-le text h) a i r in
             c
             ∙ ap (λ (m : ℕ). conclude m v w) (sym q)
             ∙ ap (λ (u : Value). conclude (kindOf r) u w) (sym p)
@@ -107,7 +107,7 @@ module _ {text : List ℕ} {at kind : ℕ} {v : Value} {b : ℕ} (x : b ≡ firs
       record {
         same = λ a i r p q.
             let z = inv-fail valueSide (sideOf (drop (at + 1) text)) (side-of text (at + 1) s f ∙ ap (view text) g) in
-            sym (ap judged (right-none a i r (drop at text) (equals text at x y s f) (ap sideOf (sym (right-tail text at x y s f)) ∙ z)));
+            sym (ap judged (right-none a i r (drop at text) (equals text at x y) (ap sideOf (sym (right-tail text at x y)) ∙ z)));
       }
 
   pub right-no : (b ≡ 61 → ⊥) → JudgesRight text at kind v (Refused 13)
