@@ -1,4 +1,4 @@
-// A rule record: its link, its label, its check (the causes 8, 9 and 10), and a number of kind 2 turned round.
+// A rule record: its link, its rule, its check (the causes 8, 9 and 10), and a number of kind 2 turned round.
 use crate::Decoded;
 use crate::Rule;
 use crate::bytes::byte_at;
@@ -14,7 +14,7 @@ ghost use lib.ListN.{length};
 ghost use mathlib.Core.Path.{_≡_};
 ghost use mathlib.Core.Bool.{true};
 ghost use Rattle.book.specs.Layout.{v1};
-ghost use Rattle.book.specs.Record.{recordAt, linkOf, labelOf, ruleWith, badKind, badSlope, badBound, checked, decodedOf, numberOf};
+ghost use Rattle.book.specs.Record.{recordAt, linkOf, ruleWith, badKind, badSlope, badBound, checked, decodedOf, numberOf};
 ghost use Rattle.book.specs.Record as spec;
 ghost use Rattle.book.specs.Answers.{RuleAt};
 ghost use Rattle.book.specs.Answers as answers;
@@ -25,14 +25,6 @@ pub fn link_at(book: &[u8], index: u16) -> u16
 {
     let at = index as usize * 12;
     byte_at(book, at) as u16
-}
-
-// The label of a record.
-pub fn label_at(book: &[u8], index: u16) -> u16
-    ensures { λ r. ⌜ r ≡ labelOf v1 (recordAt v1 (now (book .entry)) index) ⌝ }
-{
-    let at = index as u32 * 12;
-    number2(book, at + 6)
 }
 
 // A rule, from its fields as they stand.

@@ -1,7 +1,6 @@
 // The walk along the links, with the causes 6 to 10 and 12.
 use crate::Chain;
 use crate::Decoded;
-use crate::decode::label_at;
 use crate::decode::link_at;
 use crate::decode::number_of;
 use crate::header::count;
@@ -84,10 +83,10 @@ pub fn walk(book: &[u8]) -> Chain
             return refused(7, at);
         }
         let decoded = visit(book, link);
-        let Decoded::Sound(_, next) = decoded else {
+        let Decoded::Sound(rule, next) = decoded else {
             return refused(number_of(decoded), link);
         };
-        let label = label_at(book, link);
+        let label = rule.label;
         if noted(&labels, label) {
             return refused(12, link);
         }

@@ -7,6 +7,7 @@ use mathlib.Core.List.{[], _∷_}
 use types.Run.{OneOf, miss}
 use denote.Enum.Declared.{tagOf}
 use Rattle.book.proofs.Decoded.{the-type}
+use Rattle.book.specs.declared.Rule.{Rule}
 use Rattle.book.specs.declared.Decoded.{Decoded}
 use Rattle.book.specs.declared.Decoded.the-variants.{Sound, Kind, Slope, Bound}
 use Rattle.book.specs.Record.{numberOf}
@@ -100,48 +101,46 @@ returns-3 c =
     ∙ sym (walking-fault (l .inv .2) (c .before .before .before .before .before .before .loop-test .taken) (rw (l .inv .0) at (c .before .before .before .before .before .if1 .left)) (omega arith) (c .before .before .before .before .if2 .left) (rw (d .ensures) at f)))
 
 -- a sound record that was not visited
-arrived : (c : tie.After-label-at Inv-loop μ-loop) → let l = c .before .before .before .before .before .before .before .before .loop in Arrived (c .before .before .before .before .before .before .before .before .before .before .before .before .before .before .before .args .book .now) (l .seen) (l .labels) (l .records) (l .n) (l .at) (l .link) (c .label-at .result) (c .before .before .decoded .given .0 .1 .0)
+arrived : (c : tie.After-decoded Inv-loop μ-loop) → let l = c .before .before .before .before .before .before .loop in Arrived (c .before .before .before .before .before .before .before .before .before .before .before .before .before .args .book .now) (l .seen) (l .labels) (l .records) (l .n) (l .at) (l .link) (c .decoded .given .0 .0 .label) (c .decoded .given .0 .1 .0)
 arrived c =
-    let l = c .before .before .before .before .before .before .before .before .loop in
-    let s = c .before .before .before .before .before .before .before .before .before .before .before .before .before .before .before .args .book .now in
-    let d = c .before .before .before .before .visit in
-    let e = c .before .before .decoded .given .1 in
-    let bytes : Bytes s = λ i. c .before .before .before .before .before .before .before .before .before .before .before .before .before .before .shared-slice-known .given i .fits in
+    let l = c .before .before .before .before .before .before .loop in
+    let s = c .before .before .before .before .before .before .before .before .before .before .before .before .before .args .book .now in
+    let d = c .before .before .visit in
+    let e = c .decoded .given .1 in
+    let held = sound-holds v1 _ _ _ (sym (d .ensures) ∙ e) in
+    let bytes : Bytes s = λ i. c .before .before .before .before .before .before .before .before .before .before .before .before .shared-slice-known .given i .fits in
     record {
       so-far = l .inv .2;
-      some = c .before .before .before .before .before .before .before .loop-test .taken;
-      within = rw (l .inv .0) at (c .before .before .before .before .before .before .if1 .left);
+      some = c .before .before .before .before .before .loop-test .taken;
+      within = rw (l .inv .0) at (c .before .before .before .before .if1 .left);
       low = omega arith;
-      new = c .before .before .before .before .before .if2 .left;
+      new = c .before .before .before .if2 .left;
       sound = ap numberOf (sym (d .ensures) ∙ e);
-      label-held = c .label-at .ensures;
-      label-fits = rw (c .label-at .ensures) (label-small v1 s bytes (l .link));
-      link-held = sound-holds v1 _ _ _ (sym (d .ensures) ∙ e) .1;
+      label-held = ap (λ (r : Rule). r .label) (held .0);
+      label-fits = rw (ap (λ (r : Rule). r .label) (held .0)) (label-small v1 s bytes (l .link));
+      link-held = held .1;
     }
 
-label-at-requires : tie.Need-label-at-requires Inv-loop μ-loop
-label-at-requires c κs = tt
-
 noted-requires : tie.Need-noted-requires Inv-loop μ-loop
-noted-requires c κs = c .before .before .before .before .before .before .before .before .before .loop .inv .2 .met .size
+noted-requires c κs = c .before .before .before .before .before .before .before .before .loop .inv .2 .met .size
 
 refused-requires-4 : tie.Need-refused-requires-4 Inv-loop μ-loop
 refused-requires-4 c κs = tt
 
 returns-4 : tie.Need-returns-4 Inv-loop μ-loop
 returns-4 c =
-    let a = arrived (c .before .before .before .before) in
+    let a = arrived (c .before .before .before .before .before) in
     c .refused4 .ensures ∙ ap chainOf (sym (arrived-repeat a (sym (c .before .before .noted .ensures) ∙ c .before .if3 .taken)))
 
 note-requires : tie.Need-note-requires Inv-loop μ-loop
-note-requires c κs = arrived-unnoted (arrived (c .before .before .before .before)) (sym (c .before .before .noted .ensures) ∙ c .before .if3 .left)
+note-requires c κs = arrived-unnoted (arrived (c .before .before .before .before .before)) (sym (c .before .before .noted .ensures) ∙ c .before .if3 .left)
 
 array-write-seen : tie.Need-array-write-seen Inv-loop μ-loop
 array-write-seen c = omega arith
 
 -- the marks leave room for one more record
-room : (c : tie.After-note Inv-loop μ-loop) → c .before .before .before .before .before .before .before .before .before .before .before .before .before .loop .n < 255
-room c = arrived-room (arrived (c .before .before .before .before .before))
+room : (c : tie.After-note Inv-loop μ-loop) → c .before .before .before .before .before .before .before .before .before .before .before .before .loop .n < 255
+room c = arrived-room (arrived (c .before .before .before .before .before .before))
 
 mul-records : tie.Need-mul-records Inv-loop μ-loop
 mul-records c = omega (arith, room c)
@@ -157,8 +156,8 @@ loop-less c = omega (arith, room c)
 
 loop-again : tie.Need-loop-again Inv-loop μ-loop
 loop-again c =
-    let l = c .before .before .before .before .before .before .before .before .before .before .before .before .before .loop in
-    let a = arrived (c .before .before .before .before .before) in
+    let l = c .before .before .before .before .before .before .before .before .before .before .before .before .loop in
+    let a = arrived (c .before .before .before .before .before .before) in
     let new = sym (c .before .before .before .noted .ensures) ∙ c .before .before .if3 .left in
     (l .inv .0, l .inv .1, arrived-step a new (c .note .ensures))
 
@@ -196,7 +195,6 @@ walk-spec =
     number-of-requires
     refused-requires-3
     returns-3
-    label-at-requires
     noted-requires
     refused-requires-4
     returns-4
