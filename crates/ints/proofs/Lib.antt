@@ -7,4 +7,5 @@ pub mod Divides
 pub mod Gcd
 pub mod Reduced
 pub mod Machine
+pub mod Bits
 pub mod Examples

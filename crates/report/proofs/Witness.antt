@@ -12,7 +12,8 @@ use Rattle.lp.specs.declared.Certificate.{Certificate}
 use Rattle.lp.specs.Certificate.{Weighted, weighted, named}
 use Rattle.report.specs.Line.{number, integer, entry, entries, witness}
 use Rattle.report.specs.Append.{Appended}
-use Rattle.report.proofs.Integer.{read, none-named, one-named}
+use Rattle.ints.proofs.Bits.{read}
+use Rattle.report.proofs.Integer.{none-named, one-named}
 use Rattle.report.proofs.Put.{spelt}
 
 pub entry-record : (e : ℕ) → (e ≡ 0 → ⊥) → (e ≡ 1 → ⊥) → number (e - 1) ≡ entry e

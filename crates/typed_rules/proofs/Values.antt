@@ -11,13 +11,13 @@ use mir.Facts.{toZ-ofZ}
 use borrow.Author.Tests.{leb-true, le-leb}
 use Rattle.ints.specs.Within.{Within}
 use Rattle.ints.proofs.Machine.{within-fits, within-add, within-sub, within-mul, within-neg, within-nat, within-numeral}
+use Rattle.ints.proofs.Bits.{read}
 use Rattle.typed_rules.specs.declared.Form.{Form}
 use Rattle.typed_rules.specs.declared.Value.{Value}
 use Rattle.typed_rules.specs.declared.Value.the-variants.{Linear, Beyond}
 use Rattle.typed_rules.specs.declared.Written.{Written}
 use Rattle.typed_rules.specs.Value.{inside, limit, form, checked, numeral, negForm, combine}
 use Rattle.typed_rules.specs.Contracts.{SmallForm, SmallForms, Small, Smalls, Valued}
-use Rattle.typed_rules.proofs.Integer.{read}
 
 -- ---- numbers
 

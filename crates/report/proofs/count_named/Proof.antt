@@ -1,7 +1,7 @@
 -- `report::count_named` meets its contract. Each weight that is not 0 names one entry.
 use native.Mathlib.Omega.{arith}
 use borrow.Author.Needs.{needs}
-use Rattle.report.proofs.Integer.{read}
+use Rattle.ints.proofs.Bits.{read}
 use Rattle.report.proofs.Witness.{at-most-one, counted}
 use Rattle.report.proofs.count_named.Statement.{statement}
 use Rattle.report.proofs.count_named.Tie as tie

@@ -1,6 +1,6 @@
 -- `report::text::magnitude` meets its contract. A negative number is raised by one, turned round, and counted one more.
 use borrow.Author.Needs.{needs}
-use Rattle.report.proofs.Integer.{negative, counted}
+use Rattle.ints.proofs.Bits.{negative, counted}
 use Rattle.report.proofs.text.magnitude.Statement.{statement}
 use Rattle.report.proofs.text.magnitude.Tie as tie
 

@@ -1,6 +1,6 @@
 -- `typed_rules::arith::magnitude` meets its contract. A negative number is raised by one, turned round, and counted one more.
 use borrow.Author.Needs.{needs}
-use Rattle.typed_rules.proofs.Integer.{negative, counted}
+use Rattle.ints.proofs.Bits.{negative, counted}
 use Rattle.typed_rules.proofs.arith.magnitude.Statement.{statement}
 use Rattle.typed_rules.proofs.arith.magnitude.Tie as tie
 
