@@ -7,10 +7,7 @@ use native.Mathlib.Omega.{arith}
 use native.Mathlib.Numerals.{add-one}
 use lib.ListN.{length, set, take, drop, getD, length-append}
 use lib.Seq.{sets, sets-eq, take-suc, take-all}
-use Rattle.report.specs.Text.{text}
-use Rattle.report.specs.Append.{Appended, Written, lineRoom}
-use Rattle.report.specs.declared.Answer.{Answer}
-use Rattle.report.specs.Line.{answerFields, lineOf}
+use Rattle.report.specs.Append.{Appended, Fills}
 
 sets-append : (l : List ℕ) (i : ℕ) (u v : List ℕ) → sets l i (u ++ v) ≡ sets (sets l i u) (i + length u) v
 sets-append l i [] v = ap (λ (k : ℕ). sets l k v) (omega arith)
@@ -53,30 +50,35 @@ all-of word i h f = exactly (take-all i word h) f
 pub nothing : (out : List ℕ) (at room : ℕ) → Appended out at [] room out at
 nothing out at room = record { stored = refl; moved = omega arith; small = omega arith }
 
--- ---- the line
+-- ---- a text that fills a buffer
 
-pub too-small : (answer : Answer) (out : List ℕ) → length out < lineRoom → Written answer out out 0
-too-small answer out h =
+pub too-small : (line : List ℕ) (room : ℕ) (out : List ℕ) → length out < room → Fills line room out out 0
+too-small line room out h =
     record {
       untouched = λ _. refl;
       nothing = λ _. refl;
-      line = λ k. absurd (omega arith);
+      stands = λ k. absurd (omega arith);
       counted = λ k. absurd (omega arith);
       enough = omega arith;
     }
 
--- the fields, the line feed after them, and one more than the fields' count
-pub line-stands : (answer : Answer) {before mid after : List ℕ} {end next room : ℕ} → lineRoom ≤ length before → room < lineRoom → Appended before 0 (answerFields answer) room mid end → Appended mid end (text "\n") 1 after next → Written answer before after (end + 1)
-unfolding lineOf
-line-stands answer {before} {mid} {after} {end} {next} {room} h k f g =
-    let whole : Appended before 0 (lineOf answer) (room + 1) after next = followed f g in
+pub filled : {line before after : List ℕ} {room small count : ℕ} → room ≤ length before → small ≤ room → Appended before 0 line small after count → Fills line room before after count
+filled {line} {before} {after} {room} {small} {count} h k f =
     record {
       untouched = λ p. absurd (omega arith);
       nothing = λ p. absurd (omega arith);
-      line =
-          λ _. whole .stored
-          ∙ sets-eq (lineOf answer) before 0 (omega (arith, whole .small))
-          ∙ ap (λ (n : ℕ). lineOf answer ++ drop n before) (zero-add (length (lineOf answer)));
-      counted = λ _. omega (arith, whole .moved, g .moved);
-      enough = omega (arith, whole .moved, whole .small, g .moved);
+      stands = λ _. f .stored ∙ sets-eq line before 0 (omega (arith, f .small)) ∙ ap (λ (n : ℕ). line ++ drop n before) (zero-add (length line));
+      counted = λ _. omega (arith, f .moved);
+      enough = omega (arith, f .moved, f .small);
+    }
+
+-- a text that fills less room fills more
+pub widened : {line before after : List ℕ} {room small count : ℕ} → room ≤ length before → small ≤ room → Fills line small before after count → Fills line room before after count
+widened {line} {before} {after} {room} {small} {count} h k f =
+    record {
+      untouched = λ p. absurd (omega arith);
+      nothing = λ p. absurd (omega arith);
+      stands = λ _. f .stands (omega arith);
+      counted = λ _. f .counted (omega arith);
+      enough = omega (arith, f .enough);
     }

@@ -2,19 +2,19 @@
 use mathlib.Core.Path.{_≡_, refl, sym, _∙_, ap, subst}
 use mathlib.Core.List.{List, [], _∷_, _++_, append-assoc, append-nil}
 use Prim.Native.Nat.{ℕ, _+_, _*_, _≤_, _<_}
-use native.Mathlib.Nat.{zero-add}
+use native.Mathlib.Nat.{le-refl}
 use native.Mathlib.Numerals.{add-one}
 use native.Mathlib.Omega.{arith}
 use borrow.Author.Tests.{eq-eqb, ne-eqb}
-use lib.ListN.{length, take, drop, getD}
-use lib.Seq.{sets-eq, take-suc}
+use lib.ListN.{length, take, getD}
+use lib.Seq.{take-suc}
 use Rattle.report.specs.declared.panel.Row.{Row}
 use Rattle.report.specs.declared.panel.Panel.{Panel}
 use Rattle.report.specs.declared.Answer.the-variants.{Refused}
-use Rattle.report.specs.Append.{Appended, Written, lineRoom}
+use Rattle.report.specs.Append.{Appended, Fills, Written}
 use Rattle.report.specs.Line.{lineOf}
 use Rattle.report.specs.Panel.{rowLine, rowLines, panelText, panelRoom, Shown}
-use Rattle.report.proofs.Put.{followed, roomier, spelt}
+use Rattle.report.proofs.Put.{followed, roomier, spelt, filled, widened}
 
 pub lines-append : (l : List Row) (r : Row) → rowLines (l ++ (r ∷ [])) ≡ rowLines l ++ rowLine r
 lines-append [] r = append-nil (rowLine r)
@@ -69,16 +69,6 @@ module _ {rows : List Row} {n : ℕ} {before out : List ℕ} {next i : ℕ} (h :
 
 -- ---- the whole panel
 
-pub too-narrow : (panel : Panel) (out : List ℕ) → length out < panelRoom → Shown panel out out 0
-too-narrow panel out h =
-    record {
-      untouched = λ _. refl;
-      nothing = λ _. refl;
-      lines = λ k. absurd (omega arith);
-      counted = λ k. absurd (omega arith);
-      enough = omega arith;
-    }
-
 rows-text : (panel : Panel) → panel .number ≡ 0 → rowLines (take (panel .n) (panel .rows)) ≡ panelText panel
 unfolding panelText
 rows-text panel e = rw (eq-eqb (panel .number) 0 e)
@@ -89,27 +79,7 @@ refusal-text panel e = rw (ne-eqb (panel .number) 0 e)
 
 module _ (panel : Panel) {before after : List ℕ} {end : ℕ} (room : panelRoom ≤ length before) where
   pub rows-shown : panel .number ≡ 0 → Appended before 0 (rowLines (take (panel .n) (panel .rows))) panelRoom after end → Shown panel before after end
-  rows-shown e f =
-      record {
-        untouched = λ p. absurd (omega arith);
-        nothing = λ p. absurd (omega arith);
-        lines =
-            λ _. whole .stored
-            ∙ sets-eq (panelText panel) before 0 (omega (arith, whole .small))
-            ∙ ap (λ (n : ℕ). panelText panel ++ drop n before) (zero-add (length (panelText panel)));
-        counted = λ _. omega (arith, whole .moved);
-        enough = omega (arith, whole .moved, whole .small);
-      }
-    where
-      whole : Appended before 0 (panelText panel) panelRoom after end
-      whole = spelt (rows-text panel e) f
+  rows-shown e f = filled room (le-refl panelRoom) (spelt (rows-text panel e) f)
 
   pub refusal-shown : (panel .number ≡ 0 → ⊥) → Written (Refused (panel .number) (panel .at)) before after end → Shown panel before after end
-  refusal-shown e f =
-      record {
-        untouched = λ p. absurd (omega arith);
-        nothing = λ p. absurd (omega arith);
-        lines = λ _. subst (λ (t : List ℕ). after ≡ t ++ drop (length t) before) (refusal-text panel e) (f .line (omega arith));
-        counted = λ _. subst (λ (t : List ℕ). end ≡ length t) (refusal-text panel e) (f .counted (omega arith));
-        enough = omega (arith, f .enough);
-      }
+  refusal-shown e f = subst (λ (t : List ℕ). Fills t panelRoom before after end) (refusal-text panel e) (widened room (omega arith) f)

@@ -17,14 +17,18 @@ pub record Appended (before : List ℕ) (at : ℕ) (bytes : List ℕ) (room : �
   pub moved : next ≡ at + length bytes
   pub small : length bytes ≤ room
 
+-- a text written to a lent buffer: one below the room is left as it was, and 0 handed back; else the text stands at its start, every byte after it is as
+-- it was, and its length is handed back
+pub record Fills (line : List ℕ) (room : ℕ) (before after : List ℕ) (count : ℕ) : Type 0 where
+  pub untouched : length before < room → after ≡ before
+  pub nothing : length before < room → count ≡ 0
+  pub stands : room ≤ length before → after ≡ line ++ drop (length line) before
+  pub counted : room ≤ length before → count ≡ length line
+  pub enough : count ≤ room
+
 -- the buffer's least size, enough for the line of any answer
 abbrev pub lineRoom : ℕ
 lineRoom = 256
 
--- a buffer below that size is left as it was; else the line stands at its start and every byte after it is as it was
-pub record Written (answer : Answer) (before after : List ℕ) (count : ℕ) : Type 0 where
-  pub untouched : length before < lineRoom → after ≡ before
-  pub nothing : length before < lineRoom → count ≡ 0
-  pub line : lineRoom ≤ length before → after ≡ lineOf answer ++ drop (length (lineOf answer)) before
-  pub counted : lineRoom ≤ length before → count ≡ length (lineOf answer)
-  pub enough : count ≤ lineRoom
+abbrev pub Written : Answer → List ℕ → List ℕ → ℕ → Type 0
+Written answer = Fills (lineOf answer) lineRoom

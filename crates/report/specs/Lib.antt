@@ -1,7 +1,8 @@
 -- What a reader must believe of the printed line: the line as bytes (Text, Line), what writing it into a buffer means (Append), lines spelt out
--- (Examples), and the panel's lines (Panel).
+-- (Examples), the panel's lines (Panel), and the line of a typed text (Typed).
 pub mod Text
 pub mod Line
 pub mod Append
 pub mod Examples
 pub mod Panel
+pub mod Typed

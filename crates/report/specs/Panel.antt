@@ -1,16 +1,16 @@
 -- The panel as bytes: one line a rule, its label, then its slack's numerator and denominator, in decimal, one space between them; for a refused book the
 -- line that the plan program has for it.
-use mathlib.Core.Path.{_≡_}
 use mathlib.Core.List.{List, [], _∷_, _++_}
 use mathlib.Core.Bool.{cond}
-use Prim.Native.Nat.{ℕ, _≤_, _<_}
+use Prim.Native.Nat.{ℕ}
 use lib.Dec.{eqb}
-use lib.ListN.{length, take, drop}
+use lib.ListN.{take}
 use Rattle.report.specs.declared.panel.Row.{Row}
 use Rattle.report.specs.declared.panel.Panel.{Panel}
 use Rattle.report.specs.declared.Answer.the-variants.{Refused}
 use Rattle.report.specs.Text.{text}
 use Rattle.report.specs.Line.{decimal, integer, lineOf}
+use Rattle.report.specs.Append.{Fills}
 
 unfoldable pub rowLine : Row → List ℕ
 rowLine r = decimal (r .label) ++ (integer (r .slack .numerator) ++ (integer (r .slack .denominator) ++ text "\n"))
@@ -26,10 +26,5 @@ panelText p = cond (eqb (p .number) 0) (rowLines (take (p .n) (p .rows))) (lineO
 abbrev pub panelRoom : ℕ
 panelRoom = 16384
 
--- a buffer below that size is left as it was; else the lines stand at its start and every byte after them is as it was
-pub record Shown (panel : Panel) (before after : List ℕ) (count : ℕ) : Type 0 where
-  pub untouched : length before < panelRoom → after ≡ before
-  pub nothing : length before < panelRoom → count ≡ 0
-  pub lines : panelRoom ≤ length before → after ≡ panelText panel ++ drop (length (panelText panel)) before
-  pub counted : panelRoom ≤ length before → count ≡ length (panelText panel)
-  pub enough : count ≤ panelRoom
+abbrev pub Shown : Panel → List ℕ → List ℕ → ℕ → Type 0
+Shown panel = Fills (panelText panel) panelRoom

@@ -13,7 +13,8 @@ ghost use Rattle.report.specs.Line.{pair, direction, counts, entry, entr
 ghost use Rattle.report.specs.Append.{Room, Appended, Written};
 
 pub mod panel;
-pub mod text;
+mod text;
+pub mod typed;
 
 // What an accepted book gets: its outcome, the two counts, and, where it is impossible, the place and a witness (else both zero). A witness's
 // entries rise: 0 is floor x, 1 is floor y, and r + 1 is the rule in record r. Entries that it does not use come last, and are zero

@@ -1,2 +1,2 @@
--- The printed line.
-pub mod Line
+-- What of the input is the text.
+pub mod Feed

@@ -1,14 +1,16 @@
 -- `report::write_line` meets its contract. A small buffer is left alone; else the fields and the line feed make up the line.
 use native.Mathlib.Omega.{arith}
 use borrow.Author.Needs.{needs}
-use Rattle.report.proofs.Put.{too-small, line-stands}
+use Rattle.report.specs.Line.{lineOf}
+use Rattle.report.specs.Append.{lineRoom}
+use Rattle.report.proofs.Put.{too-small, filled, followed}
 use Rattle.report.proofs.write_line.Statement.{statement}
 use Rattle.report.proofs.write_line.Tie as tie
 
 returns : tie.Need-returns
 returns c =
     let start = c .before .before in
-    too-small (start .args .answer) (start .args .out .now) (omega arith)
+    too-small (lineOf (start .args .answer)) lineRoom (start .args .out .now) (omega arith)
 
 append-fields-requires : tie.Need-append-fields-requires
 append-fields-requires c κs = search needs
@@ -26,11 +28,11 @@ same-length : tie.Need-same-length
 same-length c = search needs
 
 returns-2 : tie.Need-returns-2
+unfolding lineOf
 returns-2 c =
     let feed = c .before .before in
     let fields = feed .before .before .before .before .before in
-    let start = fields .before .before .before .before in
-    line-stands (start .args .answer) (omega arith) (omega arith) (fields .append-fields .ensures) (feed .append-word .ensures)
+    rw (feed .append-word .ensures .moved) at (filled {room = lineRoom} (omega arith) (omega arith) (followed (fields .append-fields .ensures) (feed .append-word .ensures)))
 
 pub write-line-spec : {M : Type 1} → statement M
 write-line-spec =

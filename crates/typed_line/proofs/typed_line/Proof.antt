@@ -1,45 +1,49 @@
--- `typed_line::typed_line` meets its contract: the line of a text, at the start of a buffer of at least 89 bytes, and its length.
-use mathlib.Core.Path.{ap}
-use Rattle.report.proofs.Put.{followed, spelt}
-use Rattle.typed_line.specs.Line.{lineOf}
+-- `typed_line::typed_line` meets its contract. The bytes read are the text, and the line is that of what they read as.
+use mathlib.Core.Path.{sym, ap, _∙_, subst}
+use lib.Seq.{length-take-le}
 use borrow.Author.Needs.{needs}
+use Rattle.typed_rules.specs.declared.Typed.{Typed}
+use Rattle.typed_rules.specs.Parser.{answer}
+use Rattle.report.specs.Typed.{TypedWritten}
 use Rattle.typed_line.proofs.typed_line.Statement.{statement}
 use Rattle.typed_line.proofs.typed_line.Tie as tie
-use Rattle.typed_line.proofs.typed_line.Reads as reads
-use Rattle.typed_line.proofs.typed_line.Lts as lts
-use Rattle.report.proofs.text.append_word.Reads as append-word-reads
-use Rattle.typed_line.proofs.append_typed.Reads as append-typed-reads
-use Rattle.typed_rules.proofs.read_rule.Reads as read-rule-reads
+
+text-length-requires : tie.Need-text-length-requires
+text-length-requires c κs = search needs
+
+slice-aggregate-read-rule : tie.Need-slice-aggregate-read-rule
+slice-aggregate-read-rule c =
+    let text = c .before .text-length in
+    let start = c .before .before .before .before in
+    sym (length-take-le (text .result) (start .args .input .now) (text .ensures .within))
 
 read-rule-requires : tie.Need-read-rule-requires
 read-rule-requires c κs = search needs
 
-append-typed-requires : tie.Need-append-typed-requires
-append-typed-requires c κs = search needs
-
-slice-aggregate-append-word : tie.Need-slice-aggregate-append-word
-slice-aggregate-append-word c = search needs
-
-append-word-requires : tie.Need-append-word-requires
-append-word-requires c κs = search needs
+write-typed-requires : tie.Need-write-typed-requires
+write-typed-requires c κs = search needs
 
 same-length : tie.Need-same-length
 same-length c = search needs
 
 returns : tie.Need-returns
-unfolding lineOf
 returns c =
-    let word = c .before .before in
-    let typed = word .before .before .before .before .before in
-    spelt (ap lineOf (typed .before .before .read-rule .ensures)) (followed (typed .append-typed .ensures) (word .append-word .ensures))
+    let write = c .before .before in
+    let read = write .before .before in
+    let text = read .before .before in
+    let start = text .before .before .before in
+    subst
+    (λ (t : Typed). TypedWritten t (start .args .out .now) (write .write-typed .last .1 .0) (write .write-typed .result))
+    (read .read-rule .ensures ∙ ap answer (text .text-length .ensures .text))
+    (write .write-typed .ensures)
 
 pub typed-line-spec : {M : Type 1} → statement M
 typed-line-spec =
     tie.close
     (tie.spec
+    text-length-requires
+    slice-aggregate-read-rule
     read-rule-requires
-    append-typed-requires
-    slice-aggregate-append-word
-    append-word-requires
+    write-typed-requires
     same-length
     returns)

@@ -5,10 +5,6 @@ use lib.Seq.{length-take-le}
 use borrow.Author.Needs.{needs}
 use Rattle.typed_vectors.proofs.show.Statement.{statement}
 use Rattle.typed_vectors.proofs.show.Tie as tie
-use Rattle.typed_vectors.proofs.show.Reads as reads
-use Rattle.typed_vectors.proofs.show.Lts as lts
-use Rattle.io.proofs.write_all.Reads as write-all-reads
-use Rattle.typed_line.proofs.typed_line.Reads as typed-line-reads
 
 slice-aggregate-typed-line : tie.Need-slice-aggregate-typed-line
 slice-aggregate-typed-line c = search needs
@@ -22,7 +18,7 @@ array-share-prefix-line c = search needs
 slice-aggregate-write-all : tie.Need-slice-aggregate-write-all
 slice-aggregate-write-all c =
     let written = c .before .before .typed-line in
-    sym (length-take-le (written .result) (written .last .1 .0) (omega (arith, written .ensures .moved, written .ensures .small)))
+    sym (length-take-le (written .result) (written .last .1 .0) (omega (arith, written .ensures .enough)))
 
 write-all-requires : tie.Need-write-all-requires
 write-all-requires c κs = search needs

@@ -1,12 +1,14 @@
 -- `report::panel::write_panel` meets its contract. A small buffer is left alone; else the rows' lines or the refusal's line stand at its start.
 use native.Mathlib.Omega.{arith}
 use borrow.Author.Needs.{needs}
-use Rattle.report.proofs.Rows.{too-narrow, rows-shown, refusal-shown}
+use Rattle.report.specs.Panel.{panelText, panelRoom}
+use Rattle.report.proofs.Put.{too-small}
+use Rattle.report.proofs.Rows.{rows-shown, refusal-shown}
 use Rattle.report.proofs.panel.write_panel.Statement.{statement}
 use Rattle.report.proofs.panel.write_panel.Tie as tie
 
 returns : tie.Need-returns
-returns c = let start = c .before .before in too-narrow (start .args .panel) (start .args .out .now) (omega arith)
+returns c = let start = c .before .before in too-small (panelText (start .args .panel)) panelRoom (start .args .out .now) (omega arith)
 
 append-rows-requires : tie.Need-append-rows-requires
 append-rows-requires c κs = record { free = omega arith }

@@ -1,15 +1,11 @@
--- `typed_line::append_typed` meets its contract.
+-- `report::typed::append_typed` meets its contract.
 use mathlib.Core.Path.{ap, sym}
 use native.Mathlib.Omega.{arith}
 use Rattle.report.proofs.Put.{spelt, roomier}
-use Rattle.typed_line.specs.Line.{typedFields}
+use Rattle.report.specs.Typed.{typedFields}
 use borrow.Author.Needs.{needs}
-use Rattle.typed_line.proofs.append_typed.Statement.{statement}
-use Rattle.typed_line.proofs.append_typed.Tie as tie
-use Rattle.typed_line.proofs.append_typed.Reads as reads
-use Rattle.typed_line.proofs.append_typed.Lts as lts
-use Rattle.typed_line.proofs.append_refusal.Reads as append-refusal-reads
-use Rattle.typed_line.proofs.append_rule.Reads as append-rule-reads
+use Rattle.report.proofs.typed.append_typed.Statement.{statement}
+use Rattle.report.proofs.typed.append_typed.Tie as tie
 
 enum-known-t : tie.Need-enum-known-t
 enum-known-t c = search needs
@@ -20,8 +16,8 @@ append-rule-requires c κs = search needs
 enum-known-t-2 : tie.Need-enum-known-t-2
 enum-known-t-2 c = search needs
 
-append-refusal-requires : tie.Need-append-refusal-requires
-append-refusal-requires c κs = search needs
+append-refused-requires : tie.Need-append-refused-requires
+append-refused-requires c κs = search needs
 
 same-length : tie.Need-same-length
 same-length c = search needs
@@ -39,7 +35,7 @@ returns-2 : tie.Need-returns-2
 unfolding typedFields
 returns-2 c =
     let line = c .before .before in
-    spelt (ap typedFields (sym (line .before .before .before .t2 .given .1))) (roomier (omega arith) (line .append-refusal .ensures))
+    spelt (ap typedFields (sym (line .before .before .before .t2 .given .1))) (roomier (omega arith) (line .append-refused .ensures))
 
 pub append-typed-spec : {M : Type 1} → statement M
 append-typed-spec =
@@ -48,7 +44,7 @@ append-typed-spec =
     enum-known-t
     append-rule-requires
     enum-known-t-2
-    append-refusal-requires
+    append-refused-requires
     same-length
     returns
     same-length-2

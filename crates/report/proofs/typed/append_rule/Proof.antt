@@ -1,15 +1,10 @@
--- `typed_line::append_rule` meets its contract.
+-- `report::typed::append_rule` meets its contract.
 use Rattle.report.proofs.Put.{followed}
 use Rattle.report.proofs.Integer.{whole}
-use Rattle.typed_line.specs.Line.{ruleFields}
+use Rattle.report.specs.Typed.{ruleFields}
 use borrow.Author.Needs.{needs}
-use Rattle.typed_line.proofs.append_rule.Statement.{statement}
-use Rattle.typed_line.proofs.append_rule.Tie as tie
-use Rattle.typed_line.proofs.append_rule.Reads as reads
-use Rattle.typed_line.proofs.append_rule.Lts as lts
-use Rattle.report.proofs.text.append_integer.Reads as append-integer-reads
-use Rattle.report.proofs.text.append_number.Reads as append-number-reads
-use Rattle.report.proofs.text.append_word.Reads as append-word-reads
+use Rattle.report.proofs.typed.append_rule.Statement.{statement}
+use Rattle.report.proofs.typed.append_rule.Tie as tie
 
 slice-aggregate-append-word : tie.Need-slice-aggregate-append-word
 slice-aggregate-append-word c = search needs

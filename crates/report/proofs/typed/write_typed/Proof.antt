@@ -1,0 +1,42 @@
+-- `report::typed::write_typed` meets its contract. A small buffer is left alone; else the fields and the line feed make up the line.
+use native.Mathlib.Omega.{arith}
+use borrow.Author.Needs.{needs}
+use Rattle.report.specs.Typed.{typedLine, typedRoom}
+use Rattle.report.proofs.Put.{too-small, filled, followed}
+use Rattle.report.proofs.typed.write_typed.Statement.{statement}
+use Rattle.report.proofs.typed.write_typed.Tie as tie
+
+returns : tie.Need-returns
+returns c =
+    let start = c .before .before in
+    too-small (typedLine (start .args .t)) typedRoom (start .args .out .now) (omega arith)
+
+append-typed-requires : tie.Need-append-typed-requires
+append-typed-requires c κs = search needs
+
+slice-aggregate-append-word : tie.Need-slice-aggregate-append-word
+slice-aggregate-append-word c = search needs
+
+append-word-requires : tie.Need-append-word-requires
+append-word-requires c κs = search needs
+
+same-length : tie.Need-same-length
+same-length c = search needs
+
+returns-2 : tie.Need-returns-2
+unfolding typedLine
+returns-2 c =
+    let feed = c .before .before in
+    let fields = feed .before .before .before .before .before in
+    filled {room = typedRoom} (omega arith) (omega arith) (followed (fields .append-typed .ensures) (feed .append-word .ensures))
+
+pub write-typed-spec : {M : Type 1} → statement M
+write-typed-spec =
+    tie.close
+    (tie.spec
+    returns
+    append-typed-requires
+    slice-aggregate-append-word
+    append-word-requires
+    same-length
+    returns-2)

@@ -1,0 +1,43 @@
+// The line of what a typed text reads as: `rule kind a b c`, or `refused number 0`.
+use crate::append_refused;
+use crate::text::append_integer;
+use crate::text::append_number;
+use crate::text::append_word;
+use typed_rules::Typed;
+use typed_rules::Written;
+ghost use Rattle.report.specs.Append.{Room, Appended};
+ghost use Rattle.report.specs.Typed.{ruleFields, typedFields, TypedWritten};
+
+// The line of a rule, but for its line feed.
+fn append_rule(w: Written, out: &mut [u8]) -> usize
+    requires { ⌜ Room (now out) 0 88 ⌝ }
+    ensures { λ r. ⌜ Appended (now (out .entry)) 0 (ruleFields w) 88 (now (out .exit)) r ⌝ }
+{
+    let kind = append_word(b"rule", out, 0);
+    let a = append_number(w.kind, out, kind);
+    let b = append_integer(w.a, out, a);
+    let c = append_integer(w.b, out, b);
+    append_integer(w.c, out, c)
+}
+
+// The line of a typed text, but for its line feed. A refusal names no record.
+fn append_typed(t: Typed, out: &mut [u8]) -> usize
+    requires { ⌜ Room (now out) 0 88 ⌝ }
+    ensures { λ r. ⌜ Appended (now (out .entry)) 0 (typedFields t) 88 (now (out .exit)) r ⌝ }
+{
+    match t {
+        Typed::Rule(w) => append_rule(w, out),
+        Typed::Refused(number) => append_refused(number, 0, out),
+    }
+}
+
+// The line of a typed text, at the start of a buffer of at least 96 bytes, and its length. A smaller buffer is left as it is, and 0 handed back.
+pub fn write_typed(t: Typed, out: &mut [u8]) -> usize
+    ensures { λ r. ⌜ TypedWritten t (now (out .entry)) (now (out .exit)) r ⌝ }
+{
+    if out.len() < 96 {
+        return 0;
+    }
+    let end = append_typed(t, out);
+    append_word(b"\n", out, end)
+}
