@@ -1,4 +1,5 @@
--- Answers with their lines, spelt out. In a witness 0 is floor x, 1 is floor y, and r + 1 is the rule in record r.
+-- Answers with their lines, spelt out, and rows of a panel and typed texts with theirs. In a witness 0 is floor x, 1 is floor y, and r + 1 is the rule
+-- in record r.
 use mathlib.Core.List.{List, [], _∷_}
 use Prim.Native.Nat.{ℕ}
 use Prim.Native.String.{String}
@@ -7,8 +8,11 @@ use Rattle.lp.specs.declared.Outcome.{Outcome}
 use Rattle.lp.specs.declared.Outcome.the-variants.{Infeasible, Unbounded, Optimal}
 use Rattle.lp.specs.declared.Certificate.{Certificate}
 use Rattle.lp.specs.Program.{point, ray}
+use Rattle.typed_rules.specs.declared.Typed.{Typed}
+use Rattle.typed_rules.specs.declared.Typed.the-variants as typed
 use Rattle.report.specs.declared.Answer.{Answer}
 use Rattle.report.specs.declared.Answer.the-variants.{Refused, Planned}
+use Rattle.report.specs.declared.panel.Row.{Row}
 
 pub record Example : Type 0 where
   pub answer : Answer
@@ -54,4 +58,31 @@ examples =
     ∷ row (none 1 1 0 (weights 2 (pos 1) 0 (pos 0) 0 (pos 0))) "impossible 1 1 0 1 1 1\n"
     ∷ row (Refused 7 0) "refused 7 0\n"
     ∷ row (Refused 10 18446744073709551615) "refused 10 18446744073709551615\n"
+    ∷ []
+
+-- ---- a panel's rows: label, numerator and denominator of the slack
+
+abbrev slack : ℕ → ℤ → ℤ → Row
+slack label numerator denominator = record { label = label; slack = record { numerator = numerator; denominator = denominator } }
+
+abbrev pub rows : List Row
+rows = slack 7 (pos 0) (pos 1) ∷ slack 300 (pos 9) (pos 5) ∷ slack 65535 (negsuc 11) (pos 7) ∷ []
+
+abbrev pub rowsSpelt : String
+rowsSpelt = "7 0 1\n300 9 5\n65535 -12 7\n"
+
+-- ---- typed texts: kind, a, b and c, or the refusal
+
+abbrev rule : ℕ → ℤ → ℤ → ℤ → Typed
+rule kind a b c = typed.Rule (record { kind = kind; a = a; b = b; c = c })
+
+pub record TypedExample : Type 0 where
+  pub typed : Typed
+  pub line : String
+
+abbrev pub typedExamples : List TypedExample
+typedExamples =
+    record { typed = rule 1 (pos 1) (pos 5) (pos 40); line = "rule 1 1 5 40\n" }
+    ∷ record { typed = rule 2 (negsuc 32766) (pos 0) (negsuc 999999999); line = "rule 2 -32767 0 -1000000000\n" }
+    ∷ record { typed = typed.Refused 13; line = "refused 13 0\n" }
     ∷ []
