@@ -8,7 +8,7 @@ use native.Mathlib.Nat.{pow-succ', lt-of-lt-of-le}
 use native.Mathlib.Omega.{arith}
 use lib.Dec.{ltb, lit≤}
 use lib.ListN.{length, length-append}
-use mir.Syntax.{w64}
+use mir.Syntax.{w16, w64}
 use mir.Val.{Fits}
 use borrow.Author.Tests.{ltb-true, ltb-false}
 use Rattle.report.specs.Line.{digits, decimal}
@@ -66,3 +66,7 @@ decimal-short (suc k) n h = ⊎-elim (λ p. omega (arith, decimal-one n p)) (λ 
 -- any u64 has at most 20 digits
 pub decimal-usize : (n : ℕ) → Fits w64 n → length (decimal n) ≤ 20
 decimal-usize n h = decimal-short 19 n (lt-of-lt-of-le (h .fits) (lit≤ tt))
+
+-- any u16 at most 5
+pub decimal-u16 : (n : ℕ) → Fits w16 n → length (decimal n) ≤ 5
+decimal-u16 n h = decimal-short 4 n (lt-of-lt-of-le (h .fits) (lit≤ tt))

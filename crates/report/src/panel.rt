@@ -7,6 +7,7 @@ use crate::write_line;
 use lp::Amount;
 ghost use Prim.Native.Nat.{_*_};
 ghost use lib.ListN.{take};
+ghost use Rattle.report.specs.Line.{decimal};
 ghost use Rattle.report.specs.Append.{Room, Appended};
 ghost use Rattle.report.specs.Panel.{rowLine, rowLines, Shown};
 
@@ -24,13 +25,21 @@ pub struct Panel {
     pub rows: [Row; 255],
 }
 
+// A label in decimal.
+fn append_label(label: u16, out: &mut [u8], at: usize) -> usize
+    requires { ⌜ Room (now out) at 5 ⌝ }
+    ensures { λ r. ⌜ Appended (now (out .entry)) at (decimal label) 5 (now (out .exit)) r ⌝ }
+{
+    append_decimal(label as usize, out, at)
+}
+
 // A rule's line.
 fn append_row(row: Row, out: &mut [u8], at: usize) -> usize
     requires { ⌜ Room (now out) at 64 ⌝ }
     ensures { λ r. ⌜ Appended (now (out .entry)) at (rowLine row) 64 (now (out .exit)) r ⌝ }
 {
     let slack = row.slack;
-    let numerator = append_decimal(row.label as usize, out, at);
+    let numerator = append_label(row.label, out, at);
     let denominator = append_integer(slack.numerator, out, numerator);
     let end = append_integer(slack.denominator, out, denominator);
     append_word(b"\n", out, end)
