@@ -1,4 +1,4 @@
--- Bytes put after bytes: two runs of stores, the second where the first ended, are one.
+-- Bytes put after bytes: two runs of stores, the second where the first ended, are one. What such a run makes of a buffer that it fills.
 use mathlib.Core.Path.{_≡_, refl, ap, sym, _∙_, subst}
 use mathlib.Core.List.{List, [], _∷_, _++_}
 use Prim.Native.Nat.{ℕ, suc, _+_, _≤_, _<_}
@@ -62,23 +62,23 @@ too-small line room out h =
       enough = omega arith;
     }
 
-pub filled : {line before after : List ℕ} {room small count : ℕ} → room ≤ length before → small ≤ room → Appended before 0 line small after count → Fills line room before after count
-filled {line} {before} {after} {room} {small} {count} h k f =
+enough-room : {line before after : List ℕ} {room count : ℕ} → room ≤ length before → after ≡ line ++ drop (length line) before → count ≡ length line → count ≤ room → Fills line room before after count
+enough-room h stands counted enough =
     record {
       untouched = λ p. absurd (omega arith);
       nothing = λ p. absurd (omega arith);
-      stands = λ _. f .stored ∙ sets-eq line before 0 (omega (arith, f .small)) ∙ ap (λ (n : ℕ). line ++ drop n before) (zero-add (length line));
-      counted = λ _. omega (arith, f .moved);
-      enough = omega (arith, f .moved, f .small);
+      stands = λ _. stands;
+      counted = λ _. counted;
+      enough = enough;
     }
+
+pub filled : {line before after : List ℕ} {room small count : ℕ} → room ≤ length before → small ≤ room → Appended before 0 line small after count → Fills line room before after count
+filled {line} {before} h k f =
+    enough-room h
+    (f .stored ∙ sets-eq line before 0 (omega (arith, f .small)) ∙ ap (λ (n : ℕ). line ++ drop n before) (zero-add (length line)))
+    (omega (arith, f .moved))
+    (omega (arith, f .moved, f .small))
 
 -- a text that fills less room fills more
 pub widened : {line before after : List ℕ} {room small count : ℕ} → room ≤ length before → small ≤ room → Fills line small before after count → Fills line room before after count
-widened {line} {before} {after} {room} {small} {count} h k f =
-    record {
-      untouched = λ p. absurd (omega arith);
-      nothing = λ p. absurd (omega arith);
-      stands = λ _. f .stands (omega arith);
-      counted = λ _. f .counted (omega arith);
-      enough = omega (arith, f .enough);
-    }
+widened h k f = enough-room h (f .stands (omega arith)) (f .counted (omega arith)) (omega (arith, f .enough))
