@@ -5,15 +5,6 @@ use Rattle.report.proofs.Put.{followed}
 use Rattle.report.proofs.append_counts.Statement.{statement}
 use Rattle.report.proofs.append_counts.Tie as tie
 
-append-number-requires : tie.Need-append-number-requires
-append-number-requires c κs = search needs
-
-append-number-requires-2 : tie.Need-append-number-requires-2
-append-number-requires-2 c κs = search needs
-
-same-length : tie.Need-same-length
-same-length c = search needs
-
 returns : tie.Need-returns
 unfolding counts
 returns c =
@@ -23,4 +14,5 @@ returns c =
 
 pub append-counts-spec : {M : Type 1} → statement M
 append-counts-spec =
-    tie.close (tie.spec append-number-requires append-number-requires-2 same-length returns)
+    tie.close
+    (tie.spec (λ c κs. search needs) (λ c κs. search needs) (λ c. search needs) returns)

@@ -6,15 +6,6 @@ use Rattle.report.proofs.Integer.{whole}
 use Rattle.report.proofs.append_direction.Statement.{statement}
 use Rattle.report.proofs.append_direction.Tie as tie
 
-append-integer-requires : tie.Need-append-integer-requires
-append-integer-requires c κs = search needs
-
-append-integer-requires-2 : tie.Need-append-integer-requires-2
-append-integer-requires-2 c κs = search needs
-
-same-length : tie.Need-same-length
-same-length c = search needs
-
 returns : tie.Need-returns
 unfolding direction
 returns c =
@@ -27,4 +18,5 @@ returns c =
 
 pub append-direction-spec : {M : Type 1} → statement M
 append-direction-spec =
-    tie.close (tie.spec append-integer-requires append-integer-requires-2 same-length returns)
+    tie.close
+    (tie.spec (λ c κs. search needs) (λ c κs. search needs) (λ c. search needs) returns)

@@ -8,27 +8,6 @@ use Rattle.report.proofs.Witness.{entry-record}
 use Rattle.report.proofs.append_entry.Statement.{statement}
 use Rattle.report.proofs.append_entry.Tie as tie
 
-slice-aggregate-append-word : tie.Need-slice-aggregate-append-word
-slice-aggregate-append-word c = search needs
-
-append-word-requires : tie.Need-append-word-requires
-append-word-requires c κs = search needs
-
-slice-aggregate-append-word-2 : tie.Need-slice-aggregate-append-word-2
-slice-aggregate-append-word-2 c = search needs
-
-append-word-requires-2 : tie.Need-append-word-requires-2
-append-word-requires-2 c κs = search needs
-
-sub-append-number : tie.Need-sub-append-number
-sub-append-number c = search needs
-
-append-number-requires : tie.Need-append-number-requires
-append-number-requires c κs = search needs
-
-same-length : tie.Need-same-length
-same-length c = search needs
-
 returns : tie.Need-returns
 unfolding entry
 returns c =
@@ -36,18 +15,12 @@ returns c =
     let test = word .before .before .before in
     roomier (omega arith) (spelt (ap entry (sym (test .if1 .taken))) (word .append-word .ensures))
 
-same-length-2 : tie.Need-same-length-2
-same-length-2 c = search needs
-
 returns-2 : tie.Need-returns-2
 unfolding entry
 returns-2 c =
     let word = c .before .before in
     let test = word .before .before .before in
     roomier (omega arith) (spelt (ap entry (sym (test .if2 .taken))) (word .append-word2 .ensures))
-
-same-length-3 : tie.Need-same-length-3
-same-length-3 c = search needs
 
 returns-3 : tie.Need-returns-3
 returns-3 c =
@@ -60,16 +33,5 @@ returns-3 c =
 pub append-entry-spec : {M : Type 1} → statement M
 append-entry-spec =
     tie.close
-    (tie.spec
-    slice-aggregate-append-word
-    append-word-requires
-    slice-aggregate-append-word-2
-    append-word-requires-2
-    sub-append-number
-    append-number-requires
-    same-length
-    returns
-    same-length-2
-    returns-2
-    same-length-3
-    returns-3)
+    (tie.spec (λ c. search needs) (λ c κs. search needs) (λ c. search needs) (λ c κs. search needs) (λ c. search needs) (λ c κs. search needs)
+    (λ c. search needs) returns (λ c. search needs) returns-2 (λ c. search needs) returns-3)

@@ -5,24 +5,6 @@ use Rattle.report.proofs.Put.{followed}
 use Rattle.report.proofs.append_impossible.Statement.{statement}
 use Rattle.report.proofs.append_impossible.Tie as tie
 
-slice-aggregate-append-word : tie.Need-slice-aggregate-append-word
-slice-aggregate-append-word c = search needs
-
-append-word-requires : tie.Need-append-word-requires
-append-word-requires c κs = search needs
-
-append-number-requires : tie.Need-append-number-requires
-append-number-requires c κs = search needs
-
-append-counts-requires : tie.Need-append-counts-requires
-append-counts-requires c κs = search needs
-
-append-witness-requires : tie.Need-append-witness-requires
-append-witness-requires c κs = search needs
-
-same-length : tie.Need-same-length
-same-length c = search needs
-
 returns : tie.Need-returns
 unfolding fields
 returns c =
@@ -36,11 +18,5 @@ returns c =
 pub append-impossible-spec : {M : Type 1} → statement M
 append-impossible-spec =
     tie.close
-    (tie.spec
-    slice-aggregate-append-word
-    append-word-requires
-    append-number-requires
-    append-counts-requires
-    append-witness-requires
-    same-length
+    (tie.spec (λ c. search needs) (λ c κs. search needs) (λ c κs. search needs) (λ c κs. search needs) (λ c κs. search needs) (λ c. search needs)
     returns)

@@ -6,18 +6,6 @@ use Rattle.report.proofs.Integer.{whole}
 use Rattle.report.proofs.append_pair.Statement.{statement}
 use Rattle.report.proofs.append_pair.Tie as tie
 
-append-integer-requires : tie.Need-append-integer-requires
-append-integer-requires c κs = search needs
-
-append-integer-requires-2 : tie.Need-append-integer-requires-2
-append-integer-requires-2 c κs = search needs
-
-append-integer-requires-3 : tie.Need-append-integer-requires-3
-append-integer-requires-3 c κs = search needs
-
-same-length : tie.Need-same-length
-same-length c = search needs
-
 returns : tie.Need-returns
 unfolding pair
 returns c =
@@ -34,9 +22,4 @@ returns c =
 pub append-pair-spec : {M : Type 1} → statement M
 append-pair-spec =
     tie.close
-    (tie.spec
-    append-integer-requires
-    append-integer-requires-2
-    append-integer-requires-3
-    same-length
-    returns)
+    (tie.spec (λ c κs. search needs) (λ c κs. search needs) (λ c κs. search needs) (λ c. search needs) returns)

@@ -5,21 +5,6 @@ use Rattle.report.proofs.Put.{followed}
 use Rattle.report.proofs.append_refused.Statement.{statement}
 use Rattle.report.proofs.append_refused.Tie as tie
 
-slice-aggregate-append-word : tie.Need-slice-aggregate-append-word
-slice-aggregate-append-word c = search needs
-
-append-word-requires : tie.Need-append-word-requires
-append-word-requires c κs = search needs
-
-append-number-requires : tie.Need-append-number-requires
-append-number-requires c κs = search needs
-
-append-number-requires-2 : tie.Need-append-number-requires-2
-append-number-requires-2 c κs = search needs
-
-same-length : tie.Need-same-length
-same-length c = search needs
-
 returns : tie.Need-returns
 unfolding answerFields
 returns c =
@@ -31,10 +16,4 @@ returns c =
 pub append-refused-spec : {M : Type 1} → statement M
 append-refused-spec =
     tie.close
-    (tie.spec
-    slice-aggregate-append-word
-    append-word-requires
-    append-number-requires
-    append-number-requires-2
-    same-length
-    returns)
+    (tie.spec (λ c. search needs) (λ c κs. search needs) (λ c κs. search needs) (λ c κs. search needs) (λ c. search needs) returns)

@@ -5,24 +5,6 @@ use Rattle.report.proofs.Put.{followed}
 use Rattle.report.proofs.append_unlimited.Statement.{statement}
 use Rattle.report.proofs.append_unlimited.Tie as tie
 
-slice-aggregate-append-word : tie.Need-slice-aggregate-append-word
-slice-aggregate-append-word c = search needs
-
-append-word-requires : tie.Need-append-word-requires
-append-word-requires c κs = search needs
-
-append-pair-requires : tie.Need-append-pair-requires
-append-pair-requires c κs = search needs
-
-append-direction-requires : tie.Need-append-direction-requires
-append-direction-requires c κs = search needs
-
-append-counts-requires : tie.Need-append-counts-requires
-append-counts-requires c κs = search needs
-
-same-length : tie.Need-same-length
-same-length c = search needs
-
 returns : tie.Need-returns
 unfolding fields
 returns c =
@@ -36,11 +18,5 @@ returns c =
 pub append-unlimited-spec : {M : Type 1} → statement M
 append-unlimited-spec =
     tie.close
-    (tie.spec
-    slice-aggregate-append-word
-    append-word-requires
-    append-pair-requires
-    append-direction-requires
-    append-counts-requires
-    same-length
+    (tie.spec (λ c. search needs) (λ c κs. search needs) (λ c κs. search needs) (λ c κs. search needs) (λ c κs. search needs) (λ c. search needs)
     returns)

@@ -6,19 +6,10 @@ use Rattle.report.proofs.Witness.{left-out, printed}
 use Rattle.report.proofs.append_weighted.Statement.{statement}
 use Rattle.report.proofs.append_weighted.Tie as tie
 
-append-entry-requires : tie.Need-append-entry-requires
-append-entry-requires c κs = search needs
-
-append-integer-requires : tie.Need-append-integer-requires
-append-integer-requires c κs = search needs
-
 returns : tie.Need-returns
 returns c =
     let start = c .before .before in
     spelt (left-out (start .args .index) (start .args .weight) (start .fits .weight) (c .if1 .taken)) (nothing (start .args .out .now) (start .args .at) 42)
-
-same-length : tie.Need-same-length
-same-length c = search needs
 
 returns-2 : tie.Need-returns-2
 returns-2 c =
@@ -33,4 +24,4 @@ returns-2 c =
 pub append-weighted-spec : {M : Type 1} → statement M
 append-weighted-spec =
     tie.close
-    (tie.spec append-entry-requires append-integer-requires returns same-length returns-2)
+    (tie.spec (λ c κs. search needs) (λ c κs. search needs) returns (λ c. search needs) returns-2)

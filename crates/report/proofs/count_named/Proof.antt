@@ -6,19 +6,10 @@ use Rattle.report.proofs.Witness.{at-most-one, counted}
 use Rattle.report.proofs.count_named.Statement.{statement}
 use Rattle.report.proofs.count_named.Tie as tie
 
-used-requires : tie.Need-used-requires
-used-requires c κs = search needs
-
-used-requires-2 : tie.Need-used-requires-2
-used-requires-2 c κs = search needs
-
 add-result : tie.Need-add-result
 add-result c =
     let start = c .before .before .before .before in
     omega (arith, at-most-one (read (start .args .k .«first_weight»)), at-most-one (read (start .args .k .«second_weight»)))
-
-used-requires-3 : tie.Need-used-requires-3
-used-requires-3 c κs = search needs
 
 add-result-2 : tie.Need-add-result-2
 add-result-2 c =
@@ -41,4 +32,4 @@ returns c =
 pub count-named-spec : {M : Type 1} → statement M
 count-named-spec =
     tie.close
-    (tie.spec used-requires used-requires-2 add-result used-requires-3 add-result-2 returns)
+    (tie.spec (λ c κs. search needs) (λ c κs. search needs) add-result (λ c κs. search needs) add-result-2 returns)

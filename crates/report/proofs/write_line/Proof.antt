@@ -12,21 +12,6 @@ returns c =
     let start = c .before .before in
     too-small (lineOf (start .args .answer)) lineRoom (start .args .out .now) (omega arith)
 
-append-fields-requires : tie.Need-append-fields-requires
-append-fields-requires c κs = search needs
-
-slice-aggregate-append-word : tie.Need-slice-aggregate-append-word
-slice-aggregate-append-word c = search needs
-
-append-word-requires : tie.Need-append-word-requires
-append-word-requires c κs = search needs
-
-add-result : tie.Need-add-result
-add-result c = search needs
-
-same-length : tie.Need-same-length
-same-length c = search needs
-
 returns-2 : tie.Need-returns-2
 unfolding lineOf
 returns-2 c =
@@ -37,11 +22,4 @@ returns-2 c =
 pub write-line-spec : {M : Type 1} → statement M
 write-line-spec =
     tie.close
-    (tie.spec
-    returns
-    append-fields-requires
-    slice-aggregate-append-word
-    append-word-requires
-    add-result
-    same-length
-    returns-2)
+    (tie.spec returns (λ c κs. search needs) (λ c. search needs) (λ c κs. search needs) (λ c. search needs) (λ c. search needs) returns-2)

@@ -7,15 +7,6 @@ use Rattle.typed_line.proofs.text_length.Tie as tie
 returns : tie.Need-returns
 returns c = no-bytes (c .before .args .input .now) (c .if1 .taken)
 
-sub-if2 : tie.Need-sub-if2
-sub-if2 c = search needs
-
-shared-slice-read-if2 : tie.Need-shared-slice-read-if2
-shared-slice-read-if2 c = search needs
-
-sub-result : tie.Need-sub-result
-sub-result c = search needs
-
 returns-2 : tie.Need-returns-2
 returns-2 c = let start = c .before .before .before in feed-dropped (start .args .input .now) (c .if2 .taken)
 
@@ -24,4 +15,5 @@ returns-3 c = let start = c .before .before .before in all-kept (start .args .in
 
 pub text-length-spec : {M : Type 1} → statement M
 text-length-spec =
-    tie.close (tie.spec returns sub-if2 shared-slice-read-if2 sub-result returns-2 returns-3)
+    tie.close
+    (tie.spec returns (λ c. search needs) (λ c. search needs) (λ c. search needs) returns-2 returns-3)

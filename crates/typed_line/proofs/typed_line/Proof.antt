@@ -8,23 +8,11 @@ use Rattle.report.specs.Typed.{TypedWritten}
 use Rattle.typed_line.proofs.typed_line.Statement.{statement}
 use Rattle.typed_line.proofs.typed_line.Tie as tie
 
-text-length-requires : tie.Need-text-length-requires
-text-length-requires c κs = search needs
-
 slice-aggregate-read-rule : tie.Need-slice-aggregate-read-rule
 slice-aggregate-read-rule c =
     let text = c .before .text-length in
     let start = c .before .before .before .before in
     sym (length-take-le (text .result) (start .args .input .now) (text .ensures .within))
-
-read-rule-requires : tie.Need-read-rule-requires
-read-rule-requires c κs = search needs
-
-write-typed-requires : tie.Need-write-typed-requires
-write-typed-requires c κs = search needs
-
-same-length : tie.Need-same-length
-same-length c = search needs
 
 returns : tie.Need-returns
 returns c =
@@ -40,10 +28,4 @@ returns c =
 pub typed-line-spec : {M : Type 1} → statement M
 typed-line-spec =
     tie.close
-    (tie.spec
-    text-length-requires
-    slice-aggregate-read-rule
-    read-rule-requires
-    write-typed-requires
-    same-length
-    returns)
+    (tie.spec (λ c κs. search needs) slice-aggregate-read-rule (λ c κs. search needs) (λ c κs. search needs) (λ c. search needs) returns)

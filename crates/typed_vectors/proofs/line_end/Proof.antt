@@ -4,8 +4,6 @@ use native.Mathlib.Omega.{arith}
 use lib.ListN.{length}
 use Rattle.typed_vectors.proofs.line_end.Statement.{statement}
 use Rattle.typed_vectors.proofs.line_end.Tie as tie
-use Rattle.typed_vectors.proofs.line_end.Reads as reads
-use Rattle.typed_vectors.proofs.line_end.Lts as lts
 
 abbrev Inv-loop : tie.InvT-loop
 Inv-loop input at i₀ i = (at ≤ i) × (i ≤ length input)

@@ -11,9 +11,6 @@ append-decimal-requires c κs =
     let start = c .before .before in
     record { free = omega (arith, decimal-u16 (start .args .label) (start .fits .label)) }
 
-same-length : tie.Need-same-length
-same-length c = search needs
-
 returns : tie.Need-returns
 returns c =
     let digits = c .before .before in
@@ -21,4 +18,5 @@ returns c =
     roomier (decimal-u16 (start .args .label) (start .fits .label)) (digits .append-decimal .ensures)
 
 pub append-label-spec : {M : Type 1} → statement M
-append-label-spec = tie.close (tie.spec append-decimal-requires same-length returns)
+append-label-spec = tie.close
+    (tie.spec append-decimal-requires (λ c. search needs) returns)

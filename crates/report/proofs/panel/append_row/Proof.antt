@@ -7,24 +7,6 @@ use Rattle.report.proofs.Integer.{whole}
 use Rattle.report.proofs.panel.append_row.Statement.{statement}
 use Rattle.report.proofs.panel.append_row.Tie as tie
 
-append-label-requires : tie.Need-append-label-requires
-append-label-requires c κs = search needs
-
-append-integer-requires : tie.Need-append-integer-requires
-append-integer-requires c κs = search needs
-
-append-integer-requires-2 : tie.Need-append-integer-requires-2
-append-integer-requires-2 c κs = search needs
-
-slice-aggregate-append-word : tie.Need-slice-aggregate-append-word
-slice-aggregate-append-word c = search needs
-
-append-word-requires : tie.Need-append-word-requires
-append-word-requires c κs = search needs
-
-same-length : tie.Need-same-length
-same-length c = search needs
-
 returns : tie.Need-returns
 unfolding rowLine
 returns c =
@@ -44,11 +26,5 @@ returns c =
 pub append-row-spec : {M : Type 1} → statement M
 append-row-spec =
     tie.close
-    (tie.spec
-    append-label-requires
-    append-integer-requires
-    append-integer-requires-2
-    slice-aggregate-append-word
-    append-word-requires
-    same-length
+    (tie.spec (λ c κs. search needs) (λ c κs. search needs) (λ c κs. search needs) (λ c. search needs) (λ c κs. search needs) (λ c. search needs)
     returns)

@@ -13,23 +13,8 @@ returns c = let start = c .before .before in too-small (panelText (start .args .
 append-rows-requires : tie.Need-append-rows-requires
 append-rows-requires c κs = record { free = omega arith }
 
-cast-t10 : tie.Need-cast-t10
-cast-t10 c = search needs
-
-cast-t11 : tie.Need-cast-t11
-cast-t11 c = search needs
-
-write-line-requires : tie.Need-write-line-requires
-write-line-requires c κs = search needs
-
-same-length : tie.Need-same-length
-same-length c = search needs
-
 returns-2 : tie.Need-returns-2
 returns-2 c = let start = c .before .before .before .before .before .before .before .before in rows-shown (start .args .panel) (omega arith) (c .before .before .before .before .before .if2 .taken) (c .before .before .append-rows .ensures)
-
-same-length-2 : tie.Need-same-length-2
-same-length-2 c = search needs
 
 returns-3 : tie.Need-returns-3
 returns-3 c = let start = c .before .before .before .before .before .before .before .before in refusal-shown (start .args .panel) (omega arith) (λ z. c .before .before .before .before .before .if2 .left z) (c .before .before .write-line .ensures)
@@ -37,13 +22,5 @@ returns-3 c = let start = c .before .before .before .before .before .before .bef
 pub write-panel-spec : {M : Type 1} → statement M
 write-panel-spec =
     tie.close
-    (tie.spec
-    returns
-    append-rows-requires
-    cast-t10
-    cast-t11
-    write-line-requires
-    same-length
-    returns-2
-    same-length-2
-    returns-3)
+    (tie.spec returns append-rows-requires (λ c. search needs) (λ c. search needs) (λ c κs. search needs) (λ c. search needs) returns-2
+    (λ c. search needs) returns-3)

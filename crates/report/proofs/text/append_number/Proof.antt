@@ -7,16 +7,10 @@ use Rattle.report.proofs.Decimal.{decimal-usize}
 use Rattle.report.proofs.text.append_number.Statement.{statement}
 use Rattle.report.proofs.text.append_number.Tie as tie
 
-append-byte-requires : tie.Need-append-byte-requires
-append-byte-requires c κs = search needs
-
 append-decimal-requires : tie.Need-append-decimal-requires
 append-decimal-requires c κs =
     let start = c .before .before .before .before .before .before in
     record { free = omega (arith, decimal-usize (start .args .n) (start .fits .n)) }
-
-same-length : tie.Need-same-length
-same-length c = search needs
 
 returns : tie.Need-returns
 unfolding number
@@ -28,4 +22,5 @@ returns c =
 
 pub append-number-spec : {M : Type 1} → statement M
 append-number-spec =
-    tie.close (tie.spec append-byte-requires append-decimal-requires same-length returns)
+    tie.close
+    (tie.spec (λ c κs. search needs) append-decimal-requires (λ c. search needs) returns)

@@ -22,10 +22,7 @@ cast-result-2 c = counted (c .before .args .z) (c .before .fits .z) (c .if1 .lef
 returns : tie.Need-returns
 returns c = negative (c .before .args .z) (c .before .fits .z) (c .if1 .taken) .magnitude
 
-returns-2 : tie.Need-returns-2
-returns-2 c = search needs
-
 pub magnitude-spec : {M : Type 1} → statement M
 magnitude-spec =
     tie.close
-    (tie.spec add-result sub-result cast-result add-result-2 cast-result-2 returns returns-2)
+    (tie.spec add-result sub-result cast-result add-result-2 cast-result-2 returns (λ c. search needs))

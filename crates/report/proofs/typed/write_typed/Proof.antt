@@ -11,18 +11,6 @@ returns c =
     let start = c .before .before in
     too-small (typedLine (start .args .t)) typedRoom (start .args .out .now) (omega arith)
 
-append-typed-requires : tie.Need-append-typed-requires
-append-typed-requires c κs = search needs
-
-slice-aggregate-append-word : tie.Need-slice-aggregate-append-word
-slice-aggregate-append-word c = search needs
-
-append-word-requires : tie.Need-append-word-requires
-append-word-requires c κs = search needs
-
-same-length : tie.Need-same-length
-same-length c = search needs
-
 returns-2 : tie.Need-returns-2
 unfolding typedLine
 returns-2 c =
@@ -33,10 +21,4 @@ returns-2 c =
 pub write-typed-spec : {M : Type 1} → statement M
 write-typed-spec =
     tie.close
-    (tie.spec
-    returns
-    append-typed-requires
-    slice-aggregate-append-word
-    append-word-requires
-    same-length
-    returns-2)
+    (tie.spec returns (λ c κs. search needs) (λ c. search needs) (λ c κs. search needs) (λ c. search needs) returns-2)
