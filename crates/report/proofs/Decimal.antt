@@ -1,17 +1,17 @@
 -- Decimal numbers: the last digit stands after the digits of the tenth part, and a number below a power of ten is short.
 use mathlib.Core.Path.{_≡_, refl, ap, _∙_}
-use mathlib.Core.List.{List, [], _∷_, _++_}
+use mathlib.Core.List.{List, [], _∷_, _++_, append-assoc}
 use mathlib.Core.Bool.{Bool, true, false}
 use mathlib.Core.Logic.{_⊎_, inl, inr, ⊎-elim}
 use Prim.Native.Nat.{ℕ, zero, suc, _+_, _/_, _%_, _^_, _≤_, _<_}
-use native.Mathlib.Nat.{pow-succ', lt-of-lt-of-le}
+use native.Mathlib.Nat.{pow-succ', lt-of-lt-of-le, mod-eq-of-lt}
 use native.Mathlib.Omega.{arith}
 use lib.Dec.{ltb, lit≤}
 use lib.ListN.{length, length-append}
 use mir.Syntax.{w16, w64}
 use mir.Val.{Fits}
 use borrow.Author.Tests.{ltb-true, ltb-false}
-use Rattle.report.specs.Line.{digits, decimal}
+use Rattle.report.specs.Line.{twoDigits, digits, decimal}
 
 -- more steps than the tenth part change nothing
 steps : (k m q r : ℕ) → q ≤ k → q ≤ m → digits k q r ≡ digits m q r
@@ -43,7 +43,27 @@ pub decimal-more : (n : ℕ) → 10 ≤ n → decimal n ≡ decimal (n / 10) ++ 
 unfolding decimal
 decimal-more n h = last n (n / 10) (n % 10) (omega arith) (omega arith)
 
+-- two digits at a time
+pub decimal-single : (n : ℕ) → n < 10 → decimal n ≡ (48 + n) ∷ []
+decimal-single n h = decimal-digit n h ∙ ap (λ r. (48 + r) ∷ []) (mod-eq-of-lt h)
+
+pub decimal-pair : (n : ℕ) → 10 ≤ n → n < 100 → decimal n ≡ twoDigits n
+decimal-pair n h k = decimal-more n h ∙ ap (λ (l : List ℕ). l ++ ((48 + n % 10) ∷ [])) (decimal-single (n / 10) (omega arith))
+
+pub decimal-hundred : (n : ℕ) → 100 ≤ n → decimal n ≡ decimal (n / 100) ++ twoDigits (n % 100)
+decimal-hundred n h =
+    let tenth : n / 10 / 10 ≡ n / 100 = omega arith in
+    let one : n / 10 % 10 ≡ n % 100 / 10 = omega arith in
+    let two : n % 10 ≡ n % 100 % 10 = omega arith in
+    decimal-more n (omega arith)
+    ∙ ap (λ (l : List ℕ). l ++ ((48 + n % 10) ∷ [])) (decimal-more (n / 10) (omega arith))
+    ∙ append-assoc (decimal (n / 10 / 10)) ((48 + n / 10 % 10) ∷ []) ((48 + n % 10) ∷ [])
+    ∙ (λ j. decimal (tenth j) ++ ((48 + one j) ∷ (48 + two j) ∷ []))
+
 -- ---- lengths
+
+pub decimal-two-longer : (n : ℕ) → 100 ≤ n → length (decimal n) ≡ length (decimal (n / 100)) + 2
+decimal-two-longer n h = ap length (decimal-hundred n h) ∙ length-append (decimal (n / 100)) (twoDigits (n % 100))
 
 pub decimal-longer : (n : ℕ) → 10 ≤ n → length (decimal n) ≡ length (decimal (n / 10)) + 1
 decimal-longer n h = ap length (decimal-more n h) ∙ length-append (decimal (n / 10)) ((48 + n % 10) ∷ [])

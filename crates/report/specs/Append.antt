@@ -11,6 +11,11 @@ use Rattle.report.specs.Line.{lineOf}
 pub record Room (out : List ℕ) (at room : ℕ) : Type 0 where
   pub free : at + room ≤ length out
 
+-- and for a number of two digits
+pub record RoomForTwo (n : ℕ) (out : List ℕ) (at : ℕ) : Type 0 where
+  pub small : n < 100
+  pub free : at + 2 ≤ length out
+
 -- the bytes stand in the buffer from a place on, and what is handed back is the place after them; they took no more than the room
 pub record Appended (before : List ℕ) (at : ℕ) (bytes : List ℕ) (room : ℕ) (after : List ℕ) (next : ℕ) : Type 0 where
   pub stored : after ≡ sets before at bytes

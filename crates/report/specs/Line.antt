@@ -19,6 +19,10 @@ use Rattle.report.specs.declared.Answer.the-variants.{Refused, Planned}
 abbrev pub digit : ℕ → List ℕ
 digit r = (48 + r) ∷ []
 
+-- two digits, for a number below 100
+abbrev pub twoDigits : ℕ → List ℕ
+twoDigits n = digit (n / 10) ++ digit (n % 10)
+
 -- the digits of 10 · q + r, for a digit r; k bounds the number of steps
 abbrev pub digits : ℕ → ℕ → ℕ → List ℕ
 digits zero q r = digit r

@@ -3,8 +3,8 @@ ghost use mathlib.Core.Path.{_≡_};
 ghost use mathlib.Core.List.{[], _∷_};
 ghost use lib.ListN.{length};
 ghost use lib.IntN.{natAbs};
-ghost use Rattle.report.specs.Line.{decimal, number, integer};
-ghost use Rattle.report.specs.Append.{Room, Appended};
+ghost use Rattle.report.specs.Line.{twoDigits, decimal, number, integer};
+ghost use Rattle.report.specs.Append.{Room, RoomForTwo, Appended};
 
 // One byte.
 pub fn append_byte(b: u8, out: &mut [u8], at: usize) -> usize
@@ -29,17 +29,27 @@ pub fn append_word(word: &[u8], out: &mut [u8], at: usize) -> usize
     next
 }
 
-// A number in decimal, with no space before it: the digits before the last come first.
+// A number below 100, as two digits.
+fn append_two(n: usize, out: &mut [u8], at: usize) -> usize
+    requires { ⌜ RoomForTwo n (now out) at ⌝ }
+    ensures { λ r. ⌜ Appended (now (out .entry)) at (twoDigits n) 2 (now (out .exit)) r ⌝ }
+{
+    let last = append_byte(48 + (n / 10) as u8, out, at);
+    append_byte(48 + (n % 10) as u8, out, last)
+}
+
+// A number in decimal, with no space before it: the digits before the last two come first.
 pub fn append_decimal(n: usize, out: &mut [u8], at: usize) -> usize
     requires { ⌜ Room (now out) at (length (decimal n)) ⌝ }
     ensures { λ r. ⌜ Appended (now (out .entry)) at (decimal n) (length (decimal n)) (now (out .exit)) r ⌝ }
 {
-    let last = 48 + (n % 10) as u8;
     if n < 10 {
-        append_byte(last, out, at)
+        append_byte(48 + n as u8, out, at)
+    } else if n < 100 {
+        append_two(n, out, at)
     } else {
-        let next = append_decimal(n / 10, out, at);
-        append_byte(last, out, next)
+        let next = append_decimal(n / 100, out, at);
+        append_two(n % 100, out, next)
     }
 }
 
