@@ -1,6 +1,6 @@
 -- What holds of every accepted book: its chain has no more entries than the header counts, each of them a record after the header, none twice, no label twice,
 -- and its numbers are within document 01's ranges.
-use Prim.Native.Nat.{ℕ, zero, suc, _-_, _≤_, _<_}
+use Prim.Native.Nat.{ℕ, suc, _-_, _≤_, _<_}
 use mathlib.Core.Path.{_≡_, refl, sym, ap, _∙_, subst, subst⁻¹}
 use mathlib.Core.Bool.{Bool, true, false}
 use mathlib.Core.List.{List, [], _∷_, _++_, map}

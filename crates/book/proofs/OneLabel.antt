@@ -1,7 +1,7 @@
 -- A label means one rule: 12 is said of a book exactly where a label stands a second time on the chain, and a book whose chain has distinct labels
 -- is read as it was before 12 was.
 use Prim.Native.Nat.{ℕ, zero, suc, _<_}
-use mathlib.Core.Path.{_≡_, refl, sym, ap, _∙_, subst, subst⁻¹}
+use mathlib.Core.Path.{_≡_, refl, subst, subst⁻¹}
 use mathlib.Core.Bool.{Bool, true, false, cond}
 use mathlib.Core.List.{List, [], _∷_, _++_, map}
 use native.Mathlib.Omega.{arith}
@@ -14,7 +14,6 @@ use Rattle.book.specs.Causes.{WrongKind, WrongSlope, WrongBound, Walked,
 use Rattle.book.specs.Spare.{OnChain, header, link}
 use Rattle.book.proofs.Members.{Place, place-of, memb-at, map-same, not-there}
 use Rattle.book.proofs.Causes.{refusal-applies, applies-refused}
-use Rattle.book.proofs.Walking.{walk-once}
 use Rattle.book.proofs.Bounds.{each-snoc, walked-labels}
 
 -- ---- what 12 says

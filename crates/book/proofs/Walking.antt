@@ -10,7 +10,6 @@ use native.Mathlib.Decide.{ℕ-discrete}
 use borrow.Author.Tests.{lt-ltb, le-ltb, eq-eqb, ne-eqb}
 use lib.ListN.{length, getD, set, replicate, length-set, length-replicate, getD-replicate, length-append, length-map}
 use lib.Seq.{getD-set-same, getD-set-other, set-at}
-use lib.Dec.{eqb}
 use Rattle.book.specs.Layout.{Layout, v1}
 use Rattle.book.specs.Record.{recordAt, linkOf, decodedOf, numberOf}
 use Rattle.book.specs.Reading.{refused, accepted, objectiveOf, countOf, entryAt, labelAt, memb, follow, walk}

@@ -20,12 +20,11 @@ use Rattle.lp.specs.Program.{constraint, slack}
 use Rattle.lp.specs.Outcome.{outcome}
 use Rattle.lp.specs.Slack.{lowest, slackOf}
 use Rattle.lp.specs.Document.{leastXThenY, zeroFloors}
-use Rattle.book.specs.declared.Rule.{Rule}
 use Rattle.book.specs.declared.Chain.{Chain}
 use Rattle.book.specs.Layout.{v1}
 use Rattle.book.specs.Record.{recordAt, ruleOf}
 use Rattle.book.specs.Reading.{Reading, refused, accepted, Entry, readOf, entryAt}
-use Rattle.book.specs.Answers.{Reads, chainOf, padded, indexIn, constraintOf}
+use Rattle.book.specs.Answers.{Reads, chainOf, padded, indexIn}
 use Rattle.book.specs.Lawful.{LawfulRule}
 use Rattle.book.proofs.Bounds.{accepted-entries, entry-lawful}
 use Rattle.report.specs.declared.Answer.the-variants.{Planned}

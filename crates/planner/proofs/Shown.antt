@@ -1,5 +1,5 @@
 -- Request 101 on bytes: what the promise of `slacks` says of a book, for every book. Each theorem takes the promise of a call and nothing else.
-use mathlib.Core.Path.{_≡_, sym, _∙_, ap, subst}
+use mathlib.Core.Path.{_≡_, _∙_, ap}
 use mathlib.Core.List.{List, [], _∷_, map, List·Memᴰ, List·Memᴰ·head, List·Memᴰ·tail, List·Memᴰ·cases-cons, List·Memᴰ·not-nil}
 use mathlib.Core.Logic.{⊎-elim}
 use Prim.Native.Nat.{ℕ}
@@ -13,7 +13,7 @@ use Rattle.lp.specs.declared.Outcome.the-variants as outcome
 use Rattle.lp.specs.Outcome.{outcome}
 use Rattle.lp.specs.Document.{leastXThenY, zeroFloors}
 use Rattle.book.specs.Layout.{v1}
-use Rattle.book.specs.Reading.{Reading, refused, accepted, Entry, readOf}
+use Rattle.book.specs.Reading.{refused, accepted, Entry, readOf}
 use Rattle.report.specs.declared.panel.Panel.{Panel}
 use Rattle.theory.proofs.Ties.{least-x-then-y-good}
 use Rattle.theory.proofs.Slack.{best-slacks}

@@ -1,10 +1,10 @@
 -- The start pair that is seen after a prefix: the walk along the prefix's rules holds it.
-use mathlib.Core.Path.{_≡_, refl, sym, _∙_, ap, ap₂, subst}
-use mathlib.Core.List.{List, [], _∷_}
+use mathlib.Core.Path.{_≡_, refl, sym, _∙_, ap, ap₂}
+use mathlib.Core.List.{List, _∷_}
 use mathlib.Core.Bool.{true, false}
 use Prim.Native.Nat.{ℕ, zero, suc, min, _+_, _-_, _≤_, _<_}
 use native.Mathlib.Omega.{arith}
-use lib.ListN.{length, take, set, length-set}
+use lib.ListN.{length, take}
 use lib.IntN.{ℤ}
 use Rattle.lp.specs.declared.Constraint.{Constraint}
 use Rattle.lp.specs.declared.Functional.{Functional}
@@ -12,7 +12,7 @@ use Rattle.lp.specs.declared.Floors.{Floors}
 use Rattle.lp.specs.declared.Tie.{Tie}
 use Rattle.lp.specs.declared.Point.{Point}
 use Rattle.lp.specs.declared.Certificate.{Certificate}
-use Rattle.lp.specs.Start.{Start, startOf, restarts}
+use Rattle.lp.specs.Start.{Start, restarts}
 use Rattle.lp.specs.Document.{leastXThenY, zeroFloors}
 use Rattle.book.specs.declared.Chain.{Chain}
 use Rattle.book.specs.Layout.{v1}
@@ -20,7 +20,6 @@ use Rattle.book.specs.Reading.{Reading, refused, accepted, readOf}
 use Rattle.book.specs.Answers.{Reads, chainOf}
 use Rattle.model.specs.declared.Cone.{Cone}
 use Rattle.model.specs.declared.Best.{Best}
-use Rattle.model.specs.declared.State.{State}
 use Rattle.model.specs.declared.State.the-variants.{Ended, Going}
 use Rattle.model.specs.declared.Walk.{Walk}
 use Rattle.model.specs.Step.{walk, startHeld}

@@ -3,11 +3,11 @@
 use mathlib.Core.Path.{_≡_, refl, sym, _∙_, ap, subst}
 use mathlib.Core.List.{List, List·Memᴰ, List·Memᴰ·tail}
 use mathlib.Core.Logic.{_⊎_, ⊎-elim, _↔_}
-use Prim.Native.Nat.{ℕ, _<_}
+use Prim.Native.Nat.{_<_}
 use lib.IntN.{ℤ, pos, natAbs, _+ℤ_, _-ℤ_, _*ℤ_}
 use lib.Signed.{clashℤ}
 use Rattle.ints.specs.Order.{_≤ᶻ_, _<ᶻ_}
-use Rattle.ints.specs.Gcd.{gcd, gcd2, Reduced2}
+use Rattle.ints.specs.Gcd.{gcd2, Reduced2}
 use Rattle.ints.proofs.Ring.{ring, con, _⊕_, _⊖_, _⊗_, _≐_}
 use Rattle.ints.proofs.Order.{pos-nn, nn-mul, nn-cancel, zero-cancel, mul-cancel, le-or-lt}
 use Rattle.ints.proofs.Gcd.{gcd-zero, gcd-comm, gcd-right, gcd-pos-right}

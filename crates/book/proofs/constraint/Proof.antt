@@ -8,15 +8,6 @@ use Rattle.book.proofs.Checks.{at-least, at-most}
 use Rattle.book.proofs.constraint.Statement.{statement}
 use Rattle.book.proofs.constraint.Tie as tie
 
-turned-requires : tie.Need-turned-requires
-turned-requires c κs = search needs
-
-turned-requires-2 : tie.Need-turned-requires-2
-turned-requires-2 c κs = search needs
-
-turned-requires-3 : tie.Need-turned-requires-3
-turned-requires-3 c κs = search needs
-
 returns : tie.Need-returns
 returns c =
     let va : toZ w64 (ofZ w64 (c .before .before .before .before .before .before .before .args .rule .a)) ≡ c .before .before .before .before .before .before .before .args .rule .a = search needs in
@@ -39,4 +30,4 @@ returns-2 c =
 
 pub constraint-spec : {M : Type 1} → statement M
 constraint-spec =
-    tie.close (tie.spec turned-requires turned-requires-2 turned-requires-3 returns returns-2)
+    tie.close (tie.spec (λ c κs. search needs) (λ c κs. search needs) (λ c κs. search needs) returns returns-2)

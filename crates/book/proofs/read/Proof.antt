@@ -10,14 +10,8 @@ use Rattle.book.proofs.Causes.{reads-clear, reads-faulty, count-small}
 use Rattle.book.proofs.read.Statement.{statement}
 use Rattle.book.proofs.read.Tie as tie
 
-header-fault-requires : tie.Need-header-fault-requires
-header-fault-requires c κs = search needs
-
 walk-requires : tie.Need-walk-requires
 walk-requires c κs = omega (arith, count-small v1 (c .before .before .before .args .book .now) (sym (c .before .header-fault .ensures) ∙ c .if1 .taken))
-
-refused-requires : tie.Need-refused-requires
-refused-requires c κs = search needs
 
 returns : tie.Need-returns
 returns c =
@@ -38,4 +32,4 @@ returns-2 c =
 
 pub read-spec : {M : Type 1} → statement M
 read-spec =
-    tie.close (tie.spec header-fault-requires walk-requires refused-requires returns returns-2)
+    tie.close (tie.spec (λ c κs. search needs) walk-requires (λ c κs. search needs) returns returns-2)

@@ -14,9 +14,6 @@ chained c = chain-accepted (c .before .before .before .before .args .book .now) 
 few : (c : tie.Else1) → c .before .read .result .n ≤ 255
 few c = omega (arith, chained c .count, chained c .few)
 
-read-requires : tie.Need-read-requires
-read-requires c κs = search needs
-
 returns : tie.Need-returns
 returns c =
     packs-refused (c .before .before .before .before .args .book .now) (c .before .before .before .before .args .out .now) (c .before .read .result .number) (c .before .read .result .at)
@@ -34,23 +31,11 @@ returns-2 c = packs-declined (c .before .before .before .before .before .args .b
 cast-rules : tie.Need-cast-rules
 cast-rules c = omega (arith, few (c .before))
 
-next-of-requires : tie.Need-next-of-requires
-next-of-requires c κs = search needs
-
 cast-header-bytes : tie.Need-cast-header-bytes
 cast-header-bytes c = omega (arith, c .next-of .ensures, next-small 0 (c .before .before .before .read .result .n), few (c .before .before))
 
-header-bytes-requires : tie.Need-header-bytes-requires
-header-bytes-requires c κs = search needs
-
-store-requires : tie.Need-store-requires
-store-requires c κs = search needs
-
 put-rules-requires : tie.Need-put-rules-requires
 put-rules-requires c κs = record { few = few (c .before .before .before .before .before .before .before .before .before); room = omega (arith, c .before .before .before .before .store .kept .0, c .before .before .before .before .before .before .before .before .if2 .left) }
-
-same-length : tie.Need-same-length
-same-length c = search needs
 
 returns-3 : tie.Need-returns-3
 returns-3 c =
@@ -62,16 +47,16 @@ pub repack-spec : {M : Type 1} → statement M
 repack-spec =
     tie.close
     (tie.spec
-    read-requires
+    (λ c κs. search needs)
     returns
     add-filled
     mul-filled
     returns-2
     cast-rules
-    next-of-requires
+    (λ c κs. search needs)
     cast-header-bytes
-    header-bytes-requires
-    store-requires
+    (λ c κs. search needs)
+    (λ c κs. search needs)
     put-rules-requires
-    same-length
+    (λ c. search needs)
     returns-3)

@@ -4,15 +4,6 @@ use borrow.Author.Needs.{needs}
 use Rattle.planner.proofs.vishalneq_start_after.Statement.{statement}
 use Rattle.planner.proofs.vishalneq_start_after.Tie as tie
 
-start-after-requires : tie.Need-start-after-requires
-start-after-requires c κs = search needs
-
-put-point-requires : tie.Need-put-point-requires
-put-point-requires c κs = search needs
-
-same-length : tie.Need-same-length
-same-length c = search needs
-
 returns : tie.Need-returns
 returns c =
     start-written _ _ (c .before .before .before .before .start-after .result) (c .before .before .before .before .start-after .ensures) _ _ (c .before .before .before .if1 .taken) (c .before .put-point .ensures)
@@ -22,4 +13,4 @@ returns-2 c = start-unwritten _ _ (c .before .start-after .result) (c .before .s
 
 pub vishalneq-start-after-spec : {M : Type 1} → statement M
 vishalneq-start-after-spec =
-    tie.close (tie.spec start-after-requires put-point-requires same-length returns returns-2)
+    tie.close (tie.spec (λ c κs. search needs) (λ c κs. search needs) (λ c. search needs) returns returns-2)

@@ -5,18 +5,6 @@ use borrow.Author.Needs.{needs}
 use Rattle.book.proofs.bytes.inside2.Statement.{statement}
 use Rattle.book.proofs.bytes.inside2.Tie as tie
 
-byte-in-requires : tie.Need-byte-in-requires
-byte-in-requires c κs = search needs
-
-add-byte-in : tie.Need-add-byte-in
-add-byte-in c = search needs
-
-byte-in-requires-2 : tie.Need-byte-in-requires-2
-byte-in-requires-2 c κs = search needs
-
-pair-requires : tie.Need-pair-requires
-pair-requires c κs = search needs
-
 returns : tie.Need-returns
 returns c =
     let start = c .before .before .before .before in
@@ -24,4 +12,4 @@ returns c =
 
 pub inside2-spec : {M : Type 1} → statement M
 inside2-spec =
-    tie.close (tie.spec byte-in-requires add-byte-in byte-in-requires-2 pair-requires returns)
+    tie.close (tie.spec (λ c κs. search needs) (λ c. search needs) (λ c κs. search needs) (λ c κs. search needs) returns)

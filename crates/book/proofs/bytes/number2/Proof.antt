@@ -5,18 +5,6 @@ use borrow.Author.Needs.{needs}
 use Rattle.book.proofs.bytes.number2.Statement.{statement}
 use Rattle.book.proofs.bytes.number2.Tie as tie
 
-byte-at-requires : tie.Need-byte-at-requires
-byte-at-requires c κs = search needs
-
-add-byte-at : tie.Need-add-byte-at
-add-byte-at c = search needs
-
-byte-at-requires-2 : tie.Need-byte-at-requires-2
-byte-at-requires-2 c κs = search needs
-
-pair-requires : tie.Need-pair-requires
-pair-requires c κs = search needs
-
 returns : tie.Need-returns
 returns c =
     let start = c .before .before .before .before in
@@ -24,4 +12,4 @@ returns c =
 
 pub number2-spec : {M : Type 1} → statement M
 number2-spec =
-    tie.close (tie.spec byte-at-requires add-byte-at byte-at-requires-2 pair-requires returns)
+    tie.close (tie.spec (λ c κs. search needs) (λ c. search needs) (λ c κs. search needs) (λ c κs. search needs) returns)

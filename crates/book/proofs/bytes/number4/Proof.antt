@@ -5,30 +5,6 @@ use borrow.Author.Needs.{needs}
 use Rattle.book.proofs.bytes.number4.Statement.{statement}
 use Rattle.book.proofs.bytes.number4.Tie as tie
 
-byte-at-requires : tie.Need-byte-at-requires
-byte-at-requires c κs = search needs
-
-add-byte-at : tie.Need-add-byte-at
-add-byte-at c = search needs
-
-byte-at-requires-2 : tie.Need-byte-at-requires-2
-byte-at-requires-2 c κs = search needs
-
-add-byte-at-2 : tie.Need-add-byte-at-2
-add-byte-at-2 c = search needs
-
-byte-at-requires-3 : tie.Need-byte-at-requires-3
-byte-at-requires-3 c κs = search needs
-
-add-byte-at-3 : tie.Need-add-byte-at-3
-add-byte-at-3 c = search needs
-
-byte-at-requires-4 : tie.Need-byte-at-requires-4
-byte-at-requires-4 c κs = search needs
-
-quad-requires : tie.Need-quad-requires
-quad-requires c κs = search needs
-
 returns : tie.Need-returns
 returns c =
     let start = c .before .before .before .before .before .before in
@@ -38,12 +14,12 @@ pub number4-spec : {M : Type 1} → statement M
 number4-spec =
     tie.close
     (tie.spec
-    byte-at-requires
-    add-byte-at
-    byte-at-requires-2
-    add-byte-at-2
-    byte-at-requires-3
-    add-byte-at-3
-    byte-at-requires-4
-    quad-requires
+    (λ c κs. search needs)
+    (λ c. search needs)
+    (λ c κs. search needs)
+    (λ c. search needs)
+    (λ c κs. search needs)
+    (λ c. search needs)
+    (λ c κs. search needs)
+    (λ c κs. search needs)
     returns)

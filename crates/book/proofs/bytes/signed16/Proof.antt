@@ -12,12 +12,6 @@ use Rattle.book.proofs.Numbers.{turned-round, signed-wide}
 use Rattle.book.proofs.bytes.signed16.Statement.{statement}
 use Rattle.book.proofs.bytes.signed16.Tie as tie
 
-add-up : tie.Need-add-up
-add-up c = search needs
-
-cast-result : tie.Need-cast-result
-cast-result c = search needs
-
 value : (c : tie.Start) → toZ w64 ((c .args .bits + 32768) % 65536) -ℤ pos 32768 ≡ toZ w16 (c .args .bits)
 value c = turned-round w16 32767 (c .args .bits) refl refl (lit≤ tt) (omega arith)
 
@@ -28,4 +22,4 @@ returns : tie.Need-returns
 returns c = toZ-ofZ (sub-result c) ∙ value c
 
 pub signed16-spec : {M : Type 1} → statement M
-signed16-spec = tie.close (tie.spec add-up cast-result sub-result returns)
+signed16-spec = tie.close (tie.spec (λ c. search needs) (λ c. search needs) sub-result returns)

@@ -12,12 +12,6 @@ use Rattle.book.proofs.Numbers.{turned-round, signed-wide}
 use Rattle.book.proofs.bytes.signed32.Statement.{statement}
 use Rattle.book.proofs.bytes.signed32.Tie as tie
 
-add-up : tie.Need-add-up
-add-up c = search needs
-
-cast-result : tie.Need-cast-result
-cast-result c = search needs
-
 value : (c : tie.Start) → toZ w64 ((c .args .bits + 2147483648) % 4294967296) -ℤ pos 2147483648 ≡ toZ w32 (c .args .bits)
 value c = turned-round w32 2147483647 (c .args .bits) refl refl (lit≤ tt) (omega arith)
 
@@ -28,4 +22,4 @@ returns : tie.Need-returns
 returns c = toZ-ofZ (sub-result c) ∙ value c
 
 pub signed32-spec : {M : Type 1} → statement M
-signed32-spec = tie.close (tie.spec add-up cast-result sub-result returns)
+signed32-spec = tie.close (tie.spec (λ c. search needs) (λ c. search needs) sub-result returns)

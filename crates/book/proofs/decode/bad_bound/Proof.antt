@@ -7,13 +7,10 @@ use Rattle.book.specs.Record.{beyond}
 use Rattle.book.proofs.decode.bad_bound.Statement.{statement}
 use Rattle.book.proofs.decode.bad_bound.Tie as tie
 
-beyond-requires : tie.Need-beyond-requires
-beyond-requires c κs = search needs
-
 returns : tie.Need-returns
 returns c =
     let e : toZ w64 (ofZ w64 (c .before .before .args .rule .c)) ≡ c .before .before .args .rule .c = search needs in
     c .beyond .ensures ∙ ap beyond e
 
 pub bad-bound-spec : {M : Type 1} → statement M
-bad-bound-spec = tie.close (tie.spec beyond-requires returns)
+bad-bound-spec = tie.close (tie.spec (λ c κs. search needs) returns)

@@ -8,17 +8,11 @@ use Rattle.book.specs.Record.{lowest}
 use Rattle.book.proofs.decode.bad_slope.Statement.{statement}
 use Rattle.book.proofs.decode.bad_slope.Tie as tie
 
-lowest-requires : tie.Need-lowest-requires
-lowest-requires c κs = search needs
-
 returns : tie.Need-returns
 returns c =
     let e : toZ w64 (ofZ w64 (c .before .before .before .args .rule .a)) ≡ c .before .before .before .args .rule .a = search needs in
     let h : lowest (c .before .before .before .args .rule .a) ≡ true = sym (c .before .lowest .ensures ∙ ap lowest e) ∙ c .if1 .taken in
     rw h
-
-lowest-requires-2 : tie.Need-lowest-requires-2
-lowest-requires-2 c κs = search needs
 
 returns-2 : tie.Need-returns-2
 returns-2 c =
@@ -28,4 +22,4 @@ returns-2 c =
     rw h (c .lowest2 .ensures ∙ ap lowest e)
 
 pub bad-slope-spec : {M : Type 1} → statement M
-bad-slope-spec = tie.close (tie.spec lowest-requires returns lowest-requires-2 returns-2)
+bad-slope-spec = tie.close (tie.spec (λ c κs. search needs) returns (λ c κs. search needs) returns-2)

@@ -5,15 +5,6 @@ use Rattle.book.proofs.Checks.{kind-first, slope-next, bound-last, soun
 use Rattle.book.proofs.decode.check.Statement.{statement}
 use Rattle.book.proofs.decode.check.Tie as tie
 
-bad-kind-requires : tie.Need-bad-kind-requires
-bad-kind-requires c κs = search needs
-
-bad-slope-requires : tie.Need-bad-slope-requires
-bad-slope-requires c κs = search needs
-
-bad-bound-requires : tie.Need-bad-bound-requires
-bad-bound-requires c κs = search needs
-
 returns : tie.Need-returns
 returns c =
     kind-first (c .before .before .before .before .args .rule) (c .before .before .before .before .args .next)
@@ -43,9 +34,9 @@ pub check-spec : {M : Type 1} → statement M
 check-spec =
     tie.close
     (tie.spec
-    bad-kind-requires
-    bad-slope-requires
-    bad-bound-requires
+    (λ c κs. search needs)
+    (λ c κs. search needs)
+    (λ c κs. search needs)
     returns
     returns-2
     returns-3

@@ -5,42 +5,6 @@ use borrow.Author.Needs.{needs}
 use Rattle.book.proofs.decode.rule_inside.Statement.{statement}
 use Rattle.book.proofs.decode.rule_inside.Tie as tie
 
-mul-at : tie.Need-mul-at
-mul-at c = search needs
-
-add-byte-in : tie.Need-add-byte-in
-add-byte-in c = search needs
-
-byte-in-requires : tie.Need-byte-in-requires
-byte-in-requires c κs = search needs
-
-add-inside2 : tie.Need-add-inside2
-add-inside2 c = search needs
-
-inside2-requires : tie.Need-inside2-requires
-inside2-requires c κs = search needs
-
-add-inside2-2 : tie.Need-add-inside2-2
-add-inside2-2 c = search needs
-
-inside2-requires-2 : tie.Need-inside2-requires-2
-inside2-requires-2 c κs = search needs
-
-add-inside2-3 : tie.Need-add-inside2-3
-add-inside2-3 c = search needs
-
-inside2-requires-3 : tie.Need-inside2-requires-3
-inside2-requires-3 c κs = search needs
-
-add-inside4 : tie.Need-add-inside4
-add-inside4 c = search needs
-
-inside4-requires : tie.Need-inside4-requires
-inside4-requires c κs = search needs
-
-rule-of-requires : tie.Need-rule-of-requires
-rule-of-requires c κs = search needs
-
 returns : tie.Need-returns
 returns c =
     let start = c .before .before .before .before .before .before .before in
@@ -54,16 +18,16 @@ pub rule-inside-spec : {M : Type 1} → statement M
 rule-inside-spec =
     tie.close
     (tie.spec
-    mul-at
-    add-byte-in
-    byte-in-requires
-    add-inside2
-    inside2-requires
-    add-inside2-2
-    inside2-requires-2
-    add-inside2-3
-    inside2-requires-3
-    add-inside4
-    inside4-requires
-    rule-of-requires
+    (λ c. search needs)
+    (λ c. search needs)
+    (λ c κs. search needs)
+    (λ c. search needs)
+    (λ c κs. search needs)
+    (λ c. search needs)
+    (λ c κs. search needs)
+    (λ c. search needs)
+    (λ c κs. search needs)
+    (λ c. search needs)
+    (λ c κs. search needs)
+    (λ c κs. search needs)
     returns)

@@ -6,15 +6,6 @@ use borrow.Author.Needs.{needs}
 use Rattle.book.proofs.decode.rule_of.Statement.{statement}
 use Rattle.book.proofs.decode.rule_of.Tie as tie
 
-signed16-requires : tie.Need-signed16-requires
-signed16-requires c κs = search needs
-
-signed16-requires-2 : tie.Need-signed16-requires-2
-signed16-requires-2 c κs = search needs
-
-signed32-requires : tie.Need-signed32-requires
-signed32-requires c κs = search needs
-
 returns : tie.Need-returns
 returns c =
     let start = c .before .before .before in
@@ -27,4 +18,4 @@ returns c =
     λ j. record { kind = start .args .kind; a = pa j; b = pb j; c = pc j; label = start .args .label }
 
 pub rule-of-spec : {M : Type 1} → statement M
-rule-of-spec = tie.close (tie.spec signed16-requires signed16-requires-2 signed32-requires returns)
+rule-of-spec = tie.close (tie.spec (λ c κs. search needs) (λ c κs. search needs) (λ c κs. search needs) returns)

@@ -5,11 +5,8 @@ use Rattle.book.proofs.Fields.{label-at}
 use Rattle.book.proofs.header.count.Statement.{statement}
 use Rattle.book.proofs.header.count.Tie as tie
 
-number2-requires : tie.Need-number2-requires
-number2-requires c κs = search needs
-
 returns : tie.Need-returns
 returns c = c .number2 .ensures ∙ label-at (c .before .before .args .book .now) 0
 
 pub count-spec : {M : Type 1} → statement M
-count-spec = tie.close (tie.spec number2-requires returns)
+count-spec = tie.close (tie.spec (λ c κs. search needs) returns)

@@ -38,41 +38,17 @@ returns-2 c = too-long (c .before .before .before .args .book .now) (c .before .
 returns-3 : tie.Need-returns-3
 returns-3 c = no-multiple (c .before .before .before .before .args .book .now) (c .before .before .if1 .left) (c .before .if2 .left) (c .if3 .taken)
 
-byte-at-requires : tie.Need-byte-at-requires
-byte-at-requires c κs = search needs
-
 returns-4 : tie.Need-returns-4
 returns-4 c = other-version (c .before .before .before .before .before .before .args .book .now) (c .before .before .before .before .if1 .left) (c .before .before .before .if2 .left) (c .before .before .if3 .left) (λ e. c .if4 .taken (version (c .before) ∙ e))
-
-count-requires : tie.Need-count-requires
-count-requires c κs = search needs
-
-cast-if5 : tie.Need-cast-if5
-cast-if5 c = search needs
-
-sub-if5 : tie.Need-sub-if5
-sub-if5 c = search needs
 
 returns-5 : tie.Need-returns-5
 returns-5 c = other-count (c .before .before .before .before .before .before .before .before .args .book .now) (c .before .before .before .before .before .before .if1 .left) (c .before .before .before .before .before .if2 .left) (c .before .before .before .before .if3 .left) (sym (version (c .before .before .before)) ∙ c .before .before .if4 .left) (λ e. c .if5 .taken (c .before .count .ensures ∙ e))
 
-objective-requires : tie.Need-objective-requires
-objective-requires c κs = search needs
-
-lowest-requires : tie.Need-lowest-requires
-lowest-requires c κs = search needs
-
 returns-6 : tie.Need-returns-6
 returns-6 c = lowest-p (c .before .before .before .before .before .before .before .before .before .before .before .before .args .book .now) (c .before .before .before .before .before .before .before .before .before .before .if1 .left) (c .before .before .before .before .before .before .before .before .before .if2 .left) (c .before .before .before .before .before .before .before .before .if3 .left) (sym (version (c .before .before .before .before .before .before .before)) ∙ c .before .before .before .before .before .before .if4 .left) (sym (c .before .before .before .before .before .count .ensures) ∙ c .before .before .before .before .if5 .left) (sym (goal-p (c .before)) ∙ c .if6 .taken)
 
-lowest-requires-2 : tie.Need-lowest-requires-2
-lowest-requires-2 c κs = search needs
-
 returns-7 : tie.Need-returns-7
 returns-7 c = lowest-q (c .before .before .before .before .before .before .before .before .before .before .before .before .before .before .before .args .book .now) (c .before .before .before .before .before .before .before .before .before .before .before .before .before .if1 .left) (c .before .before .before .before .before .before .before .before .before .before .before .before .if2 .left) (c .before .before .before .before .before .before .before .before .before .before .before .if3 .left) (sym (version (c .before .before .before .before .before .before .before .before .before .before)) ∙ c .before .before .before .before .before .before .before .before .before .if4 .left) (sym (c .before .before .before .before .before .before .before .before .count .ensures) ∙ c .before .before .before .before .before .before .before .if5 .left) (sym (goal-p (c .before .before .before .before)) ∙ c .before .before .before .if6 .left) (sym (goal-q (c .before)) ∙ c .if7 .taken)
-
-number4-requires : tie.Need-number4-requires
-number4-requires c κs = search needs
 
 returns-8 : tie.Need-returns-8
 returns-8 c = tail-set (c .before .before .before .before .before .before .before .before .before .before .before .before .before .before .before .before .before .args .book .now) (c .before .before .before .before .before .before .before .before .before .before .before .before .before .before .before .if1 .left) (c .before .before .before .before .before .before .before .before .before .before .before .before .before .before .if2 .left) (c .before .before .before .before .before .before .before .before .before .before .before .before .before .if3 .left) (sym (version (c .before .before .before .before .before .before .before .before .before .before .before .before)) ∙ c .before .before .before .before .before .before .before .before .before .before .before .if4 .left) (sym (c .before .before .before .before .before .before .before .before .before .before .count .ensures) ∙ c .before .before .before .before .before .before .before .before .before .if5 .left) (sym (goal-p (c .before .before .before .before .before .before)) ∙ c .before .before .before .before .before .if6 .left) (sym (goal-q (c .before .before .before)) ∙ c .before .before .if7 .left) (λ e. c .if8 .taken (rest (c .before) ∙ e))
@@ -87,17 +63,17 @@ header-fault-spec =
     returns
     returns-2
     returns-3
-    byte-at-requires
+    (λ c κs. search needs)
     returns-4
-    count-requires
-    cast-if5
-    sub-if5
+    (λ c κs. search needs)
+    (λ c. search needs)
+    (λ c. search needs)
     returns-5
-    objective-requires
-    lowest-requires
+    (λ c κs. search needs)
+    (λ c κs. search needs)
     returns-6
-    lowest-requires-2
+    (λ c κs. search needs)
     returns-7
-    number4-requires
+    (λ c κs. search needs)
     returns-8
     returns-9)

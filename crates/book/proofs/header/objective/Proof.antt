@@ -7,18 +7,6 @@ use Rattle.book.proofs.Fields.{a-at, b-at}
 use Rattle.book.proofs.header.objective.Statement.{statement}
 use Rattle.book.proofs.header.objective.Tie as tie
 
-number2-requires : tie.Need-number2-requires
-number2-requires c κs = search needs
-
-signed16-requires : tie.Need-signed16-requires
-signed16-requires c κs = search needs
-
-number2-requires-2 : tie.Need-number2-requires-2
-number2-requires-2 c κs = search needs
-
-signed16-requires-2 : tie.Need-signed16-requires-2
-signed16-requires-2 c κs = search needs
-
 returns : tie.Need-returns
 returns c =
     let s = c .before .before .before .before .before .args .book .now in
@@ -31,4 +19,4 @@ returns c =
 pub objective-spec : {M : Type 1} → statement M
 objective-spec =
     tie.close
-    (tie.spec number2-requires signed16-requires number2-requires-2 signed16-requires-2 returns)
+    (tie.spec (λ c κs. search needs) (λ c κs. search needs) (λ c κs. search needs) (λ c κs. search needs) returns)

@@ -9,21 +9,6 @@ use Rattle.book.proofs.LabelTable.{one-shifted, fits-64, clear-bit}
 use Rattle.book.proofs.labels.note.Statement.{statement}
 use Rattle.book.proofs.labels.note.Tie as tie
 
-cast-place : tie.Need-cast-place
-cast-place c = search needs
-
-cast-bit : tie.Need-cast-bit
-cast-bit c = search needs
-
-mul-word : tie.Need-mul-word
-mul-word c = search needs
-
-element-copy-out-word : tie.Need-element-copy-out-word
-element-copy-out-word c = search needs
-
-shl-table : tie.Need-shl-table
-shl-table c = search needs
-
 add-table : tie.Need-add-table
 add-table c =
     let l = c .before .args .label in
@@ -34,12 +19,6 @@ add-table c =
           subst⁻¹ (λ (b : ℕ). getD t (l / 64) 0 + b < 2 ^ 64) (one-shifted (l % 64) (omega arith))
           (fits-64 (getD t (l / 64) 0) (l % 64) (omega arith) (clear-bit t l (p .new)) (p .words (l / 64)));
     }
-
-mul-table : tie.Need-mul-table
-mul-table c = search needs
-
-element-write-table : tie.Need-element-write-table
-element-write-table c = search needs
 
 returns : tie.Need-returns
 unfolding noting
@@ -52,12 +31,12 @@ pub note-spec : {M : Type 1} → statement M
 note-spec =
     tie.close
     (tie.spec
-    cast-place
-    cast-bit
-    mul-word
-    element-copy-out-word
-    shl-table
+    (λ c. search needs)
+    (λ c. search needs)
+    (λ c. search needs)
+    (λ c. search needs)
+    (λ c. search needs)
     add-table
-    mul-table
-    element-write-table
+    (λ c. search needs)
+    (λ c. search needs)
     returns)

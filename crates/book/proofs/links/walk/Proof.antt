@@ -34,43 +34,16 @@ fault Kind h e = omega arith
 fault Slope h e = omega arith
 fault Bound h e = omega arith
 
-count-requires : tie.Need-count-requires Inv-loop μ-loop
-count-requires c κs = tt
-
-only-header-requires : tie.Need-only-header-requires Inv-loop μ-loop
-only-header-requires c κs = tt
-
-no-labels-requires : tie.Need-no-labels-requires Inv-loop μ-loop
-no-labels-requires c κs = tt
-
-no-records-requires : tie.Need-no-records-requires Inv-loop μ-loop
-no-records-requires c κs = tt
-
-link-at-requires : tie.Need-link-at-requires Inv-loop μ-loop
-link-at-requires c κs = tt
-
 loop-holds : tie.Need-loop-holds Inv-loop μ-loop
 loop-holds c =
     let s = c .before .before .before .before .before .before .args .book .now in
     let e : c .before .before .before .before .count .result ≡ countOf v1 s = c .before .before .before .before .count .ensures in
     (e, rw e (c .before .before .before .before .before .before .pre), walking-start s (c .link-at .result) (c .before .before .before .only-header .ensures) (c .before .before .no-labels .ensures) (c .before .no-records .ensures) (c .link-at .ensures))
 
-refused-requires : tie.Need-refused-requires Inv-loop μ-loop
-refused-requires c κs = tt
-
 returns : tie.Need-returns Inv-loop μ-loop
 returns c =
     let l = c .before .before .before .loop in
     c .refused .ensures ∙ ap chainOf (sym (walking-over (l .inv .2) (c .before .before .loop-test .taken) (rw (l .inv .0) at (c .before .if1 .taken))))
-
-cast-index : tie.Need-cast-index Inv-loop μ-loop
-cast-index c = search needs
-
-array-read-if2 : tie.Need-array-read-if2 Inv-loop μ-loop
-array-read-if2 c = omega arith
-
-refused-requires-2 : tie.Need-refused-requires-2 Inv-loop μ-loop
-refused-requires-2 c κs = tt
 
 returns-2 : tie.Need-returns-2 Inv-loop μ-loop
 returns-2 c =
@@ -78,17 +51,8 @@ returns-2 c =
     c .refused2 .ensures
     ∙ ap chainOf (sym (walking-again (l .inv .2) (c .before .before .before .loop-test .taken) (rw (l .inv .0) at (c .before .before .if1 .left)) (omega arith) (c .before .if2 .taken)))
 
-visit-requires : tie.Need-visit-requires Inv-loop μ-loop
-visit-requires c κs = tt
-
 enum-known-decoded : tie.Need-enum-known-decoded Inv-loop μ-loop
 enum-known-decoded c = c .match .keys1
-
-number-of-requires : tie.Need-number-of-requires Inv-loop μ-loop
-number-of-requires c κs = tt
-
-refused-requires-3 : tie.Need-refused-requires-3 Inv-loop μ-loop
-refused-requires-3 c κs = tt
 
 returns-3 : tie.Need-returns-3 Inv-loop μ-loop
 returns-3 c =
@@ -124,9 +88,6 @@ arrived c =
 noted-requires : tie.Need-noted-requires Inv-loop μ-loop
 noted-requires c κs = c .before .before .before .before .before .before .before .before .loop .inv .2 .met .size
 
-refused-requires-4 : tie.Need-refused-requires-4 Inv-loop μ-loop
-refused-requires-4 c κs = tt
-
 returns-4 : tie.Need-returns-4 Inv-loop μ-loop
 returns-4 c =
     let a = arrived (c .before .before .before .before .before) in
@@ -134,9 +95,6 @@ returns-4 c =
 
 note-requires : tie.Need-note-requires Inv-loop μ-loop
 note-requires c κs = arrived-unnoted (arrived (c .before .before .before .before .before)) (sym (c .before .before .noted .ensures) ∙ c .before .if3 .left)
-
-array-write-seen : tie.Need-array-write-seen Inv-loop μ-loop
-array-write-seen c = omega arith
 
 -- the marks leave room for one more record
 room : (c : tie.After-note Inv-loop μ-loop) → c .before .before .before .before .before .before .before .before .before .before .before .before .loop .n < 255
@@ -161,12 +119,6 @@ loop-again c =
     let new = sym (c .before .before .before .noted .ensures) ∙ c .before .before .if3 .left in
     (l .inv .0, l .inv .1, arrived-step a new (c .note .ensures))
 
-objective-requires : tie.Need-objective-requires Inv-loop μ-loop
-objective-requires c κs = tt
-
-accepted-requires : tie.Need-accepted-requires Inv-loop μ-loop
-accepted-requires c κs = tt
-
 returns-5 : tie.Need-returns-5 Inv-loop μ-loop
 returns-5 c =
     c .accepted .ensures
@@ -178,33 +130,33 @@ walk-spec =
     (tie.spec
     Inv-loop
     μ-loop
-    count-requires
-    only-header-requires
-    no-labels-requires
-    no-records-requires
-    link-at-requires
+    (λ c κs. tt)
+    (λ c κs. tt)
+    (λ c κs. tt)
+    (λ c κs. tt)
+    (λ c κs. tt)
     loop-holds
-    refused-requires
+    (λ c κs. tt)
     returns
-    cast-index
-    array-read-if2
-    refused-requires-2
+    (λ c. search needs)
+    (λ c. omega arith)
+    (λ c κs. tt)
     returns-2
-    visit-requires
+    (λ c κs. tt)
     enum-known-decoded
-    number-of-requires
-    refused-requires-3
+    (λ c κs. tt)
+    (λ c κs. tt)
     returns-3
     noted-requires
-    refused-requires-4
+    (λ c κs. tt)
     returns-4
     note-requires
-    array-write-seen
+    (λ c. omega arith)
     mul-records
     array-write-records
     add-n
     loop-less
     loop-again
-    objective-requires
-    accepted-requires
+    (λ c κs. tt)
+    (λ c κs. tt)
     returns-5)

@@ -8,15 +8,6 @@ use Rattle.book.proofs.Fields.{a-at, b-at}
 use Rattle.book.proofs.pack.header_bytes.Statement.{statement}
 use Rattle.book.proofs.pack.header_bytes.Tie as tie
 
-number2-requires : tie.Need-number2-requires
-number2-requires c κs = search needs
-
-number2-requires-2 : tie.Need-number2-requires-2
-number2-requires-2 c κs = search needs
-
-record-bytes-requires : tie.Need-record-bytes-requires
-record-bytes-requires c κs = search needs
-
 returns : tie.Need-returns
 returns c =
     let s = c .before .before .before .before .args .book .now in
@@ -28,4 +19,4 @@ returns c =
 
 pub header-bytes-spec : {M : Type 1} → statement M
 header-bytes-spec =
-    tie.close (tie.spec number2-requires number2-requires-2 record-bytes-requires returns)
+    tie.close (tie.spec (λ c κs. search needs) (λ c κs. search needs) (λ c κs. search needs) returns)

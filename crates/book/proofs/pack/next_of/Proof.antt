@@ -4,9 +4,6 @@ use borrow.Author.Tests.{lt-ltb, le-ltb}
 use Rattle.book.proofs.pack.next_of.Statement.{statement}
 use Rattle.book.proofs.pack.next_of.Tie as tie
 
-add-result : tie.Need-add-result
-add-result c = search needs
-
 returns : tie.Need-returns
 returns c = rw (lt-ltb (c .before .args .k) (c .before .args .n) (c .if1 .taken))
 
@@ -14,4 +11,4 @@ returns-2 : tie.Need-returns-2
 returns-2 c = rw (le-ltb (c .before .args .k) (c .before .args .n) (c .if1 .left))
 
 pub next-of-spec : {M : Type 1} → statement M
-next-of-spec = tie.close (tie.spec add-result returns returns-2)
+next-of-spec = tie.close (tie.spec (λ c. search needs) returns returns-2)

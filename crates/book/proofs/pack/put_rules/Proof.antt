@@ -26,38 +26,8 @@ abbrev μ-loop : tie.MeasureT-loop
 loop-holds : tie.Need-loop-holds Inv-loop μ-loop
 loop-holds c = (omega arith, paste-zero (c .before .before .args .out .now) 12 (chainBytes v1 1 (rulesAt (c .before .before .args .book .now) (take (c .before .before .args .n) (c .before .before .args .t3)))), refl, c .before .before .pre, (search needs))
 
-cast-i : tie.Need-cast-i Inv-loop μ-loop
-cast-i c = omega arith
-
-mul-index : tie.Need-mul-index Inv-loop μ-loop
-mul-index c = omega arith
-
-array-read-index : tie.Need-array-read-index Inv-loop μ-loop
-array-read-index c = omega arith
-
-add-place : tie.Need-add-place Inv-loop μ-loop
-add-place c = omega arith
-
-next-of-requires : tie.Need-next-of-requires Inv-loop μ-loop
-next-of-requires c κs = tt
-
 cast-link : tie.Need-cast-link Inv-loop μ-loop
 cast-link c = omega (arith, c .next-of .ensures, next-small (c .before .before .loop .k + 1) (c .before .before .before .before .before .args .n))
-
-rule-bytes-requires : tie.Need-rule-bytes-requires Inv-loop μ-loop
-rule-bytes-requires c κs = tt
-
-cast-store : tie.Need-cast-store Inv-loop μ-loop
-cast-store c = omega arith
-
-mul-store : tie.Need-mul-store Inv-loop μ-loop
-mul-store c = omega arith
-
-store-requires : tie.Need-store-requires Inv-loop μ-loop
-store-requires c κs = omega arith
-
-loop-less : tie.Need-loop-less Inv-loop μ-loop
-loop-less c = omega arith
 
 loop-again : tie.Need-loop-again Inv-loop μ-loop
 loop-again c =
@@ -97,17 +67,17 @@ put-rules-spec =
     Inv-loop
     μ-loop
     loop-holds
-    cast-i
-    mul-index
-    array-read-index
-    add-place
-    next-of-requires
+    (λ c. omega arith)
+    (λ c. omega arith)
+    (λ c. omega arith)
+    (λ c. omega arith)
+    (λ c κs. tt)
     cast-link
-    rule-bytes-requires
-    cast-store
-    mul-store
-    store-requires
-    loop-less
+    (λ c κs. tt)
+    (λ c. omega arith)
+    (λ c. omega arith)
+    (λ c κs. omega arith)
+    (λ c. omega arith)
     loop-again
     same-length
     returns)

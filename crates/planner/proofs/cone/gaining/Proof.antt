@@ -12,9 +12,6 @@ enum-known-cone c = c .match .keys1
 enum-told : tie.Need-enum-told
 enum-told c = c .match .keys2
 
-returns : tie.Need-returns
-returns c = search needs
-
 gains-requires : tie.Need-gains-requires
 gains-requires c κs =
     let s = c .before .before .before in
@@ -52,7 +49,7 @@ gaining-spec =
     (tie.spec
     enum-known-cone
     enum-told
-    returns
+    (λ c. search needs)
     gains-requires
     gains-requires-2
     returns-2

@@ -11,9 +11,6 @@ enum-known-cone c = c .match .keys1
 enum-told : tie.Need-enum-told
 enum-told c = c .match .keys2
 
-returns : tie.Need-returns
-returns c = search needs
-
 stays-requires : tie.Need-stays-requires
 stays-requires c κs =
     let s = c .before .before .before in
@@ -24,16 +21,10 @@ stays-requires-2 c κs =
     let s = c .before .before .before .before .before in
     record { constraint = s .pre .constraint; ray = cone-rays (s .pre .rays) (c .before .before .before .cone .given .1) .1 }
 
-direction-requires : tie.Need-direction-requires
-direction-requires c κs = search needs
-
 stays-requires-3 : tie.Need-stays-requires-3
 stays-requires-3 c κs =
     let s = c .before .before .before .before .before in
     record { constraint = s .pre .constraint; ray = cone-rays (s .pre .rays) (c .before .before .before .cone .given .1) .1 }
-
-backward-requires : tie.Need-backward-requires
-backward-requires c κs = search needs
 
 returns-2 : tie.Need-returns-2
 returns-2 c =
@@ -75,12 +66,12 @@ narrow-spec =
     (tie.spec
     enum-known-cone
     enum-told
-    returns
+    (λ c. search needs)
     stays-requires
     stays-requires-2
-    direction-requires
+    (λ c κs. search needs)
     stays-requires-3
-    backward-requires
+    (λ c κs. search needs)
     returns-2
     returns-3
     returns-4

@@ -12,9 +12,6 @@ magnitude-requires c κs = within-read (c .pre .n-small) tt
 magnitude-requires-2 : tie.Need-magnitude-requires-2
 magnitude-requires-2 c κs = within-read (weaken tt (c .before .pre .d-small)) tt
 
-divisor-requires : tie.Need-divisor-requires
-divisor-requires c κs = search needs
-
 quotient-requires : tie.Need-quotient-requires
 quotient-requires c κs =
     let h = c .before .before .before .pre in
@@ -39,7 +36,7 @@ lowest-spec =
     (tie.spec
     magnitude-requires
     magnitude-requires-2
-    divisor-requires
+    (λ c κs. search needs)
     quotient-requires
     quotient-requires-2
     returns)

@@ -16,8 +16,5 @@ cast-result-2 c = plus-cast (c .before .pre) (c .if1 .left)
 returns : tie.Need-returns
 returns c = minus-magnitude (c .before .pre)
 
-returns-2 : tie.Need-returns-2
-returns-2 c = search needs
-
 pub magnitude-spec : {M : Type 1} → statement M
-magnitude-spec = tie.close (tie.spec sub-result cast-result cast-result-2 returns returns-2)
+magnitude-spec = tie.close (tie.spec sub-result cast-result cast-result-2 returns (λ c. search needs))

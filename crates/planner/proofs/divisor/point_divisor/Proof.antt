@@ -11,14 +11,8 @@ magnitude-requires c κs = within-read (weaken tt (c .before .pre .x-small)) tt
 magnitude-requires-2 : tie.Need-magnitude-requires-2
 magnitude-requires-2 c κs = within-read (weaken tt (c .before .before .before .pre .y-small)) tt
 
-divisor-requires : tie.Need-divisor-requires
-divisor-requires c κs = search needs
-
 magnitude-requires-3 : tie.Need-magnitude-requires-3
 magnitude-requires-3 c κs = within-read (weaken tt (c .before .before .before .before .before .before .pre .d-small)) tt
-
-divisor-requires-2 : tie.Need-divisor-requires-2
-divisor-requires-2 c κs = search needs
 
 returns : tie.Need-returns
 returns c =
@@ -31,7 +25,7 @@ point-divisor-spec =
     (tie.spec
     magnitude-requires
     magnitude-requires-2
-    divisor-requires
+    (λ c κs. search needs)
     magnitude-requires-3
-    divisor-requires-2
+    (λ c κs. search needs)
     returns)

@@ -4,9 +4,6 @@ use Rattle.planner.proofs.Quotients.{quot-fits, quot-is}
 use Rattle.planner.proofs.divisor.quotient.Statement.{statement}
 use Rattle.planner.proofs.divisor.quotient.Tie as tie
 
-cast-result : tie.Need-cast-result
-cast-result c = search needs
-
 div-result : tie.Need-div-result
 div-result c = (c .pre .g-proper, quot-fits (c .pre))
 
@@ -14,4 +11,4 @@ returns : tie.Need-returns
 returns c = quot-is (c .pre)
 
 pub quotient-spec : {M : Type 1} → statement M
-quotient-spec = tie.close (tie.spec cast-result div-result returns)
+quotient-spec = tie.close (tie.spec (λ c. search needs) div-result returns)

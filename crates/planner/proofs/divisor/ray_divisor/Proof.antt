@@ -11,12 +11,9 @@ magnitude-requires c κs = within-read (weaken tt (c .before .pre .dx-small)) tt
 magnitude-requires-2 : tie.Need-magnitude-requires-2
 magnitude-requires-2 c κs = within-read (weaken tt (c .before .before .before .pre .dy-small)) tt
 
-divisor-requires : tie.Need-divisor-requires
-divisor-requires c κs = search needs
-
 returns : tie.Need-returns
 returns c = ray-divisor (c .before .before .before .before .before .pre) (c .before .before .before .magnitude .ensures) (c .before .magnitude2 .ensures) (c .divisor .ensures)
 
 pub ray-divisor-spec : {M : Type 1} → statement M
 ray-divisor-spec =
-    tie.close (tie.spec magnitude-requires magnitude-requires-2 divisor-requires returns)
+    tie.close (tie.spec magnitude-requires magnitude-requires-2 (λ c κs. search needs) returns)

@@ -6,9 +6,6 @@ use Rattle.planner.proofs.Sizes.{point-same}
 use Rattle.planner.proofs.divisor.reduce.Statement.{statement}
 use Rattle.planner.proofs.divisor.reduce.Tie as tie
 
-point-divisor-requires : tie.Need-point-divisor-requires
-point-divisor-requires c κs = search needs
-
 quotient-requires : tie.Need-quotient-requires
 quotient-requires c κs = point-quotient (c .before .before .pre) (c .before .point-divisor .ensures) (weaken tt (c .before .before .pre .x-small))
 
@@ -33,7 +30,7 @@ pub reduce-spec : {M : Type 1} → statement M
 reduce-spec =
     tie.close
     (tie.spec
-    point-divisor-requires
+    (λ c κs. search needs)
     quotient-requires
     quotient-requires-2
     quotient-requires-3

@@ -6,9 +6,6 @@ use Rattle.planner.proofs.Sizes.{ray-same}
 use Rattle.planner.proofs.divisor.reduce_ray.Statement.{statement}
 use Rattle.planner.proofs.divisor.reduce_ray.Tie as tie
 
-ray-divisor-requires : tie.Need-ray-divisor-requires
-ray-divisor-requires c κs = search needs
-
 quotient-requires : tie.Need-quotient-requires
 quotient-requires c κs = ray-quotient (c .before .before .pre) (c .before .ray-divisor .ensures) (c .before .before .pre .ray .dx-small)
 
@@ -25,4 +22,4 @@ returns c =
 
 pub reduce-ray-spec : {M : Type 1} → statement M
 reduce-ray-spec =
-    tie.close (tie.spec ray-divisor-requires quotient-requires quotient-requires-2 returns)
+    tie.close (tie.spec (λ c κs. search needs) quotient-requires quotient-requires-2 returns)

@@ -7,17 +7,11 @@ use Rattle.planner.proofs.Sizes.{constraint-same, opposite-read}
 use Rattle.planner.proofs.exact.facing.Statement.{statement}
 use Rattle.planner.proofs.exact.facing.Tie as tie
 
-returns : tie.Need-returns
-returns c = search needs
-
 opposite-requires : tie.Need-opposite-requires
 opposite-requires c κs = within-read (weaken tt (c .before .before .pre .a-small)) tt
 
 opposite-requires-2 : tie.Need-opposite-requires-2
 opposite-requires-2 c κs = within-read (weaken tt (c .before .before .before .before .pre .b-small)) tt
-
-opposite-requires-3 : tie.Need-opposite-requires-3
-opposite-requires-3 c κs = search needs
 
 returns-2 : tie.Need-returns-2
 returns-2 c =
@@ -31,4 +25,4 @@ returns-2 c =
 pub facing-spec : {M : Type 1} → statement M
 facing-spec =
     tie.close
-    (tie.spec returns opposite-requires opposite-requires-2 opposite-requires-3 returns-2)
+    (tie.spec (λ c. search needs) opposite-requires opposite-requires-2 (λ c κs. search needs) returns-2)

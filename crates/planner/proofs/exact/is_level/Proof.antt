@@ -6,12 +6,6 @@ use Rattle.planner.proofs.Sizes.{zero-read, both-left, both-right}
 use Rattle.planner.proofs.exact.is_level.Statement.{statement}
 use Rattle.planner.proofs.exact.is_level.Tie as tie
 
-is-zero-requires : tie.Need-is-zero-requires
-is-zero-requires c κs = search needs
-
-is-zero-requires-2 : tie.Need-is-zero-requires-2
-is-zero-requires-2 c κs = search needs
-
 returns : tie.Need-returns
 returns c =
     let s = c .before .before .before .before .before in
@@ -24,4 +18,4 @@ returns-2 c =
     e ∙ both-right (isZero (c .before .before .before .args .h .b)) (sym e ∙ c .if1 .left)
 
 pub is-level-spec : {M : Type 1} → statement M
-is-level-spec = tie.close (tie.spec is-zero-requires is-zero-requires-2 returns returns-2)
+is-level-spec = tie.close (tie.spec (λ c κs. search needs) (λ c κs. search needs) returns returns-2)

@@ -7,11 +7,8 @@ use borrow.Author.Needs.{needs}
 use Rattle.planner.proofs.exact.keeps.Statement.{statement}
 use Rattle.planner.proofs.exact.keeps.Tie as tie
 
-slack-requires : tie.Need-slack-requires
-slack-requires c κs = search needs
-
 returns : tie.Need-returns
 returns c = ap (leZ (pos 0)) (result-read (c .slack .ok) ∙ c .slack .ensures)
 
 pub keeps-spec : {M : Type 1} → statement M
-keeps-spec = tie.close (tie.spec slack-requires returns)
+keeps-spec = tie.close (tie.spec (λ c κs. search needs) returns)

@@ -9,11 +9,6 @@ use Rattle.planner.specs.Layout.{ruleFor}
 use Rattle.planner.proofs.Layouts.{Filled, filled-start, filled-room, filled-step, filled-end, laid-length}
 use Rattle.planner.proofs.layout.lay_rules.Statement.{statement}
 use Rattle.planner.proofs.layout.lay_rules.Tie as tie
-use Rattle.planner.proofs.layout.lay_rules.Reads as reads
-use Rattle.planner.proofs.layout.lay_rules.Lts as lts
-use Rattle.book.proofs.constraint.Reads as constraint-reads
-use Rattle.book.proofs.rule_at.Reads as rule-at-reads
-use Rattle.planner.proofs.layout.put_entry.Reads as put-entry-reads
 
 abbrev Inv-loop : tie.InvT-loop
 Inv-loop book records n entries₀ i₀ entries i = Filled (ruleFor book records) n entries₀ entries i
@@ -30,23 +25,14 @@ mul-rule-at c = omega (arith, c .before .before .before .before .pre .enough)
 shared-slice-read-rule-at : tie.Need-shared-slice-read-rule-at Inv-loop μ-loop
 shared-slice-read-rule-at c = omega (arith, c .before .before .before .before .before .pre .enough)
 
-rule-at-requires : tie.Need-rule-at-requires Inv-loop μ-loop
-rule-at-requires c κs = search needs
-
 add-put-entry : tie.Need-add-put-entry Inv-loop μ-loop
 add-put-entry c = omega (arith, c .before .before .before .before .before .before .before .pre .enough)
-
-constraint-requires : tie.Need-constraint-requires Inv-loop μ-loop
-constraint-requires c κs = search needs
 
 put-entry-requires : tie.Need-put-entry-requires Inv-loop μ-loop
 put-entry-requires c κs = record { room = filled-room (c .before .before .before .before .before .loop .inv) (c .before .before .before .before .before .before .before .before .pre .room) (c .before .before .before .before .loop-test .taken) }
 
 add-i : tie.Need-add-i Inv-loop μ-loop
 add-i c = omega (arith, c .before .before .before .before .before .before .before .before .before .before .pre .enough)
-
-loop-less : tie.Need-loop-less Inv-loop μ-loop
-loop-less c = omega arith
 
 loop-again : tie.Need-loop-again Inv-loop μ-loop
 loop-again c = filled-step (c .before .before .before .before .before .before .before .loop .inv) (c .before .before .before .before .before .before .loop-test .taken) (c .before .before .constraint .ensures ∙ ap constraintOf (c .before .before .before .before .rule-at .ensures .answer)) (c .before .put-entry .ensures)
@@ -66,12 +52,12 @@ lay-rules-spec =
     loop-holds
     mul-rule-at
     shared-slice-read-rule-at
-    rule-at-requires
+    (λ c κs. search needs)
     add-put-entry
-    constraint-requires
+    (λ c κs. search needs)
     put-entry-requires
     add-i
-    loop-less
+    (λ c. omega arith)
     loop-again
     same-length
     returns)

@@ -16,11 +16,8 @@ keeps-requires c κs =
     let s = c .before .before .before in
     kept-distance (s .pre .h-small) (best-point (s .pre .best) (c .before .best .given .1))
 
-returns : tie.Need-returns
-returns c = search needs
-
 returns-2 : tie.Need-returns-2
 returns-2 c = rw (c .before .before .best .given .1, c .keeps .ensures)
 
 pub breaks-spec : {M : Type 1} → statement M
-breaks-spec = tie.close (tie.spec enum-told enum-known-best keeps-requires returns returns-2)
+breaks-spec = tie.close (tie.spec enum-told enum-known-best keeps-requires (λ c. search needs) returns-2)

@@ -9,17 +9,11 @@ use Rattle.planner.proofs.optimum.improved.Tie as tie
 enum-told : tie.Need-enum-told
 enum-told c = c .match .keys1
 
-gaining-requires : tie.Need-gaining-requires
-gaining-requires c κs = search needs
-
 enum-told-2 : tie.Need-enum-told-2
 enum-told-2 c = c .match2 .keys1
 
 enum-told-3 : tie.Need-enum-told-3
 enum-told-3 c = c .match2 .keys2
-
-moved-requires : tie.Need-moved-requires
-moved-requires c κs = search needs
 
 enum-known-best : tie.Need-enum-known-best
 enum-known-best c = c .match .keys2
@@ -28,9 +22,6 @@ keeps-requires : tie.Need-keeps-requires
 keeps-requires c κs =
     let s = c .before .before .before in
     kept-distance (s .pre .moving .restarting .h-small) (best-point (s .pre .best) (c .before .best .given .1))
-
-moved-requires-2 : tie.Need-moved-requires-2
-moved-requires-2 c κs = search needs
 
 returns : tie.Need-returns
 returns c = rw (c .before .before .before .enum-told .given .1, sym (c .before .before .gaining .ensures) ∙ c .enum-told2 .given .1)
@@ -59,13 +50,13 @@ improved-spec =
     tie.close
     (tie.spec
     enum-told
-    gaining-requires
+    (λ c κs. search needs)
     enum-told-2
     enum-told-3
-    moved-requires
+    (λ c κs. search needs)
     enum-known-best
     keeps-requires
-    moved-requires-2
+    (λ c κs. search needs)
     returns
     returns-2
     returns-3

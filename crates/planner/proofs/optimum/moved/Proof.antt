@@ -13,9 +13,6 @@ use Rattle.planner.proofs.Steps.{faced}
 use Rattle.planner.proofs.optimum.moved.Statement.{statement}
 use Rattle.planner.proofs.optimum.moved.Tie as tie
 
-direction-requires : tie.Need-direction-requires
-direction-requires c κs = search needs
-
 upward-requires : tie.Need-upward-requires
 upward-requires c κs =
     let h = c .before .pre in
@@ -24,9 +21,6 @@ upward-requires c κs =
       tie = h .restarting .tie;
       ray = subst SmallRay (sym (c .direction .ensures)) (direction-small (h .restarting .h-small));
     }
-
-facing-requires : tie.Need-facing-requires
-facing-requires c κs = search needs
 
 tightest-point-requires : tie.Need-tightest-point-requires
 tightest-point-requires c κs =
@@ -43,4 +37,4 @@ returns c =
 pub moved-spec : {M : Type 1} → statement M
 moved-spec =
     tie.close
-    (tie.spec direction-requires upward-requires facing-requires tightest-point-requires returns)
+    (tie.spec (λ c κs. search needs) upward-requires (λ c κs. search needs) tightest-point-requires returns)

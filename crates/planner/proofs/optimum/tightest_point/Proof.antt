@@ -6,9 +6,6 @@ use Rattle.planner.proofs.Passes.{found-parts, along-small}
 use Rattle.planner.proofs.optimum.tightest_point.Statement.{statement}
 use Rattle.planner.proofs.optimum.tightest_point.Tie as tie
 
-tightest-requires : tie.Need-tightest-requires
-tightest-requires c κs = search needs
-
 enum-told : tie.Need-enum-told
 enum-told c = c .match .keys1
 
@@ -29,4 +26,4 @@ returns-2 c =
 
 pub tightest-point-spec : {M : Type 1} → statement M
 tightest-point-spec =
-    tie.close (tie.spec tightest-requires enum-told enum-known-p reduce-requires returns returns-2)
+    tie.close (tie.spec (λ c κs. search needs) enum-told enum-known-p reduce-requires returns returns-2)

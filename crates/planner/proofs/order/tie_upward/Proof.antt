@@ -6,25 +6,16 @@ use Rattle.planner.proofs.Steps.{above-gains, above-loses, above-level,
 use Rattle.planner.proofs.order.tie_upward.Statement.{statement}
 use Rattle.planner.proofs.order.tie_upward.Tie as tie
 
-gains-requires : tie.Need-gains-requires
-gains-requires c κs = search needs
-
 returns : tie.Need-returns
 returns c =
     let s = c .before .before .before .before in
     above-gains (s .args .tie .first) (s .args .tie .second ∷ []) (s .args .d) (sym (c .before .gains .ensures) ∙ c .if1 .taken)
-
-loses-requires : tie.Need-loses-requires
-loses-requires c κs = search needs
 
 returns-2 : tie.Need-returns-2
 returns-2 c =
     let s = c .before .before .before .before .before .before in
     above-loses (s .args .tie .first) (s .args .tie .second ∷ []) (s .args .d)
     (sym (c .before .before .before .gains .ensures) ∙ c .before .before .if1 .left) (sym (c .before .loses .ensures) ∙ c .if2 .taken)
-
-gains-requires-2 : tie.Need-gains-requires-2
-gains-requires-2 c κs = search needs
 
 returns-3 : tie.Need-returns-3
 returns-3 c =
@@ -37,4 +28,4 @@ returns-3 c =
 
 pub tie-upward-spec : {M : Type 1} → statement M
 tie-upward-spec =
-    tie.close (tie.spec gains-requires returns loses-requires returns-2 gains-requires-2 returns-3)
+    tie.close (tie.spec (λ c κs. search needs) returns (λ c κs. search needs) returns-2 (λ c κs. search needs) returns-3)

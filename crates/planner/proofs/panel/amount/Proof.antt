@@ -4,9 +4,6 @@ use borrow.Author.Needs.{needs}
 use Rattle.planner.proofs.panel.amount.Statement.{statement}
 use Rattle.planner.proofs.panel.amount.Tie as tie
 
-slack-requires : tie.Need-slack-requires
-slack-requires c κs = search needs
-
 lowest-requires : tie.Need-lowest-requires
 lowest-requires c κs = slack-fraction (c .before .before .pre) (c .before .slack .ensures)
 
@@ -14,4 +11,4 @@ returns : tie.Need-returns
 returns c = slack-lowest (c .before .before .before .pre) (c .before .before .slack .ensures) (c .lowest .ensures)
 
 pub amount-spec : {M : Type 1} → statement M
-amount-spec = tie.close (tie.spec slack-requires lowest-requires returns)
+amount-spec = tie.close (tie.spec (λ c κs. search needs) lowest-requires returns)

@@ -1,7 +1,7 @@
 -- `planner::panel::fill` meets its contract: the rows of the first n records, with zeros after them.
 use Prim.Native.Nat.{_-_}
 use native.Mathlib.Omega.{arith}
-use Rattle.planner.specs.Panel.{rowFor, Filling}
+use Rattle.planner.specs.Panel.{rowFor}
 use Rattle.planner.proofs.Amounts.{Filled, filled-start, filled-length, filled-step, filled-end}
 use borrow.Author.Needs.{needs}
 use Rattle.planner.proofs.panel.fill.Statement.{statement}
@@ -12,9 +12,6 @@ Inv-loop book n v records rows₀ i₀ rows i = Filled (rowFor book v) records n
 
 abbrev μ-loop : tie.MeasureT-loop
 μ-loop book n v records rows₀ i₀ rows i = n - i
-
-no-row-requires : tie.Need-no-row-requires Inv-loop μ-loop
-no-row-requires c κs = search needs
 
 loop-holds : tie.Need-loop-holds Inv-loop μ-loop
 loop-holds c =
@@ -41,9 +38,6 @@ array-set-from-rows c = omega (arith, c .before .before .loop .inv .few, filled-
 add-i : tie.Need-add-i Inv-loop μ-loop
 add-i c = omega (arith, c .before .before .loop .inv .few)
 
-loop-less : tie.Need-loop-less Inv-loop μ-loop
-loop-less c = omega arith
-
 loop-again : tie.Need-loop-again Inv-loop μ-loop
 loop-again c = filled-step (c .before .before .loop .inv) (c .before .loop-test .taken) (c .row .ensures)
 
@@ -56,7 +50,7 @@ fill-spec =
     (tie.spec
     Inv-loop
     μ-loop
-    no-row-requires
+    (λ c κs. search needs)
     loop-holds
     mul-row
     array-read-row
@@ -64,6 +58,6 @@ fill-spec =
     mul-rows
     array-set-from-rows
     add-i
-    loop-less
+    (λ c. omega arith)
     loop-again
     returns)

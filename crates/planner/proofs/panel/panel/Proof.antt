@@ -5,21 +5,12 @@ use borrow.Author.Needs.{needs}
 use Rattle.planner.proofs.panel.panel.Statement.{statement}
 use Rattle.planner.proofs.panel.panel.Tie as tie
 
-read-requires : tie.Need-read-requires
-read-requires c κs = search needs
-
 accepted-panel-requires : tie.Need-accepted-panel-requires
 accepted-panel-requires c κs = zero-chained (c .before .before .before .args .book .now) (c .before .read .result) (c .before .read .ensures) (c .if1 .taken)
-
-no-rows-requires : tie.Need-no-rows-requires
-no-rows-requires c κs = search needs
-
-returns : tie.Need-returns
-returns c = search needs
 
 returns-2 : tie.Need-returns-2
 returns-2 c = refused-panel (c .before .before .before .before .args .book .now) (c .before .before .read .result) (c .before .before .read .ensures) (λ z. c .before .if1 .left z) (c .no-rows .ensures)
 
 pub panel-spec : {M : Type 1} → statement M
 panel-spec =
-    tie.close (tie.spec read-requires accepted-panel-requires no-rows-requires returns returns-2)
+    tie.close (tie.spec (λ c κs. search needs) accepted-panel-requires (λ c κs. search needs) (λ c. search needs) returns-2)

@@ -10,12 +10,6 @@ use borrow.Author.Needs.{needs}
 use Rattle.planner.proofs.panel.row.Statement.{statement}
 use Rattle.planner.proofs.panel.row.Tie as tie
 
-rule-at-requires : tie.Need-rule-at-requires
-rule-at-requires c κs = search needs
-
-constraint-requires : tie.Need-constraint-requires
-constraint-requires c κs = search needs
-
 amount-requires : tie.Need-amount-requires
 amount-requires c κs =
     subst (λ (r : Constraint). Measured r (c .before .before .before .args .v)) (sym (c .constraint .ensures ∙ ap constraintOf (c .before .rule-at .ensures .answer))) (c .before .before .before .pre)
@@ -27,4 +21,4 @@ returns c =
     (c .amount .ensures ∙ ap (λ (r : Constraint). slackOf r (c .before .before .before .before .args .v)) (c .before .constraint .ensures ∙ ap constraintOf rule))
 
 pub row-spec : {M : Type 1} → statement M
-row-spec = tie.close (tie.spec rule-at-requires constraint-requires amount-requires returns)
+row-spec = tie.close (tie.spec (λ c κs. search needs) (λ c κs. search needs) amount-requires returns)

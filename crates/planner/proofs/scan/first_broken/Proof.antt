@@ -23,12 +23,6 @@ keeps-requires : tie.Need-keeps-requires Inv-loop μ-loop
 keeps-requires c κs =
     checking (c .before .before .before .pre) (c .before .before .loop .inv) (c .before .loop-test .taken) (c .entry .ensures)
 
-add-i : tie.Need-add-i Inv-loop μ-loop
-add-i c = omega arith
-
-loop-less : tie.Need-loop-less Inv-loop μ-loop
-loop-less c = omega arith
-
 loop-again : tie.Need-loop-again Inv-loop μ-loop
 loop-again c =
     unbroken-step (c .before .before .before .before .before .pre) (c .before .before .before .before .loop .inv)
@@ -51,8 +45,8 @@ first-broken-spec =
     loop-holds
     entry-requires
     keeps-requires
-    add-i
-    loop-less
+    (λ c. omega arith)
+    (λ c. omega arith)
     loop-again
     returns
     returns-2)

@@ -5,15 +5,6 @@ use Rattle.planner.specs.Held.{tightened}
 use Rattle.planner.proofs.scan.tighter.Statement.{statement}
 use Rattle.planner.proofs.scan.tighter.Tie as tie
 
-crosses-requires : tie.Need-crosses-requires
-crosses-requires c κs = search needs
-
-keeps-requires : tie.Need-keeps-requires
-keeps-requires c κs = search needs
-
-meet-requires : tie.Need-meet-requires
-meet-requires c κs = search needs
-
 returns : tie.Need-returns
 returns c =
     rw (
@@ -36,4 +27,4 @@ returns-3 c = rw (sym (c .before .crosses .ensures) ∙ c .if1 .left, tightened)
 
 pub tighter-spec : {M : Type 1} → statement M
 tighter-spec =
-    tie.close (tie.spec crosses-requires keeps-requires meet-requires returns returns-2 returns-3)
+    tie.close (tie.spec (λ c κs. search needs) (λ c κs. search needs) (λ c κs. search needs) returns returns-2 returns-3)

@@ -24,19 +24,10 @@ tighter-requires : tie.Need-tighter-requires Inv-loop μ-loop
 tighter-requires c κs =
     tightening (c .before .before .before .before .pre) (c .before .before .loop .inv) (c .before .loop-test .taken) (c .entry .ensures)
 
-add-i : tie.Need-add-i Inv-loop μ-loop
-add-i c = omega arith
-
-loop-less : tie.Need-loop-less Inv-loop μ-loop
-loop-less c = omega arith
-
 loop-again : tie.Need-loop-again Inv-loop μ-loop
 loop-again c =
     tightest-step (c .before .before .before .before .before .pre) (c .before .before .before .loop .inv)
     (c .before .before .loop-test .taken) (c .before .entry .ensures) (c .tighter .ensures)
-
-found-requires : tie.Need-found-requires Inv-loop μ-loop
-found-requires c κs = tt
 
 returns : tie.Need-returns Inv-loop μ-loop
 returns c =
@@ -52,8 +43,8 @@ tightest-spec =
     loop-holds
     entry-requires
     tighter-requires
-    add-i
-    loop-less
+    (λ c. omega arith)
+    (λ c. omega arith)
     loop-again
-    found-requires
+    (λ c κs. tt)
     returns)

@@ -9,12 +9,6 @@ use Rattle.planner.proofs.Steps.{certificate-same}
 use Rattle.planner.proofs.start.conflict.Statement.{statement}
 use Rattle.planner.proofs.start.conflict.Tie as tie
 
-facing-requires : tie.Need-facing-requires
-facing-requires c κs = search needs
-
-line-weight-requires : tie.Need-line-weight-requires
-line-weight-requires c κs = search needs
-
 det-requires : tie.Need-det-requires
 det-requires c κs =
     record {
@@ -41,4 +35,4 @@ returns c =
 
 pub conflict-spec : {M : Type 1} → statement M
 conflict-spec =
-    tie.close (tie.spec facing-requires line-weight-requires det-requires det-requires-2 returns)
+    tie.close (tie.spec (λ c κs. search needs) (λ c κs. search needs) det-requires det-requires-2 returns)

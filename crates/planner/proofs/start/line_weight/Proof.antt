@@ -6,12 +6,6 @@ use Rattle.planner.proofs.Sizes.{result-read}
 use Rattle.planner.proofs.start.line_weight.Statement.{statement}
 use Rattle.planner.proofs.start.line_weight.Tie as tie
 
-det-requires : tie.Need-det-requires
-det-requires c κs = search needs
-
-det-requires-2 : tie.Need-det-requires-2
-det-requires-2 c κs = search needs
-
 returns : tie.Need-returns
 returns c =
     result-read (c .det .ok)
@@ -25,4 +19,4 @@ returns-2 c =
     ∙ ap (λ s. lineWeight s (c .before .before .args .k) (c .before .before .args .m)) (sym (c .before .if1 .left))
 
 pub line-weight-spec : {M : Type 1} → statement M
-line-weight-spec = tie.close (tie.spec det-requires det-requires-2 returns returns-2)
+line-weight-spec = tie.close (tie.spec (λ c κs. search needs) (λ c κs. search needs) returns returns-2)

@@ -8,9 +8,6 @@ use Rattle.planner.proofs.start.resettled.Tie as tie
 enum-told : tie.Need-enum-told
 enum-told c = c .match .keys1
 
-alone-requires : tie.Need-alone-requires
-alone-requires c κs = search needs
-
 enum-known-found : tie.Need-enum-known-found
 enum-known-found c = c .match .keys2
 
@@ -63,7 +60,7 @@ resettled-spec =
     tie.close
     (tie.spec
     enum-told
-    alone-requires
+    (λ c κs. search needs)
     enum-known-found
     first-broken-requires
     enum-told-2

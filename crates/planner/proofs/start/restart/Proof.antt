@@ -11,25 +11,13 @@ use Rattle.planner.proofs.Steps.{restarted}
 use Rattle.planner.proofs.start.restart.Statement.{statement}
 use Rattle.planner.proofs.start.restart.Tie as tie
 
-is-level-requires : tie.Need-is-level-requires
-is-level-requires c κs = search needs
-
-alone-requires : tie.Need-alone-requires
-alone-requires c κs = search needs
-
 returns : tie.Need-returns
 returns c = rw (sym (c .before .before .is-level .ensures) ∙ c .before .if1 .taken, c .alone .ensures, restart)
-
-direction-requires : tie.Need-direction-requires
-direction-requires c κs = search needs
 
 tie-upward-requires : tie.Need-tie-upward-requires
 tie-upward-requires c κs =
     let s = c .before .before .before in
     record { tie = s .pre .tie; ray = subst SmallRay (sym (c .direction .ensures)) (direction-small (s .pre .h-small)) }
-
-facing-requires : tie.Need-facing-requires
-facing-requires c κs = search needs
 
 tightest-requires : tie.Need-tightest-requires
 tightest-requires c κs =
@@ -60,12 +48,12 @@ pub restart-spec : {M : Type 1} → statement M
 restart-spec =
     tie.close
     (tie.spec
-    is-level-requires
-    alone-requires
+    (λ c κs. search needs)
+    (λ c κs. search needs)
     returns
-    direction-requires
+    (λ c κs. search needs)
     tie-upward-requires
-    facing-requires
+    (λ c κs. search needs)
     tightest-requires
     resettled-requires
     returns-2)

@@ -3,9 +3,6 @@ use borrow.Author.Needs.{needs}
 use Rattle.planner.proofs.start.start.Statement.{statement}
 use Rattle.planner.proofs.start.start.Tie as tie
 
-restart-requires : tie.Need-restart-requires
-restart-requires c κs = search needs
-
 returns : tie.Need-returns
 returns c = rw (c .if1 .taken)
 
@@ -13,4 +10,4 @@ returns-2 : tie.Need-returns-2
 returns-2 c = rw (c .before .if1 .left, c .restart .ensures)
 
 pub start-spec : {M : Type 1} → statement M
-start-spec = tie.close (tie.spec restart-requires returns returns-2)
+start-spec = tie.close (tie.spec (λ c κs. search needs) returns returns-2)

@@ -6,9 +6,6 @@ use Rattle.planner.proofs.Verdicts.{answering}
 use Rattle.planner.proofs.verdict.plan_entries.Statement.{statement}
 use Rattle.planner.proofs.verdict.plan_entries.Tie as tie
 
-walk-entries-requires : tie.Need-walk-entries-requires
-walk-entries-requires c κs = search needs
-
 verdict-requires : tie.Need-verdict-requires
 verdict-requires c κs = answering (c .before .pre) (c .walk-entries .ensures)
 
@@ -16,4 +13,4 @@ returns : tie.Need-returns
 returns c = c .verdict .ensures ∙ ap (verdictOf (c .before .before .args .objective)) (c .before .walk-entries .ensures)
 
 pub plan-entries-spec : {M : Type 1} → statement M
-plan-entries-spec = tie.close (tie.spec walk-entries-requires verdict-requires returns)
+plan-entries-spec = tie.close (tie.spec (λ c κs. search needs) verdict-requires returns)

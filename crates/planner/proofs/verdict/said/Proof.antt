@@ -8,9 +8,6 @@ use Rattle.planner.proofs.verdict.said.Tie as tie
 enum-told : tie.Need-enum-told
 enum-told c = c .match .keys1
 
-gaining-requires : tie.Need-gaining-requires
-gaining-requires c κs = search needs
-
 enum-known-d : tie.Need-enum-known-d
 enum-known-d c = c .match2 .keys1
 
@@ -44,7 +41,7 @@ said-spec =
     tie.close
     (tie.spec
     enum-told
-    gaining-requires
+    (λ c κs. search needs)
     enum-known-d
     reduce-ray-requires
     enum-told-2

@@ -16,9 +16,6 @@ said-requires c κs =
     let s = c .before .before .before in
     record { functional = s .pre .objective; rays = state-parts (s .pre .state-small) (c .before .state2 .given .1) .1 }
 
-no-certificate-requires : tie.Need-no-certificate-requires
-no-certificate-requires c κs = search needs
-
 returns : tie.Need-returns
 returns c = verdict-ended (c .before .before .before .args .objective) (c .before .before .before .args .walk) (c .before .state .given .1)
 
@@ -35,6 +32,6 @@ verdict-spec =
     enum-known-state
     enum-known-state-2
     said-requires
-    no-certificate-requires
+    (λ c κs. search needs)
     returns
     returns-2)

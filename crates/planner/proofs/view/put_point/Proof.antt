@@ -5,21 +5,9 @@ use borrow.Author.Needs.{needs}
 use Rattle.planner.proofs.view.put_point.Statement.{statement}
 use Rattle.planner.proofs.view.put_point.Tie as tie
 
-slice-set-from-x : tie.Need-slice-set-from-x
-slice-set-from-x c = search needs
-
 slice-set-from-y : tie.Need-slice-set-from-y
 slice-set-from-y c = simp length-set (omega arith)
 
-slice-set-from-d : tie.Need-slice-set-from-d
-slice-set-from-d c = search needs
-
-same-length : tie.Need-same-length
-same-length c = search needs
-
-returns : tie.Need-returns
-returns c = search needs
-
 pub put-point-spec : {M : Type 1} → statement M
 put-point-spec =
-    tie.close (tie.spec slice-set-from-x slice-set-from-y slice-set-from-d same-length returns)
+    tie.close (tie.spec (λ c. search needs) slice-set-from-y (λ c. search needs) (λ c. search needs) (λ c. search needs))

@@ -5,23 +5,8 @@ use borrow.Author.Needs.{needs}
 use Rattle.planner.proofs.view.view.Statement.{statement}
 use Rattle.planner.proofs.view.view.Tie as tie
 
-read-requires : tie.Need-read-requires
-read-requires c κs = search needs
-
 view-chain-requires : tie.Need-view-chain-requires
 view-chain-requires c κs = zero-chained (c .before .before .before .args .book .now) (c .before .read .result) (c .before .read .ensures) (c .if1 .taken)
-
-cast-t7 : tie.Need-cast-t7
-cast-t7 c = search needs
-
-cast-t8 : tie.Need-cast-t8
-cast-t8 c = search needs
-
-nowhere-requires : tie.Need-nowhere-requires
-nowhere-requires c κs = search needs
-
-returns : tie.Need-returns
-returns c = search needs
 
 returns-2 : tie.Need-returns-2
 returns-2 c =
@@ -32,4 +17,4 @@ returns-2 c =
 pub view-spec : {M : Type 1} → statement M
 view-spec =
     tie.close
-    (tie.spec read-requires view-chain-requires cast-t7 cast-t8 nowhere-requires returns returns-2)
+    (tie.spec (λ c κs. search needs) view-chain-requires (λ c. search needs) (λ c. search needs) (λ c κs. search needs) (λ c. search needs) returns-2)

@@ -9,28 +9,10 @@ use borrow.Author.Needs.{needs}
 use Rattle.planner.proofs.view.view_chain.Statement.{statement}
 use Rattle.planner.proofs.view.view_chain.Tie as tie
 
-slice-aggregate-lay-out : tie.Need-slice-aggregate-lay-out
-slice-aggregate-lay-out c = search needs
-
-slice-aggregate-lay-out-2 : tie.Need-slice-aggregate-lay-out-2
-slice-aggregate-lay-out-2 c = search needs
-
 lay-out-requires : tie.Need-lay-out-requires
 lay-out-requires c κs =
     let s = c .before .before .before .before .before in
     chain-laying (s .args .book .now) (s .args .chain) (s .pre) (replicate 771 (pos 0)) refl
-
-shorter-requires : tie.Need-shorter-requires
-shorter-requires c κs = search needs
-
-least-x-then-y-requires : tie.Need-least-x-then-y-requires
-least-x-then-y-requires c κs = search needs
-
-zero-floors-requires : tie.Need-zero-floors-requires
-zero-floors-requires c κs = search needs
-
-slice-aggregate-walk-entries : tie.Need-slice-aggregate-walk-entries
-slice-aggregate-walk-entries c = search needs
 
 add-walk-entries : tie.Need-add-walk-entries
 add-walk-entries c =
@@ -43,9 +25,6 @@ walk-entries-requires c κs =
     prefix-walking (s .args .book .now) (s .args .chain) (s .pre) (replicate 771 (pos 0)) refl _ (c .before .before .before .before .before .lay-out .ensures) _
     (c .before .before .least-x-then-y .ensures) _ (c .before .zero-floors .ensures) (s .args .prefix) _ (c .before .before .before .shorter .ensures)
 
-viewed-requires : tie.Need-viewed-requires
-viewed-requires c κs = search needs
-
 returns : tie.Need-returns
 returns c =
     let s = c .before .before .before .before .before .before .before .before .before .before .before .before .before in
@@ -57,14 +36,14 @@ pub view-chain-spec : {M : Type 1} → statement M
 view-chain-spec =
     tie.close
     (tie.spec
-    slice-aggregate-lay-out
-    slice-aggregate-lay-out-2
+    (λ c. search needs)
+    (λ c. search needs)
     lay-out-requires
-    shorter-requires
-    least-x-then-y-requires
-    zero-floors-requires
-    slice-aggregate-walk-entries
+    (λ c κs. search needs)
+    (λ c κs. search needs)
+    (λ c κs. search needs)
+    (λ c. search needs)
     add-walk-entries
     walk-entries-requires
-    viewed-requires
+    (λ c κs. search needs)
     returns)

@@ -4,15 +4,6 @@ use borrow.Author.Needs.{needs}
 use Rattle.planner.proofs.view.viewed.Statement.{statement}
 use Rattle.planner.proofs.view.viewed.Tie as tie
 
-enum-told : tie.Need-enum-told
-enum-told c = search needs
-
-nowhere-requires : tie.Need-nowhere-requires
-nowhere-requires c κs = search needs
-
-enum-known-state : tie.Need-enum-known-state
-enum-known-state c = search needs
-
 returns : tie.Need-returns
 returns c = viewed-ended (c .before .before .before .args .walk) (c .before .enum-told .given .1) (c .nowhere .ensures)
 
@@ -20,4 +11,4 @@ returns-2 : tie.Need-returns-2
 returns-2 c = viewed-going (c .before .before .before .args .walk) (c .before .state .given .1)
 
 pub viewed-spec : {M : Type 1} → statement M
-viewed-spec = tie.close (tie.spec enum-told nowhere-requires enum-known-state returns returns-2)
+viewed-spec = tie.close (tie.spec (λ c. search needs) (λ c κs. search needs) (λ c. search needs) returns returns-2)

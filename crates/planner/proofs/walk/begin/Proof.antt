@@ -4,20 +4,11 @@ use Rattle.planner.proofs.Walks.{begun-open, begun-best}
 use Rattle.planner.proofs.walk.begin.Statement.{statement}
 use Rattle.planner.proofs.walk.begin.Tie as tie
 
-gaining-requires : tie.Need-gaining-requires
-gaining-requires c κs = search needs
-
 enum-told : tie.Need-enum-told
 enum-told c = c .match .keys1
 
-going-requires : tie.Need-going-requires
-going-requires c κs = search needs
-
 enum-told-2 : tie.Need-enum-told-2
 enum-told-2 c = c .match .keys2
-
-going-requires-2 : tie.Need-going-requires-2
-going-requires-2 c κs = search needs
 
 returns : tie.Need-returns
 returns c =
@@ -35,10 +26,10 @@ pub begin-spec : {M : Type 1} → statement M
 begin-spec =
     tie.close
     (tie.spec
-    gaining-requires
+    (λ c κs. search needs)
     enum-told
-    going-requires
+    (λ c κs. search needs)
     enum-told-2
-    going-requires-2
+    (λ c κs. search needs)
     returns
     returns-2)

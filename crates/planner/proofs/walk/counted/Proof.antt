@@ -7,9 +7,6 @@ use Rattle.lp.specs.Prefixes.{one-if}
 use Rattle.planner.proofs.walk.counted.Statement.{statement}
 use Rattle.planner.proofs.walk.counted.Tie as tie
 
-add-result : tie.Need-add-result
-add-result c = search needs
-
 returns : tie.Need-returns
 returns c = ap (λ b. c .before .args .count + one-if b) (sym (c .if1 .taken))
 
@@ -17,4 +14,4 @@ returns-2 : tie.Need-returns-2
 returns-2 c = sym (add-zero (c .before .args .count)) ∙ ap (λ b. c .before .args .count + one-if b) (sym (c .if1 .left))
 
 pub counted-spec : {M : Type 1} → statement M
-counted-spec = tie.close (tie.spec add-result returns returns-2)
+counted-spec = tie.close (tie.spec (λ c. search needs) returns returns-2)

@@ -7,16 +7,10 @@ use Rattle.model.specs.declared.State.the-variants.{Going}
 use Rattle.planner.proofs.walk.going.Statement.{statement}
 use Rattle.planner.proofs.walk.going.Tie as tie
 
-is-open-requires : tie.Need-is-open-requires
-is-open-requires c κs = search needs
-
-counted-requires : tie.Need-counted-requires
-counted-requires c κs = search needs
-
 returns : tie.Need-returns
 returns c =
     let a = c .before .before .args in
     ap (λ (n : ℕ). record { state = Going (a .s) (a .cone) (a .best); moves = a .moves; opened = n; restarts = a .restarts }) (c .counted .ensures ∙ ap (λ b. a .opened + one-if b) (c .before .is-open .ensures))
 
 pub going-spec : {M : Type 1} → statement M
-going-spec = tie.close (tie.spec is-open-requires counted-requires returns)
+going-spec = tie.close (tie.spec (λ c κs. search needs) (λ c κs. search needs) returns)

@@ -27,19 +27,10 @@ breaks-requires c κs =
     let s = c .before .before .before in
     record { h-small = s .pre .moving .restarting .h-small; best = state-parts (s .pre .state-small) (c .before .state .given .1) .2 }
 
-counted-requires : tie.Need-counted-requires
-counted-requires c κs = search needs
-
 keeps-requires : tie.Need-keeps-requires
 keeps-requires c κs =
     let s = c .before .before .before .before .before in
     kept-distance (s .pre .moving .restarting .h-small) (state-parts (s .pre .state-small) (c .before .before .before .state .given .1) .0)
-
-counted-requires-2 : tie.Need-counted-requires-2
-counted-requires-2 c κs = search needs
-
-sub-place : tie.Need-sub-place
-sub-place c = search needs
 
 start-requires : tie.Need-start-requires
 start-requires c κs = c .before .before .before .before .before .before .before .pre .moving .restarting
@@ -64,9 +55,6 @@ improved-requires c κs =
       rays = subst SmallCone (sym (c .narrow .ensures)) (narrow-small (h .moving .restarting .h-small) (c .before .before .before .before .before .before .before .before .before .before .state .given .0 .1 .0) (s .1));
       best = s .2;
     }
-
-going-requires : tie.Need-going-requires
-going-requires c κs = search needs
 
 enum-known-c : tie.Need-enum-known-c
 enum-known-c c = c .match2 .keys2
@@ -97,15 +85,15 @@ step-spec =
     enum-told
     returns
     breaks-requires
-    counted-requires
+    (λ c κs. search needs)
     keeps-requires
-    counted-requires-2
-    sub-place
+    (λ c κs. search needs)
+    (λ c. search needs)
     start-requires
     enum-known-p
     narrow-requires
     improved-requires
-    going-requires
+    (λ c κs. search needs)
     enum-known-c
     returns-2
     returns-3)

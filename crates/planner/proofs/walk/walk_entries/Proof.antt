@@ -25,12 +25,6 @@ step-requires : tie.Need-step-requires Inv-loop μ-loop
 step-requires c κs =
     stepping (c .before .before .before .before .pre) (c .before .before .loop .inv) (c .before .loop-test .taken) (c .entry .ensures)
 
-add-i : tie.Need-add-i Inv-loop μ-loop
-add-i c = omega arith
-
-loop-less : tie.Need-loop-less Inv-loop μ-loop
-loop-less c = omega arith
-
 loop-again : tie.Need-loop-again Inv-loop μ-loop
 loop-again c =
     walked-step (c .before .before .before .before .before .pre) (c .before .before .before .loop .inv)
@@ -49,7 +43,7 @@ walk-entries-spec =
     loop-holds
     entry-requires
     step-requires
-    add-i
-    loop-less
+    (λ c. omega arith)
+    (λ c. omega arith)
     loop-again
     returns)

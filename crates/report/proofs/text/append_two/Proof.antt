@@ -1,6 +1,5 @@
 -- `report::text::append_two` meets its contract. Two digits in turn.
 use borrow.Author.Needs.{needs}
-use native.Mathlib.Omega.{arith}
 use Rattle.report.proofs.Put.{followed}
 use Rattle.report.proofs.text.append_two.Statement.{statement}
 use Rattle.report.proofs.text.append_two.Tie as tie
