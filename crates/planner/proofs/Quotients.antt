@@ -1,61 +1,22 @@
--- Magnitudes and quotients: a number that is cast, and a division by a natural number, are what the integers have.
-use mathlib.Core.Path.{_≡_, refl, sym, _∙_, ap, ap₂, subst}
-use mathlib.Core.Bool.{true, false}
+-- Quotients: a division by a natural number is what the integers have.
+use mathlib.Core.Path.{_≡_, sym, _∙_, ap, ap₂, subst}
 use Prim.Native.Nat.{ℕ, zero, suc, _^_, _<_, _≤_}
 use native.Mathlib.Omega.{arith}
-use borrow.Author.Tests.{ltb-true}
-use lib.Dec.{T}
-use lib.IntN.{ℤ, pos, negsuc, negℤ, natAbs, _-ℤ_}
-use lib.Signed.{ltZ, nonNeg, quotZ, mag}
+use lib.IntN.{ℤ, pos, natAbs}
+use lib.Signed.{quotZ, mag}
 use mir.Syntax.{w64}
-use mir.Val.{Fits, SFits, toZ}
+use mir.Val.{SFits, toZ}
 use mir.Facts.{toZ-ofZ}
 use Rattle.ints.specs.Within.{Within}
 use Rattle.ints.specs.Gcd.{gcd, gcd2, gcd3}
 use Rattle.ints.proofs.Gcd.{gcd-zero, gcd-le-right, gcd-pos-right, gcd3-le, gcd3-pos}
-use Rattle.ints.proofs.Machine.{within-fits, within-read, within-neg, within-sub, within-numeral, within-quot, weaken}
-use Rattle.ints.proofs.Divides.{natAbs-neg, natAbs-pos}
+use Rattle.ints.proofs.Machine.{within-fits, within-read, within-quot, weaken}
+use Rattle.ints.proofs.Divides.{natAbs-pos}
 use Rattle.lp.specs.declared.Point.{Point}
 use Rattle.lp.specs.declared.Ray.{Ray}
 use Rattle.model.specs.Bounds.{SmallPoint, SmallRay}
 use Rattle.planner.specs.Sizes.{Quotient, Reducible, Fraction}
-use Rattle.planner.proofs.Sizes.{read, result-read, within-unread, opposite-is}
-
--- ---- casts to magnitudes
-
-below-zero : (z : ℤ) → ltZ z (pos 0) ≡ true → T (nonNeg (negℤ z))
-below-zero (pos n) e = absurd (omega (arith, ltb-true n 0 e))
-below-zero (negsuc n) e = tt
-
-not-below : (z : ℤ) → ltZ z (pos 0) ≡ false → T (nonNeg z)
-not-below (pos n) e = tt
-not-below (negsuc n) e = subst (λ b. T b) e tt
-
-natAbs-opposite : (z : ℤ) → natAbs (negℤ z) ≡ natAbs z
-natAbs-opposite (pos n) = natAbs-neg n
-natAbs-opposite (negsuc n) = refl
-
-module _ {z : ℤ} (h : Within 6442057734000000000 z) where
-  magnitude-fits : Fits w64 (natAbs z)
-  magnitude-fits = record { fits = omega (arith, h .small) }
-
-  pub minus-fits : SFits w64 (pos 0 -ℤ read z)
-  minus-fits = within-fits (within-sub {m = 0} {a = pos 0} (within-numeral tt) (within-read h tt)) tt
-
-  pub minus-cast : ltZ (read z) (pos 0) ≡ true → T (nonNeg (read (pos 0 -ℤ read z))) × Fits w64 (natAbs (read (pos 0 -ℤ read z)))
-  minus-cast e =
-      subst (λ y. T (nonNeg y) × Fits w64 (natAbs y)) (sym (opposite-is h))
-      (below-zero z (ap (λ y. ltZ y (pos 0)) (sym (within-unread h tt)) ∙ e), record { fits = omega (arith, within-neg h .small) })
-
-  pub plus-cast : ltZ (read z) (pos 0) ≡ false → T (nonNeg (read z)) × Fits w64 (natAbs (read z))
-  plus-cast e =
-      subst (λ y. (ltZ y (pos 0) ≡ false) → T (nonNeg y) × Fits w64 (natAbs y)) (sym (within-unread h tt))
-      (λ e. (not-below z e, magnitude-fits)) e
-
-  pub minus-magnitude : natAbs (read (pos 0 -ℤ read z)) ≡ natAbs z
-  minus-magnitude = ap natAbs (opposite-is h) ∙ natAbs-opposite z
-
--- ---- quotients
+use Rattle.planner.proofs.Sizes.{read, result-read, within-unread}
 
 module _ {z : ℤ} {g : ℕ} (h : Quotient z g) where
   quot-unread : quotZ (read z) (toZ w64 g) ≡ quotZ z (pos g)

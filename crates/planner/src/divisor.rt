@@ -1,4 +1,5 @@
 // Points, rays and amounts in lowest terms. The greatest common divisor is worked out by repeated remainders, on magnitudes.
+use ints::magnitude;
 use lp::Amount;
 use lp::Point;
 use lp::Ray;
@@ -17,13 +18,6 @@ fn divisor(m: u64, n: u64) -> u64
     ensures { λ r. ⌜ r ≡ gcd m n ⌝ }
 {
     if n == 0 { m } else { divisor(n, m % n) }
-}
-
-fn magnitude(z: i64) -> u64
-    requires { ⌜ Within 6442057734000000000 z ⌝ }
-    ensures { λ r. ⌜ r ≡ natAbs z ⌝ }
-{
-    if z < 0 { (0 - z) as u64 } else { z as u64 }
 }
 
 fn quotient(z: i64, g: u64) -> i64

@@ -1,7 +1,7 @@
 -- The lines of the tables are those spelt out beside them: one computation over each table.
 use mathlib.Core.Path.{_≡_, refl}
 use mathlib.Core.List.{map}
-use Rattle.report.specs.Text.{text}
+use Rattle.typed_rules.specs.Text.{text}
 use Rattle.report.specs.Line.{decimal, signed, number, integer, pair, direction, counts, entry, entries, witness, fields, answerFields, lineOf}
 use Rattle.report.specs.Panel.{rowLine, rowLines}
 use Rattle.report.specs.Typed.{ruleFields, typedFields, typedLine}

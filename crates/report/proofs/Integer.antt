@@ -13,7 +13,7 @@ use mir.Val.{SFits, toZ, ofZ}
 use mir.Facts.{toZ-ofZ}
 use Rattle.ints.proofs.Bits.{read, below-zero, from-zero}
 use Rattle.lp.specs.Certificate.{weighted}
-use Rattle.report.specs.Text.{text}
+use Rattle.typed_rules.specs.Text.{text}
 use Rattle.report.specs.Line.{decimal, signed, integer}
 use Rattle.report.specs.Append.{Appended}
 use Rattle.report.proofs.Decimal.{decimal-short}

@@ -10,7 +10,7 @@ use Rattle.lp.specs.declared.Outcome.{Outcome}
 use Rattle.lp.specs.declared.Outcome.the-variants.{Infeasible, Unbounded, Optimal}
 use Rattle.lp.specs.declared.Certificate.{Certificate}
 use Rattle.lp.specs.Certificate.{Weighted, named}
-use Rattle.report.specs.Text.{text}
+use Rattle.typed_rules.specs.Text.{text}
 use Rattle.report.specs.declared.Plan.{Plan}
 use Rattle.report.specs.declared.Answer.{Answer}
 use Rattle.report.specs.declared.Answer.the-variants.{Refused, Planned}

@@ -8,7 +8,7 @@ use lib.ListN.{take}
 use Rattle.report.specs.declared.panel.Row.{Row}
 use Rattle.report.specs.declared.panel.Panel.{Panel}
 use Rattle.report.specs.declared.Answer.the-variants.{Refused}
-use Rattle.report.specs.Text.{text}
+use Rattle.typed_rules.specs.Text.{text}
 use Rattle.report.specs.Line.{decimal, integer, lineOf}
 use Rattle.report.specs.Append.{Fills}
 

@@ -5,7 +5,7 @@ use Rattle.typed_rules.specs.declared.Written.{Written}
 use Rattle.typed_rules.specs.declared.Typed.{Typed}
 use Rattle.typed_rules.specs.declared.Typed.the-variants.{Rule, Refused}
 use Rattle.report.specs.declared.Answer.the-variants as answer
-use Rattle.report.specs.Text.{text}
+use Rattle.typed_rules.specs.Text.{text}
 use Rattle.report.specs.Line.{number, integer, answerFields}
 use Rattle.report.specs.Append.{Fills}
 

@@ -62,23 +62,12 @@ pub fn append_number(n: usize, out: &mut [u8], at: usize) -> usize
     append_decimal(n, out, digits)
 }
 
-// The least i64 has no opposite, but one more than it has.
-fn magnitude(z: i64) -> usize
-    ensures { λ r. ⌜ r ≡ natAbs z ⌝ }
-{
-    if z < 0 {
-        (0 - (z + 1)) as usize + 1
-    } else {
-        z as usize
-    }
-}
-
 // A space and a number with its sign.
 pub fn append_integer(z: i64, out: &mut [u8], at: usize) -> usize
     requires { ⌜ Room (now out) at 21 ⌝ }
     ensures { λ r. ⌜ Appended (now (out .entry)) at (integer z) 21 (now (out .exit)) r ⌝ }
 {
-    let digits = magnitude(z);
+    let digits = ints::magnitude(z) as usize;
     if z < 0 {
         let next = append_word(b" -", out, at);
         append_decimal(digits, out, next)

@@ -11,21 +11,10 @@ ghost use Rattle.ints.specs.Within.{Within};
 ghost use Rattle.typed_rules.specs.Value.{inside as insideOf, checked as checkedOf, numeral as numeralOf, addForms, subForms, mulForms, constant as constantOf, multiplied as multipliedOf, negForm, negated as negatedOf, sum as sumOf, difference as differenceOf, product as productOf, final as finalOf, written as writtenOf, conclude as concludeOf};
 ghost use Rattle.typed_rules.specs.Contracts.{SmallForm, SmallForms, Small, Smalls, SmallPair, SmallFour, Valued};
 
-// The least i64 has no opposite, but one more than it has.
-fn magnitude(z: i64) -> usize
-    ensures { λ r. ⌜ r ≡ natAbs z ⌝ }
-{
-    if z < 0 {
-        (0 - (z + 1)) as usize + 1
-    } else {
-        z as usize
-    }
-}
-
 fn inside(n: usize, z: i64) -> bool
     ensures { λ r. ⌜ r ≡ insideOf n z ⌝ }
 {
-    magnitude(z) <= n
+    ints::magnitude(z) as usize <= n
 }
 
 fn add(y: i64, z: i64) -> i64

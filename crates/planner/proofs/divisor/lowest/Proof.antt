@@ -1,16 +1,10 @@
 -- `planner::divisor::lowest` meets its contract: n/d in lowest terms.
 use borrow.Author.Needs.{needs}
-use Rattle.ints.proofs.Machine.{within-read, within-numeral, weaken}
+use Rattle.ints.proofs.Machine.{weaken}
 use Rattle.planner.proofs.Quotients.{fraction-divisor, fraction-quotient, quotient-read}
 use Rattle.planner.proofs.Sizes.{amount-same}
 use Rattle.planner.proofs.divisor.lowest.Statement.{statement}
 use Rattle.planner.proofs.divisor.lowest.Tie as tie
-
-magnitude-requires : tie.Need-magnitude-requires
-magnitude-requires c κs = search (needs, within-read, within-numeral, c .pre .n-small)
-
-magnitude-requires-2 : tie.Need-magnitude-requires-2
-magnitude-requires-2 c κs = within-read (weaken tt (c .before .pre .d-small)) tt
 
 quotient-requires : tie.Need-quotient-requires
 quotient-requires c κs =
@@ -34,8 +28,8 @@ pub lowest-spec : {M : Type 1} → statement M
 lowest-spec =
     tie.close
     (tie.spec
-    magnitude-requires
-    magnitude-requires-2
+    (λ c κs. search needs)
+    (λ c κs. search needs)
     (λ c κs. search needs)
     quotient-requires
     quotient-requires-2

@@ -1,19 +1,12 @@
 -- `planner::divisor::ray_divisor` meets its contract: what divides a ray's two numbers.
 use borrow.Author.Needs.{needs}
-use Rattle.ints.proofs.Machine.{within-read, weaken}
 use Rattle.planner.proofs.Quotients.{ray-divisor}
 use Rattle.planner.proofs.divisor.ray_divisor.Statement.{statement}
 use Rattle.planner.proofs.divisor.ray_divisor.Tie as tie
-
-magnitude-requires : tie.Need-magnitude-requires
-magnitude-requires c κs = within-read (weaken tt (c .before .pre .dx-small)) tt
-
-magnitude-requires-2 : tie.Need-magnitude-requires-2
-magnitude-requires-2 c κs = within-read (weaken tt (c .before .before .before .pre .dy-small)) tt
 
 returns : tie.Need-returns
 returns c = ray-divisor (c .before .before .before .before .before .pre) (c .before .before .before .magnitude .ensures) (c .before .magnitude2 .ensures) (c .divisor .ensures)
 
 pub ray-divisor-spec : {M : Type 1} → statement M
 ray-divisor-spec =
-    tie.close (tie.spec magnitude-requires magnitude-requires-2 (λ c κs. search needs) returns)
+    tie.close (tie.spec (λ c κs. search needs) (λ c κs. search needs) (λ c κs. search needs) returns)

@@ -1,8 +1,8 @@
--- `typed_rules::arith::magnitude` meets its contract. A negative number is raised by one, turned round, and counted one more.
+-- `ints::magnitude` meets its contract. A negative number is raised by one, turned round, and counted one more.
 use borrow.Author.Needs.{needs}
 use Rattle.ints.proofs.Bits.{negative, counted}
-use Rattle.typed_rules.proofs.arith.magnitude.Statement.{statement}
-use Rattle.typed_rules.proofs.arith.magnitude.Tie as tie
+use Rattle.ints.proofs.magnitude.Statement.{statement}
+use Rattle.ints.proofs.magnitude.Tie as tie
 
 pub magnitude-spec : {M : Type 1} → statement M
 magnitude-spec =
