@@ -36,94 +36,6 @@ append-decimal-below t =
     (falls 1 append-decimal-kinds.ps _<_ μ-append-decimal t)
     append-decimal.Pre
 
-append-byte-requires : (t : ℕ) → append-decimal-lts.Need-append-byte-requires (
-  append-byte-reads.Asked,
-  append-byte-reads.Learnt,
-  append-two-reads.Asked,
-  append-two-reads.Learnt,
-  append-decimal-below t,
-  append-decimal.Post,
-) (append-decimal-at t) append-decimal.Post
-append-byte-requires t c κs =
-    let start = c .before .before .before in
-    record { free = omega (arith, decimal-one (start .args .n) (omega arith)) }
-
-append-two-requires : (t : ℕ) → append-decimal-lts.Need-append-two-requires (
-  append-byte-reads.Asked,
-  append-byte-reads.Learnt,
-  append-two-reads.Asked,
-  append-two-reads.Learnt,
-  append-decimal-below t,
-  append-decimal.Post,
-) (append-decimal-at t) append-decimal.Post
-append-two-requires t c κs =
-    let start = c .before .before .before .before in
-    record { small = omega arith; free = omega (arith, ap length (decimal-pair (start .args .n) (omega arith) (omega arith))) }
-
-append-decimal-requires : (t : ℕ) → append-decimal-lts.Need-append-decimal-requires (
-  append-byte-reads.Asked,
-  append-byte-reads.Learnt,
-  append-two-reads.Asked,
-  append-two-reads.Learnt,
-  append-decimal-below t,
-  append-decimal.Post,
-) (append-decimal-at t) append-decimal.Post
-append-decimal-requires t c κs =
-    let start = c .before .before .before .before in
-    (omega arith, record { free = omega (arith, decimal-two-longer (start .args .n) (omega arith)) })
-
-append-two-requires-2 : (t : ℕ) → append-decimal-lts.Need-append-two-requires-2 (
-  append-byte-reads.Asked,
-  append-byte-reads.Learnt,
-  append-two-reads.Asked,
-  append-two-reads.Learnt,
-  append-decimal-below t,
-  append-decimal.Post,
-) (append-decimal-at t) append-decimal.Post
-append-two-requires-2 t c κs =
-    let start = c .before .before .before .before .before .before .before .before in
-    record { small = omega arith; free = omega (arith, decimal-two-longer (start .args .n) (omega arith)) }
-
-returns : (t : ℕ) → append-decimal-lts.Need-returns (
-  append-byte-reads.Asked,
-  append-byte-reads.Learnt,
-  append-two-reads.Asked,
-  append-two-reads.Learnt,
-  append-decimal-below t,
-  append-decimal.Post,
-) (append-decimal-at t) append-decimal.Post
-returns t c =
-    let last = c .before .before in
-    let start = last .before .before .before .before in
-    exactly (sym (decimal-single (start .args .n) (omega arith))) (last .append-byte .ensures)
-
-returns-2 : (t : ℕ) → append-decimal-lts.Need-returns-2 (
-  append-byte-reads.Asked,
-  append-byte-reads.Learnt,
-  append-two-reads.Asked,
-  append-two-reads.Learnt,
-  append-decimal-below t,
-  append-decimal.Post,
-) (append-decimal-at t) append-decimal.Post
-returns-2 t c =
-    let last = c .before .before in
-    let start = last .before .before .before .before .before in
-    exactly (sym (decimal-pair (start .args .n) (omega arith) (omega arith))) (last .append-two .ensures)
-
-returns-3 : (t : ℕ) → append-decimal-lts.Need-returns-3 (
-  append-byte-reads.Asked,
-  append-byte-reads.Learnt,
-  append-two-reads.Asked,
-  append-two-reads.Learnt,
-  append-decimal-below t,
-  append-decimal.Post,
-) (append-decimal-at t) append-decimal.Post
-returns-3 t c =
-    let last = c .before .before in
-    let digits = last .before .before .before .before in
-    let start = digits .before .before .before .before .before in
-    exactly (sym (decimal-hundred (start .args .n) (omega arith))) (followed (digits .append-decimal .ensures) (last .append-two2 .ensures))
-
 pub +append-decimal-spec : {M : Type 1} → statement M
 +append-decimal-spec = close μ-append-decimal λ t. append-decimal-lts.spec (
   append-byte-reads.Asked,
@@ -137,13 +49,31 @@ pub +append-decimal-spec : {M : Type 1} → statement M
     append-decimal.Post
     (λ c. omega arith)
     (λ c. omega arith)
-    (append-byte-requires t)
-    (append-two-requires t)
-    (append-decimal-requires t)
-    (append-two-requires-2 t)
+    (λ c κs.
+    let start = c .before .before .before in
+    record { free = omega (arith, decimal-one (start .args .n) (omega arith)) })
+    (λ c κs.
+    let start = c .before .before .before .before in
+    record { small = omega arith; free = omega (arith, ap length (decimal-pair (start .args .n) (omega arith) (omega arith))) })
+    (λ c κs.
+    let start = c .before .before .before .before in
+    (omega arith, record { free = omega (arith, decimal-two-longer (start .args .n) (omega arith)) }))
+    (λ c κs.
+    let start = c .before .before .before .before .before .before .before .before in
+    record { small = omega arith; free = omega (arith, decimal-two-longer (start .args .n) (omega arith)) })
     (λ c. search needs)
-    (returns t)
+    (λ c.
+    let last = c .before .before in
+    let start = last .before .before .before .before in
+    exactly (sym (decimal-single (start .args .n) (omega arith))) (last .append-byte .ensures))
     (λ c. search needs)
-    (returns-2 t)
+    (λ c.
+    let last = c .before .before in
+    let start = last .before .before .before .before .before in
+    exactly (sym (decimal-pair (start .args .n) (omega arith) (omega arith))) (last .append-two .ensures))
     (λ c. search needs)
-    (returns-3 t)
+    (λ c.
+    let last = c .before .before in
+    let digits = last .before .before .before .before in
+    let start = digits .before .before .before .before .before in
+    exactly (sym (decimal-hundred (start .args .n) (omega arith))) (followed (digits .append-decimal .ensures) (last .append-two2 .ensures)))
