@@ -8,4 +8,5 @@ pub mod Gcd
 pub mod Reduced
 pub mod Machine
 pub mod Bits
+pub mod Determinant
 pub mod Examples

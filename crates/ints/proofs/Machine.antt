@@ -3,7 +3,7 @@
 -- `toZ w64 (ofZ w64 z)`, which is z where z fits (the library's `toZ-ofZ`). `sizes` answers such needs from Within facts in what a function requires.
 use mathlib.Core.Bool.{Bool, true, false, cond}
 use Prim.Native.Nat.{ℕ, suc, _+_, _*_, _-_, _/_, _^_, _≤_, _<_}
-use native.Mathlib.Nat.{mul-le-mul, le-trans, mul-div-le, div-mul-le-self}
+use native.Mathlib.Nat.{mul-le-mul, le-trans, le-mul-of-pos-right, mul-comm, mul-div-le, div-mul-le-self}
 use native.Mathlib.Omega.{arith}
 use lib.Dec.{T, leb, ltb, leb→le, le→leb, ltb→lt}
 use lib.IntN.{ℤ, pos, negsuc, natAbs, negℤ, subℕ, _+ℤ_, _-ℤ_, _*ℤ_}
@@ -14,7 +14,7 @@ use mir.Facts.{toZ-ofZ}
 use Rattle.ints.specs.Order.{_≤ᶻ_, _<ᶻ_}
 use Rattle.ints.specs.Within.{Within}
 use Rattle.ints.proofs.Order.{nn-elim, pos-elim}
-use Rattle.ints.proofs.Divides.{natAbs-mul, natAbs-neg, quot-no-larger}
+use Rattle.ints.proofs.Divides.{natAbs-mul, natAbs-neg, natAbs-pos, quot-no-larger}
 
 -- ---- bounds of parts give bounds of the whole
 
@@ -46,6 +46,10 @@ within-mul {m} {n} {a} {b} h k = record { small = rw natAbs-mul (mul-le-mul (h .
 
 pub within-quot : {n : ℕ} {a : ℤ} (b : ℤ) → Within n a → Within n (quotZ a b)
 within-quot {n} {a} b h = record { small = le-trans (quot-no-larger a b) (h .small) }
+
+-- a positive factor left out
+pub within-factor : {n : ℕ} {k a : ℤ} → pos 0 <ᶻ k → Within n (k *ℤ a) → Within n a
+within-factor {n} {k} {a} p h = record { small = le-trans (le-mul-of-pos-right (natAbs a) (natAbs-pos p)) (rw (mul-comm (natAbs a) (natAbs k), ← natAbs-mul) (h .small)) }
 
 -- a larger bound: `weaken tt h` for two numerals
 pub weaken : {m n : ℕ} {z : ℤ} → T (leb m n) → Within m z → Within n z

@@ -26,4 +26,5 @@ pub mod Meaning
 pub mod Tops
 pub mod Theorems
 pub mod Slack
+pub mod Largest
 pub mod Starts

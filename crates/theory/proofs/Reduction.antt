@@ -34,7 +34,7 @@ module _ (k : ℤ) (w v : Point) (m : Multiple k w v) where
   whole : scaled k w ≡ v
   whole = point-path (m .on-x) (m .on-y) (m .on-d)
 
-  slack-multiple : (r : Constraint) → k *ℤ slack r w ≡ slack r v
+  pub slack-multiple : (r : Constraint) → k *ℤ slack r w ≡ slack r v
   slack-multiple r =
       equal (Z ∷ C ∷ P ∷ []) (λ k r w. k ⊗ slackᵖ r w ≐ r .c ⊗ (k ⊗ w .d) ⊖ (r .a ⊗ (k ⊗ w .x) ⊕ r .b ⊗ (k ⊗ w .y))) refl k r w ∙ ap (slack r) whole
 
