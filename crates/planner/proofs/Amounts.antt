@@ -166,11 +166,15 @@ said-small o (Going s cone best.Open) h = go (gaining o cone)
 said-small o (Going s cone (best.At v)) h = h .2
 
 module _ (s : List ℕ) (o : Functional) (es : List Entry) (e : readOf v1 s ≡ accepted o es) where
+  pub rules-small : SmallSystem (rulesOf es)
+  rules-small =
+      small-system (rulesOf es) (λ k h. lawful-small (rule-lawful s o es e k (omega (arith, length-map es (λ x. plannedRule (x .rule))))))
+
   best-small : (v : Point) → outcome leastXThenY zeroFloors o (rulesOf es) ≡ outcome.Optimal v → SmallPoint v
   best-small v q =
       subst SmallOutcome (walk-is-defined leastXThenY least-x-then-y-good zeroFloors o (rulesOf es) .outcome-defined ∙ q)
       (said-small o (walk leastXThenY zeroFloors o (rulesOf es) .state)
-      (walk-small leastXThenY zeroFloors zeroFloors-small o (rulesOf es) (small-system (rulesOf es) (λ k h. lawful-small (rule-lawful s o es e k (omega (arith, length-map es (λ x. plannedRule (x .rule))))))) .state-small))
+      (walk-small leastXThenY zeroFloors zeroFloors-small o (rulesOf es) rules-small .state-small))
 
   -- the rows that the code makes are the chain's
   rows-are : (v : Point) → map (rowFor s v) (take (length es) (padded (map indexIn es))) ≡ map (rowOf v) es

@@ -5,6 +5,7 @@ use mathlib.Core.Logic.{⊎-elim}
 use Prim.Native.Nat.{ℕ}
 use lib.IntN.{pos}
 use Rattle.ints.specs.Order.{_≤ᶻ_}
+use Rattle.ints.proofs.Machine.{within-le}
 use Rattle.lp.specs.declared.Functional.{Functional}
 use Rattle.lp.specs.declared.Point.{Point}
 use Rattle.lp.specs.declared.Ray.{Ray}
@@ -15,10 +16,13 @@ use Rattle.lp.specs.Document.{leastXThenY, zeroFloors}
 use Rattle.book.specs.Layout.{v1}
 use Rattle.book.specs.Reading.{refused, accepted, Entry, readOf}
 use Rattle.report.specs.declared.panel.Panel.{Panel}
+use Rattle.model.proofs.Bounds.{zeroFloors-small}
 use Rattle.theory.proofs.Ties.{least-x-then-y-good}
 use Rattle.theory.proofs.Slack.{best-slacks}
+use Rattle.theory.proofs.Largest.{best-numerators}
 use Rattle.planner.specs.Planning.{plannedRule, rulesOf}
 use Rattle.planner.specs.Panel.{rowOf, panelWith, rowsFor, panelOf, Panels}
+use Rattle.planner.proofs.Amounts.{rules-small}
 
 planned-member : (e : Entry) (es : List Entry) → List·Memᴰ e es → List·Memᴰ (plannedRule (e .rule)) (rulesOf es)
 planned-member e [] i = absurd (List·Memᴰ·not-nil i)
@@ -44,6 +48,11 @@ module _ (s : List ℕ) (p : Panel) (promise : Panels s p) where
     pub none-broken : (v : Point) → outcome leastXThenY zeroFloors o (rulesOf es) ≡ outcome.Optimal v → (x : Entry) → List·Memᴰ x es → pos 0 ≤ᶻ rowOf v x .slack .numerator
     none-broken v f x i =
         best-slacks leastXThenY least-x-then-y-good zeroFloors o (rulesOf es) v f (plannedRule (x .rule)) (planned-member x es i)
+
+    -- nor is any above the largest determinant of three lawful rules, 4·32,767²·1,000,000,000
+    pub slack-bounded : (v : Point) → outcome leastXThenY zeroFloors o (rulesOf es) ≡ outcome.Optimal v → (x : Entry) → List·Memᴰ x es → rowOf v x .slack .numerator ≤ᶻ pos 4294705156000000000
+    slack-bounded v f x i =
+        within-le (best-numerators leastXThenY least-x-then-y-good zeroFloors zeroFloors-small o (rulesOf es) (rules-small s o es e) v f (plannedRule (x .rule)) (planned-member x es i))
 
     -- any other outcome: no row
     pub impossible-shows-none : outcome leastXThenY zeroFloors o (rulesOf es) ≡ outcome.Infeasible → p ≡ panelWith 0 0 []
