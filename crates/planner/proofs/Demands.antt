@@ -23,7 +23,7 @@ use Rattle.theory.proofs.Ties.{least-x-then-y-good}
 use Rattle.theory.proofs.Farkas.{certificate-excludes}
 use Rattle.theory.proofs.Meaning.{outcome-order-free}
 use Rattle.theory.proofs.Theorems.{infeasible-exactly, unbounded-exactly, optimal-exactly, BestPoint, optimum-best, FirstPoint, start-first, FlattestRay, ray-flattest, Placed, place-least, moves-at-most, open-at-most}
-use Rattle.planner.specs.Witness.{coded}
+use Rattle.witness.specs.Witness.{coded}
 use Rattle.planner.proofs.Chains.{length-rules}
 use Rattle.planner.proofs.Ordered.{InOrder, rising-in-order}
 use Rattle.planner.specs.Planning.{rulesOf, recordsOf, Proves, Witnessed, PlannedAs, AnsweredBy, Answers}

@@ -27,7 +27,7 @@ use Rattle.theory.proofs.Ties.{least-x-then-y-good}
 use Rattle.theory.proofs.Walk.{Stands}
 use Rattle.theory.proofs.Meaning.{walk-stands}
 use Rattle.theory.proofs.Theorems.{walk-is-defined}
-use Rattle.planner.specs.Witness.{codeAt, codeOf, coded, rising}
+use Rattle.witness.specs.Witness.{codeAt, codeOf, coded, rising}
 use Rattle.planner.specs.Verdict.{verdictOf, witnessOf}
 use Rattle.planner.specs.Planning.{rulesOf, Witnessed, PlannedAs}
 use Rattle.planner.proofs.Chains.{length-rules, rule-lawful}

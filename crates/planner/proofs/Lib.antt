@@ -16,4 +16,3 @@ pub mod Amounts
 pub mod Shown
 pub mod Demands
 pub mod Seen
-pub mod Witnesses

@@ -6,7 +6,7 @@ use native.Mathlib.Omega.{arith}
 use lib.Dec.{T, ltb, ltb→lt, nltb→le, not-T}
 use Rattle.lp.specs.declared.Certificate.{Certificate}
 use Rattle.lp.specs.Certificate.{isZero}
-use Rattle.planner.specs.Witness.{goesBefore, orderFirst, orderLast, rising}
+use Rattle.witness.specs.Witness.{goesBefore, orderFirst, orderLast, rising}
 
 -- the second entry does not go before the first, nor the third before the second
 pub record InOrder (k : Certificate) : Type 0 where

@@ -21,7 +21,7 @@ use Rattle.model.specs.Step.{walk}
 use Rattle.planner.specs.Entries.{entries}
 use Rattle.planner.specs.Sizes.{Walking}
 use Rattle.planner.specs.Layout.{laidOut, ruleFor, Laying}
-use Rattle.planner.specs.Witness.{coded, rising}
+use Rattle.witness.specs.Witness.{coded, rising}
 use Rattle.planner.specs.Verdict.{verdictOf}
 use Rattle.planner.specs.Planning.{rulesOf, Chained, AnsweredBy, Answers}
 use Rattle.planner.proofs.Chains.{length-index, few, laying, walking, rules-given}

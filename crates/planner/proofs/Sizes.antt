@@ -1,11 +1,11 @@
 -- Every value that an exact computation makes on its way fits 64 bits, and what one function asks follows from what its caller has. An i64 that a call
 -- takes or returns is read back from its bits, `read z`, which is z where z fits.
-use mathlib.Core.Path.{_≡_, _∙_, sym, ap}
-use mathlib.Core.Bool.{Bool, true, false, _&&_}
+use mathlib.Core.Path.{_≡_, _∙_, ap}
+use mathlib.Core.Bool.{Bool}
 use Prim.Native.Nat.{ℕ, _^_, _<_}
 use lib.Dec.{T, ltb}
 use lib.IntN.{ℤ, pos, negℤ, _+ℤ_, _-ℤ_, _*ℤ_, +ℤ-idl}
-use lib.Signed.{mag, leZ}
+use lib.Signed.{mag}
 use mir.Syntax.{w64}
 use mir.Val.{SFits, toZ, ofZ}
 use mir.Facts.{toZ-ofZ}
@@ -173,21 +173,6 @@ opposite-is {z} h =
 
 pub opposite-read : {z : ℤ} → Within 1000000000 z → {y : ℤ} → mag y < 2 ^ 63 → y ≡ negℤ (read z) → read y ≡ negℤ z
 opposite-read h b e = result-read b ∙ e ∙ ap negℤ (within-unread h tt)
-
-pub both-left : {s t : Bool} → s ≡ true → t ≡ (s && t)
-both-left {s} {t} e = sym (ap (λ b. b && t) e)
-
-pub both-right : {s : Bool} (t : Bool) → s ≡ false → s ≡ (s && t)
-both-right {s} t e = e ∙ sym (ap (λ b. b && t) e)
-
-pub zero-left : {z : ℤ} → SFits w64 z → leZ (read z) (pos 0) ≡ true → leZ (pos 0) (read z) ≡ isZero z
-zero-left {z} f e = ap (leZ (pos 0)) (toZ-ofZ {w = w64} f) ∙ both-left (ap (λ y. leZ y (pos 0)) (sym (toZ-ofZ {w = w64} f)) ∙ e)
-
-pub zero-right : {z : ℤ} → SFits w64 z → leZ (read z) (pos 0) ≡ false → leZ (read z) (pos 0) ≡ isZero z
-zero-right {z} f e = s ∙ both-right (leZ (pos 0) z) (sym s ∙ e)
-  where
-    s : leZ (read z) (pos 0) ≡ leZ z (pos 0)
-    s = ap (λ y. leZ y (pos 0)) (toZ-ofZ {w = w64} f)
 
 -- of a coefficient
 pub zero-read : {n : ℕ} {z : ℤ} → Within n z → T (ltb n (2 ^ 63)) → {t : Bool} → t ≡ isZero (read z) → t ≡ isZero z

@@ -31,7 +31,7 @@ use Rattle.model.specs.Bounds.{SmallGain, SmallState}
 use Rattle.model.proofs.Bounds.{walk-small, gaining-small}
 use Rattle.planner.specs.Entries.{entries}
 use Rattle.planner.specs.Verdict.{planned, verdictOf, witnessOf}
-use Rattle.planner.specs.Witness.{nobody}
+use Rattle.witness.specs.Witness.{nobody}
 use Rattle.planner.specs.Sizes.{Gaining, Reducible, Answering, Walking}
 use Rattle.planner.proofs.Passes.{entries-part}
 

@@ -1,4 +1,4 @@
--- The entries of a system as numbers (Entries), what a pass holds (Held), the start point's part of a step (Start), the verdict (Verdict), the witness by record (Witness), what a book is planned as (Planning), its panel (Panel), and what the planner's private functions ask of the numbers that they
+-- The entries of a system as numbers (Entries), what a pass holds (Held), the start point's part of a step (Start), the verdict (Verdict), what a book is planned as (Planning), its panel (Panel), and what the planner's private functions ask of the numbers that they
 -- are handed (Sizes).
 pub mod Entries
 pub mod Held
@@ -6,7 +6,6 @@ pub mod Start
 pub mod Layout
 pub mod Verdict
 pub mod Sizes
-pub mod Witness
 pub mod Planning
 pub mod Panel
 pub mod View

@@ -26,7 +26,7 @@ use Rattle.report.specs.declared.Answer.{Answer}
 use Rattle.report.specs.declared.Answer.the-variants.{Refused, Planned}
 use Rattle.report.specs.declared.Plan.{Plan}
 use Rattle.report.specs.Append.{Written}
-use Rattle.planner.specs.Witness.{nobody, coded, rising}
+use Rattle.witness.specs.Witness.{nobody, coded, rising}
 
 -- a rule as it is planned: kind 2, at least, is turned round
 abbrev pub plannedRule : Rule → Constraint

@@ -8,7 +8,7 @@ use Rattle.model.specs.declared.State.the-variants.{Ended, Going}
 use Rattle.model.specs.declared.Walk.{Walk}
 use Rattle.model.specs.Step.{said, placeOf}
 use Rattle.report.specs.declared.Plan.{Plan}
-use Rattle.planner.specs.Witness.{nobody}
+use Rattle.witness.specs.Witness.{nobody}
 
 abbrev pub witnessOf : State → Certificate
 witnessOf (Ended p k) = k

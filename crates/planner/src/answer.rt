@@ -1,13 +1,13 @@
 // The plan of a book: its chain is read once, its entries laid out in one run of numbers, walked, and answered.
 use crate::layout::lay_out;
 use crate::verdict::plan_entries;
-use crate::witness::witness;
 use book::Chain;
 use lp::Floors;
 use lp::Functional;
 use lp::Tie;
 use report::Answer;
 use report::Plan;
+use witness::witness;
 ghost use mathlib.Core.Path.{_≡_};
 ghost use Rattle.lp.specs.Document.{leastXThenY, zeroFloors};
 ghost use Rattle.planner.specs.Planning.{Answers, Chained};

@@ -4,6 +4,7 @@ use lp::Constraint;
 use lp::Functional;
 use lp::Point;
 use lp::Ray;
+use witness::is_zero;
 ghost use mathlib.Core.Path.{_≡_};
 ghost use mathlib.Core.Bool.{_&&_};
 ghost use lib.IntN.{pos, _+ℤ_, _-ℤ_, _*ℤ_, negℤ};
@@ -46,12 +47,6 @@ pub fn opposite(z: i64) -> i64
     ensures { λ r. ⌜ r ≡ negℤ z ⌝ }
 {
     0 - z
-}
-
-pub fn is_zero(z: i64) -> bool
-    ensures { λ t. ⌜ t ≡ isZero z ⌝ }
-{
-    z <= 0 && 0 <= z
 }
 
 // A rule with a = b = 0, which has no line.

@@ -13,7 +13,6 @@ mod start;
 mod verdict;
 mod view;
 mod walk;
-mod witness;
 
 use lp::Point;
 use report::Answer;

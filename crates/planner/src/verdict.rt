@@ -18,7 +18,7 @@ ghost use mathlib.Core.Path.{_≡_};
 ghost use Prim.Native.Nat.{_-_};
 ghost use Rattle.model.specs.Step.{said as saidOf, walk as walkOf};
 ghost use Rattle.planner.specs.Verdict.{verdictOf};
-ghost use Rattle.planner.specs.Witness.{nobody};
+ghost use Rattle.witness.specs.Witness.{nobody};
 ghost use Rattle.planner.specs.Entries.{entries as entriesOf};
 ghost use Rattle.planner.specs.Sizes.{Gaining, Answering, Walking};
 

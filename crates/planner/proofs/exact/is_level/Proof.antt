@@ -2,7 +2,8 @@
 use borrow.Author.Needs.{needs}
 use mathlib.Core.Path.{_∙_, sym}
 use Rattle.lp.specs.Certificate.{isZero}
-use Rattle.planner.proofs.Sizes.{zero-read, both-left, both-right}
+use Rattle.witness.proofs.Witnesses.{both-left, both-right}
+use Rattle.planner.proofs.Sizes.{zero-read}
 use Rattle.planner.proofs.exact.is_level.Statement.{statement}
 use Rattle.planner.proofs.exact.is_level.Tie as tie
 

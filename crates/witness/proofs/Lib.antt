@@ -1,0 +1,2 @@
+-- Laws that the proofs of the functions cite: what their tests come to in the definitions.
+pub mod Witnesses
