@@ -28,31 +28,37 @@ mod linked {
     }
 }
 
-/// What is seen of the start pair after a prefix: the pair or none, and how many rules broke it.
+/// What is seen of the start pair: nothing of a refused book, whose buffer stays as it was; else the pair after the prefix or none, and how many
+/// rules broke it.
 #[cfg(not(feature = "standin"))]
 #[derive(Debug, PartialEq)]
-pub struct Seen {
-    pub start: Option<crate::exact::Pair>,
-    pub count: u64,
+pub enum Seen {
+    Refused,
+    After { start: Option<crate::exact::Pair>, count: u64 },
 }
 
 /// The planner's view. The fourth number must stay as it was, and a buffer of two numbers too.
 #[cfg(not(feature = "standin"))]
 pub fn start_after(book: &[u8], prefix: usize) -> Result<Seen, String> {
-    let (mut out, mut short) = ([0x5A5A; 4], [0x5A5A; 2]);
+    const BEFORE: i64 = 0x5A5A;
+    let (mut out, mut short) = ([BEFORE; 4], [BEFORE; 2]);
     let count = linked::view(book, prefix, &mut out) as u64;
     let [x, y, d, rest] = out;
-    if rest != 0x5A5A {
+    if rest != BEFORE {
         return Err("a number after the pair was changed".into());
     }
-    if linked::view(book, prefix, &mut short) as u64 != count || short != [0x5A5A; 2] {
+    if linked::view(book, prefix, &mut short) as u64 != count || short != [BEFORE; 2] {
         return Err("a short buffer was changed, or had another count".into());
+    }
+    // three equal numbers are a pair in lowest terms only where each is 1
+    if [x, y, d] == [BEFORE; 3] && count == 0 {
+        return Ok(Seen::Refused);
     }
     let [x, y, d] = [x, y, d].map(i128::from);
     match d {
-        0 if (x, y) == (0, 0) => Ok(Seen { start: None, count }),
+        0 if (x, y) == (0, 0) => Ok(Seen::After { start: None, count }),
         0 => Err("a pair without a denominator".into()),
-        _ => Ok(Seen { start: Some(crate::exact::Pair { x, y, d }), count }),
+        _ => Ok(Seen::After { start: Some(crate::exact::Pair { x, y, d }), count }),
     }
 }
 

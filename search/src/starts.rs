@@ -2,6 +2,7 @@
 //! pair before them does not keep; the rule that leaves no pair is one of them, and no rule after it.
 
 use crate::book::to_hex;
+use crate::damage::damage;
 use crate::exact::{start, Line, Pair};
 use crate::families::source;
 use crate::planner::{start_after, Seen};
@@ -9,25 +10,33 @@ use crate::random::Random;
 use crate::read::read;
 use crate::stored;
 
-/// What must be seen after 0, 1, .. n rules.
-fn expected(rules: &[Line]) -> Vec<Seen> {
+/// The start pair and the count after 0, 1, .. n rules.
+fn expected(rules: &[Line]) -> Vec<(Option<Pair>, u64)> {
     let mut count = 0;
-    let mut seen = vec![Seen { start: start(&[]), count }];
+    let mut seen = vec![(start(&[]), count)];
     for (i, rule) in rules.iter().enumerate() {
-        let lost = seen[i].start.is_some_and(|v: Pair| !rule.kept_by(&v));
+        let lost = seen[i].0.is_some_and(|v: Pair| !rule.kept_by(&v));
         count += u64::from(lost);
-        seen.push(Seen { start: start(&rules[..=i]), count });
+        seen.push((start(&rules[..=i]), count));
     }
     seen
 }
 
-/// Every prefix of a book, and some lengths beyond its chain. Of a refused book nothing is seen.
+/// What must be seen after 0, 1, .. n rules: of a refused book nothing.
+fn views(book: &[u8]) -> Vec<Seen> {
+    read(book).map_or(vec![Seen::Refused], |a| {
+        let rules: Vec<Line> = a.rules.iter().map(|r| r.line).collect();
+        expected(&rules).into_iter().map(|(start, count)| Seen::After { start, count }).collect()
+    })
+}
+
+/// Every prefix of a book, and some lengths beyond its chain.
 fn try_starts(name: &str, book: &[u8]) -> Result<u64, String> {
-    let rules: Vec<Line> = read(book).map_or(Vec::new(), |a| a.rules.iter().map(|r| r.line).collect());
-    let right = if read(book).is_ok() { expected(&rules) } else { vec![Seen { start: None, count: 0 }] };
-    let beyond = [rules.len() + 1, rules.len() + 256, usize::MAX];
-    for k in (0..=rules.len()).chain(beyond) {
-        let (right, seen) = (&right[k.min(right.len() - 1)], start_after(book, k));
+    let right = views(book);
+    let n = right.len() - 1;
+    let beyond = [n + 1, n + 256, usize::MAX];
+    for k in (0..=n).chain(beyond) {
+        let (right, seen) = (&right[k.min(n)], start_after(book, k));
         if seen.as_ref() != Ok(right) {
             return Err(format!("mismatch: {name}: start after {k}\nbook    {}\nright   {right:?}\nseen    {seen:?}", to_hex(book)));
         }
@@ -35,7 +44,7 @@ fn try_starts(name: &str, book: &[u8]) -> Result<u64, String> {
     Ok(right.len() as u64)
 }
 
-/// Stored and random books, every prefix of each. One in twenty is longer.
+/// Stored and random books, every prefix of each. One in twenty is longer, one in eight damaged.
 pub fn starts(seed: u64, books: u64) -> Result<u64, String> {
     let mut prefixes = 0;
     for s in stored::books() {
@@ -45,7 +54,11 @@ pub fn starts(seed: u64, books: u64) -> Result<u64, String> {
     for i in 0..books {
         let n = random.below(if i % 20 == 0 { 41 } else { 13 });
         let (name, source) = source(&mut random, n);
-        prefixes += try_starts(name, &source.scattered(3, &mut random))?;
+        let mut book = source.scattered(3, &mut random);
+        if i % 8 == 0 {
+            damage(&mut random, &mut book);
+        }
+        prefixes += try_starts(name, &book)?;
     }
     Ok(prefixes)
 }
@@ -56,7 +69,7 @@ mod tests {
 
     fn counts(rules: &[(i128, i128, i128)]) -> Vec<u64> {
         let lines: Vec<Line> = rules.iter().map(|&(a, b, c)| Line { a, b, c }).collect();
-        expected(&lines).iter().map(|s| s.count).collect()
+        expected(&lines).iter().map(|s| s.1).collect()
     }
 
     #[test]

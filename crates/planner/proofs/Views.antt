@@ -115,24 +115,38 @@ refused-viewed s chain h z k v ev = go (readOf v1 s) refl
 -- ---- the exported form
 
 module _ (s : List ℕ) (k : ℕ) (v : StartView) (h : Views s k v) where
-  pub start-written : (before after : List ℤ) → 3 ≤ length before → after ≡ putPoint before (v .point) → StartWritten s k before after (v .restarts)
-  start-written before after room e =
+  number-same : v .number ≡ viewOf (readOf v1 s) k .number
+  number-same = ap (λ (x : StartView). x .number) (h .answer)
+
+  count-same : v .restarts ≡ viewOf (readOf v1 s) k .restarts
+  count-same = ap (λ (x : StartView). x .restarts) (h .answer)
+
+  enough-or-short : (n : ℕ) → 3 ≤ n → n < 3 → ⊥
+  enough-or-short n a b = omega arith
+
+  pub start-written : (before after : List ℤ) → v .number ≡ 0 → 3 ≤ length before → after ≡ putPoint before (v .point) → StartWritten s k before after (v .restarts)
+  start-written before after clear room e =
       record {
-        written = λ r. e ∙ ap (λ (x : StartView). putPoint before (x .point)) (h .answer);
-        untouched = λ short. absurd (both (length before) room short);
-        counted = ap (λ (x : StartView). x .restarts) (h .answer);
+        written = λ a r. e ∙ ap (λ (x : StartView). putPoint before (x .point)) (h .answer);
+        refused-untouched = λ z. absurd (z (sym number-same ∙ clear));
+        short-untouched = λ short. absurd (enough-or-short (length before) room short);
+        counted = count-same;
       }
-    where
-      both : (n : ℕ) → 3 ≤ n → n < 3 → ⊥
-      both n a b = omega arith
 
   pub start-unwritten : (before : List ℤ) → length before < 3 → StartWritten s k before before (v .restarts)
   start-unwritten before short =
       record {
-        written = λ room. absurd (both (length before) room short);
-        untouched = λ r. refl;
-        counted = ap (λ (x : StartView). x .restarts) (h .answer);
+        written = λ a room. absurd (enough-or-short (length before) room short);
+        refused-untouched = λ z. refl;
+        short-untouched = λ r. refl;
+        counted = count-same;
       }
-    where
-      both : (n : ℕ) → 3 ≤ n → n < 3 → ⊥
-      both n a b = omega arith
+
+  pub refused-unwritten : (before : List ℤ) → (v .number ≡ 0 → ⊥) → StartWritten s k before before (v .restarts)
+  refused-unwritten before z =
+      record {
+        written = λ a room. absurd (z (number-same ∙ a));
+        refused-untouched = λ y. refl;
+        short-untouched = λ r. refl;
+        counted = count-same;
+      }

@@ -41,8 +41,9 @@ putPoint l v = set (set (set l 0 (v .x)) 1 (v .y)) 2 (v .d)
 pub record PointRoom (l : List ℤ) : Type 0 where
   pub room : 3 ≤ length l
 
--- the promise of its exported form: fewer than three numbers are left as they were
+-- the promise of its exported form: a refused book, and fewer than three numbers, leave what is lent as it was
 pub record StartWritten (s : List ℕ) (k : ℕ) (before after : List ℤ) (count : ℕ) : Type 0 where
-  pub written : 3 ≤ length before → after ≡ putPoint before (viewOf (readOf v1 s) k .point)
-  pub untouched : length before < 3 → after ≡ before
+  pub written : viewOf (readOf v1 s) k .number ≡ 0 → 3 ≤ length before → after ≡ putPoint before (viewOf (readOf v1 s) k .point)
+  pub refused-untouched : (viewOf (readOf v1 s) k .number ≡ 0 → ⊥) → after ≡ before
+  pub short-untouched : length before < 3 → after ≡ before
   pub counted : count ≡ viewOf (readOf v1 s) k .restarts

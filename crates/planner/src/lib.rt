@@ -70,16 +70,19 @@ pub fn start_after(book: &[u8], prefix: usize) -> StartView
     view::view(book, prefix)
 }
 
-// The same for programs in other languages: X, Y and D stand at the start of a buffer of at least three numbers, zeros where no pair is allowed or the book is
-// refused, and the count is handed back. A smaller buffer is left as it is.
+// The same for programs in other languages: X, Y and D stand at the start of a buffer of at least three numbers, zeros where no pair is allowed, and the count is
+// handed back. A refused book leaves the buffer as it is, and so does a smaller buffer.
 #[no_mangle]
 pub extern "C" fn vishalneq_start_after(book: &[u8], prefix: usize, out: &mut [i64]) -> usize
     ensures { λ r. ⌜ StartWritten (now (book .entry)) prefix (now (out .entry)) (now (out .exit)) r ⌝ }
 {
     let seen = start_after(book, prefix);
     let restarts = seen.restarts;
-    if out.len() >= 3 {
-        view::put_point(out, seen.point);
+    let number = seen.number;
+    if number == 0 {
+        if out.len() >= 3 {
+            view::put_point(out, seen.point);
+        }
     }
     restarts
 }
