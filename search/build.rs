@@ -1,4 +1,4 @@
-//! Links the planner's static library, which `rt staticlib planner` leaves under the repository's target folder.
+//! Links the static library, which `rt staticlib vishalneq` leaves under the repository's target folder.
 
 use std::{env, path::Path};
 
@@ -9,7 +9,7 @@ fn main() {
     }
     let root = env::var("CARGO_MANIFEST_DIR").unwrap();
     let folder = Path::new(&root).join("../target/staticlib");
-    println!("cargo:rerun-if-changed={}", folder.join("libplanner.a").display());
+    println!("cargo:rerun-if-changed={}", folder.join("libvishalneq.a").display());
     println!("cargo:rustc-link-search=native={}", folder.display());
-    println!("cargo:rustc-link-lib=static=planner");
+    println!("cargo:rustc-link-lib=static=vishalneq");
 }

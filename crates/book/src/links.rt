@@ -16,7 +16,7 @@ ghost use mathlib.Core.List.{[], _∷_};
 ghost use lib.ListN.{replicate};
 ghost use Prim.Native.Nat.{_≤_};
 ghost use Rattle.book.specs.Layout.{v1};
-ghost use Rattle.book.specs.Reading.{Reading, countOf};
+ghost use Rattle.book.specs.Reading.{countOf};
 ghost use Rattle.book.specs.Reading as spec;
 ghost use Rattle.book.specs.Answers.{chainOf};
 

@@ -4,6 +4,6 @@ fn main() {
     let mut input = [0u8; 3073];
     let n = io::read_full(0, &mut input);
     let mut lines = [0u8; 16384];
-    let end = planner::vishalneq_panel_lines(&input[..n], &mut lines);
+    let end = vishalneq::vishalneq_panel_lines(&input[..n], &mut lines);
     io::write_all(1, &lines[..end]);
 }

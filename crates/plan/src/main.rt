@@ -4,6 +4,6 @@ fn main() {
     let mut input = [0u8; 3073];
     let n = io::read_full(0, &mut input);
     let mut line = [0u8; 256];
-    let end = planner::vishalneq_plan_line(&input[..n], &mut line);
+    let end = vishalneq::vishalneq_plan_line(&input[..n], &mut line);
     io::write_all(1, &line[..end]);
 }

@@ -31,7 +31,6 @@ use Rattle.report.specs.declared.Answer.the-variants.{Planned}
 use Rattle.report.specs.declared.Plan.{Plan}
 use Rattle.report.specs.declared.panel.Row.{Row}
 use Rattle.report.specs.declared.panel.Panel.{Panel}
-use Rattle.report.specs.Panel.{Shown}
 use Rattle.model.specs.declared.Best.{Best}
 use Rattle.model.specs.declared.Best.the-variants as best
 use Rattle.model.specs.declared.Gain.{Gain}
@@ -47,7 +46,7 @@ use Rattle.planner.specs.Sizes.{Fraction, Measured}
 use Rattle.planner.specs.Layout.{ruleFor}
 use Rattle.planner.specs.Planning.{plannedRule, rulesOf, AnsweredBy, Answers, Chained}
 use Rattle.planner.specs.Panel as panel
-use Rattle.planner.specs.Panel.{row, noRow, rowOf, rowFor, paddedRows, panelWith, rowsFor, panelOf, Panels, PanelLines, Filling}
+use Rattle.planner.specs.Panel.{row, noRow, rowOf, rowFor, paddedRows, panelWith, rowsFor, panelOf, Panels, Filling}
 use Rattle.planner.proofs.Sizes.{read, within-unread}
 use Rattle.planner.proofs.Chains.{code-is-planned, small-of, rule-small, rule-lawful, length-index}
 use Rattle.planner.proofs.Plans.{chain-few}
@@ -242,8 +241,3 @@ module _ (s : List ℕ) (chain : Chain) (h : Reads s chain) where
       go (refused n i) e =
           record { panel = f ∙ ap (λ (c : Chain). panelWith (c .number) (c .at) []) (h .answer ∙ ap chainOf e) ∙ ap panelOf (sym e) }
       go (accepted o es) e = absurd (z (ap (λ (c : Chain). c .number) (h .answer ∙ ap chainOf e)))
-
--- ---- its lines
-
-pub panel-written : {s before after : List ℕ} {p : Panel} {count : ℕ} → Panels s p → Shown p before after count → PanelLines s before after count
-panel-written {s} {before} {after} {p} {count} h f = record { written = subst (λ (q : Panel). Shown q before after count) (h .panel) f }

@@ -2,7 +2,7 @@
 use mathlib.Core.Path.{_≡_, refl, sym, _∙_, ap, ap₂}
 use mathlib.Core.List.{List, _∷_}
 use mathlib.Core.Bool.{true, false}
-use Prim.Native.Nat.{ℕ, zero, suc, min, _+_, _-_, _≤_, _<_}
+use Prim.Native.Nat.{ℕ, zero, suc, min, _+_, _-_, _≤_}
 use native.Mathlib.Omega.{arith}
 use lib.ListN.{length, take}
 use lib.IntN.{ℤ}
@@ -30,7 +30,7 @@ use Rattle.planner.specs.Entries.{entry, entries}
 use Rattle.planner.specs.Sizes.{Walking}
 use Rattle.planner.specs.Layout.{laidOut, ruleFor}
 use Rattle.planner.specs.Planning.{rulesOf, Chained}
-use Rattle.planner.specs.View.{nowhere, viewed, startView, viewOf, Views, putPoint, StartWritten}
+use Rattle.planner.specs.View.{nowhere, viewed, startView, viewOf, Views}
 use Rattle.planner.proofs.Passes.{fewer}
 use Rattle.planner.proofs.Plans.{chain-walking, chain-rules}
 
@@ -111,42 +111,3 @@ refused-viewed s chain h z k v ev = go (readOf v1 s) refl
     go (refused n i) e =
         record { answer = (λ j. record { number = (h .answer ∙ ap chainOf e) j .number; at = (h .answer ∙ ap chainOf e) j .at; held = false; point = ev j; restarts = 0 }) ∙ ap (λ (r : Reading). viewOf r k) (sym e) }
     go (accepted o es) e = absurd (z (ap (λ (c : Chain). c .number) (h .answer ∙ ap chainOf e)))
-
--- ---- the exported form
-
-module _ (s : List ℕ) (k : ℕ) (v : StartView) (h : Views s k v) where
-  number-same : v .number ≡ viewOf (readOf v1 s) k .number
-  number-same = ap (λ (x : StartView). x .number) (h .answer)
-
-  count-same : v .restarts ≡ viewOf (readOf v1 s) k .restarts
-  count-same = ap (λ (x : StartView). x .restarts) (h .answer)
-
-  enough-or-short : (n : ℕ) → 3 ≤ n → n < 3 → ⊥
-  enough-or-short n a b = omega arith
-
-  pub start-written : (before after : List ℤ) → v .number ≡ 0 → 3 ≤ length before → after ≡ putPoint before (v .point) → StartWritten s k before after (v .restarts)
-  start-written before after clear room e =
-      record {
-        written = λ a r. e ∙ ap (λ (x : StartView). putPoint before (x .point)) (h .answer);
-        refused-untouched = λ z. absurd (z (sym number-same ∙ clear));
-        short-untouched = λ short. absurd (enough-or-short (length before) room short);
-        counted = count-same;
-      }
-
-  pub start-unwritten : (before : List ℤ) → length before < 3 → StartWritten s k before before (v .restarts)
-  start-unwritten before short =
-      record {
-        written = λ a room. absurd (enough-or-short (length before) room short);
-        refused-untouched = λ z. refl;
-        short-untouched = λ r. refl;
-        counted = count-same;
-      }
-
-  pub refused-unwritten : (before : List ℤ) → (v .number ≡ 0 → ⊥) → StartWritten s k before before (v .restarts)
-  refused-unwritten before z =
-      record {
-        written = λ a room. absurd (z (number-same ∙ a));
-        refused-untouched = λ y. refl;
-        short-untouched = λ r. refl;
-        counted = count-same;
-      }

@@ -11,7 +11,6 @@ use Rattle.lp.specs.declared.Outcome.the-variants as outcome
 use Rattle.lp.specs.Outcome.{outcome}
 use Rattle.lp.specs.Slack.{amount, slackOf}
 use Rattle.lp.specs.Document.{leastXThenY, zeroFloors}
-use Rattle.book.specs.declared.Rule.{Rule}
 use Rattle.book.specs.declared.Chain.{Chain}
 use Rattle.book.specs.Layout.{v1}
 use Rattle.book.specs.Record.{recordAt, ruleOf}
@@ -19,7 +18,6 @@ use Rattle.book.specs.Answers.{constraintOf}
 use Rattle.book.specs.Reading.{Reading, refused, accepted, Entry, readOf}
 use Rattle.report.specs.declared.panel.Row.{Row}
 use Rattle.report.specs.declared.panel.Panel.{Panel}
-use Rattle.report.specs.Panel.{Shown}
 use Rattle.model.specs.Bounds.{SmallConstraint, SmallPoint}
 use Rattle.planner.specs.Layout.{ruleFor}
 use Rattle.planner.specs.Planning.{plannedRule, rulesOf, Chained}
@@ -53,10 +51,6 @@ panelOf (accepted o es) = panelWith 0 0 (rowsFor es (outcome leastXThenY zeroFlo
 -- the promise of `panel`
 pub record Panels (s : List ℕ) (p : Panel) : Type 0 where
   pub panel : p ≡ panelOf (readOf v1 s)
-
--- the promise of its lines
-pub record PanelLines (s before after : List ℕ) (count : ℕ) : Type 0 where
-  pub written : Shown (panelOf (readOf v1 s)) before after count
 
 -- ---- what the private functions ask
 

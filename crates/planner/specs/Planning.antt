@@ -25,7 +25,6 @@ use Rattle.book.specs.Reading.{Reading, refused, accepted, Entry, readOf}
 use Rattle.report.specs.declared.Answer.{Answer}
 use Rattle.report.specs.declared.Answer.the-variants.{Refused, Planned}
 use Rattle.report.specs.declared.Plan.{Plan}
-use Rattle.report.specs.Append.{Written}
 use Rattle.witness.specs.Witness.{nobody, coded, rising}
 
 -- a rule as it is planned: kind 2, at least, is turned round
@@ -74,9 +73,3 @@ pub record Chained (s : List ℕ) (c : Chain) : Type 0 where
   pub entries : List Entry
   pub accepts : readOf v1 s ≡ accepted objective entries
   pub chain : c ≡ chainOf (accepted objective entries)
-
--- the promise of the printed line: it is that of an answer to the book, which is one as `plan` promises
-pub record PlanLine (s before after : List ℕ) (count : ℕ) : Type 0 where
-  pub answer : Answer
-  pub answers : Answers s answer
-  pub written : Written answer before after count

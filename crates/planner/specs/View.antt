@@ -3,9 +3,9 @@
 use mathlib.Core.Path.{_≡_}
 use mathlib.Core.List.{List}
 use mathlib.Core.Bool.{true, false}
-use Prim.Native.Nat.{ℕ, _≤_, _<_}
-use lib.ListN.{length, take, set}
-use lib.IntN.{ℤ, pos}
+use Prim.Native.Nat.{ℕ}
+use lib.ListN.{take}
+use lib.IntN.{pos}
 use Rattle.lp.specs.declared.Constraint.{Constraint}
 use Rattle.lp.specs.declared.Point.{Point}
 use Rattle.lp.specs.Program.{point}
@@ -33,17 +33,3 @@ viewOf (accepted o es) k = startView (take k (rulesOf es))
 -- the promise of `start_after`
 pub record Views (s : List ℕ) (k : ℕ) (v : StartView) : Type 0 where
   pub answer : v ≡ viewOf (readOf v1 s) k
-
--- a point as three numbers at the start of a run
-abbrev pub putPoint : List ℤ → Point → List ℤ
-putPoint l v = set (set (set l 0 (v .x)) 1 (v .y)) 2 (v .d)
-
-pub record PointRoom (l : List ℤ) : Type 0 where
-  pub room : 3 ≤ length l
-
--- the promise of its exported form: a refused book, and fewer than three numbers, leave what is lent as it was
-pub record StartWritten (s : List ℕ) (k : ℕ) (before after : List ℤ) (count : ℕ) : Type 0 where
-  pub written : viewOf (readOf v1 s) k .number ≡ 0 → 3 ≤ length before → after ≡ putPoint before (viewOf (readOf v1 s) k .point)
-  pub refused-untouched : (viewOf (readOf v1 s) k .number ≡ 0 → ⊥) → after ≡ before
-  pub short-untouched : length before < 3 → after ≡ before
-  pub counted : count ≡ viewOf (readOf v1 s) k .restarts

@@ -16,7 +16,6 @@ use model::Broken;
 use model::Found;
 use model::Restart;
 ghost use mathlib.Core.Path.{_≡_};
-ghost use mathlib.Core.Bool.{true, false};
 ghost use Rattle.model.specs.Step.{alone as aloneOf, lineWeight, conflict as conflictOf, resettled as resettledOf, restart as restartOf};
 ghost use Rattle.planner.specs.Entries.{entries as entriesOf};
 ghost use Rattle.planner.specs.Sizes.{Lines, Conflicting, Resettling, Restarting};

@@ -12,7 +12,7 @@ ghost use mathlib.Core.Path.{_≡_};
 ghost use Prim.Native.Nat.{min};
 ghost use Rattle.model.specs.Step.{startHeld};
 ghost use Rattle.planner.specs.Planning.{Chained};
-ghost use Rattle.planner.specs.View.{viewed as viewedOf, nowhere as nowherePoint, Views, putPoint, PointRoom};
+ghost use Rattle.planner.specs.View.{viewed as viewedOf, nowhere as nowherePoint, Views};
 
 fn nowhere() -> Point
     ensures { λ r. ⌜ r ≡ nowherePoint ⌝ }
@@ -81,17 +81,4 @@ pub fn view(book: &[u8], prefix: usize) -> StartView
             restarts: 0,
         }
     }
-}
-
-// X, Y and D, at the start of a run of numbers.
-pub fn put_point(out: &mut [i64], v: Point)
-    requires { ⌜ PointRoom (now out) ⌝ }
-    ensures { λ r. ⌜ now (out .exit) ≡ putPoint (now (out .entry)) v ⌝ }
-{
-    let x = v.x;
-    let y = v.y;
-    let d = v.d;
-    out[0] = x;
-    out[1] = y;
-    out[2] = d;
 }

@@ -5,7 +5,6 @@ use crate::text::append_integer;
 use crate::text::append_word;
 use crate::write_line;
 use lp::Amount;
-ghost use Prim.Native.Nat.{_*_};
 ghost use lib.ListN.{take};
 ghost use Rattle.report.specs.Line.{decimal};
 ghost use Rattle.report.specs.Append.{Room, Appended};

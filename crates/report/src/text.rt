@@ -1,8 +1,6 @@
 // Words and numbers put into a lent buffer. Each function writes at a place and hands back the place after what it wrote.
-ghost use mathlib.Core.Path.{_≡_};
 ghost use mathlib.Core.List.{[], _∷_};
 ghost use lib.ListN.{length};
-ghost use lib.IntN.{natAbs};
 ghost use Rattle.report.specs.Line.{twoDigits, decimal, number, integer};
 ghost use Rattle.report.specs.Append.{Room, RoomForTwo, Appended};
 

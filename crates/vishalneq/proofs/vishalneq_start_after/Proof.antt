@@ -1,8 +1,8 @@
--- `planner::vishalneq_start_after` meets its contract: the pair is written for an accepted book and a buffer with room, and nothing else is.
-use Rattle.planner.proofs.Views.{start-written, start-unwritten, refused-unwritten}
+-- `vishalneq::vishalneq_start_after` meets its contract: the pair is written for an accepted book and a buffer with room, and nothing else is.
+use Rattle.vishalneq.proofs.Buffers.{start-written, start-unwritten, refused-unwritten}
 use borrow.Author.Needs.{needs}
-use Rattle.planner.proofs.vishalneq_start_after.Statement.{statement}
-use Rattle.planner.proofs.vishalneq_start_after.Tie as tie
+use Rattle.vishalneq.proofs.vishalneq_start_after.Statement.{statement}
+use Rattle.vishalneq.proofs.vishalneq_start_after.Tie as tie
 
 returns : tie.Need-returns
 returns c =

@@ -1,9 +1,9 @@
--- `planner::view::put_point` meets its contract: x, Y and D, at the start of a run of numbers.
+-- `vishalneq::put_point` meets its contract: x, Y and D, at the start of a run of numbers.
 use native.Mathlib.Omega.{arith}
 use lib.ListN.{length-set}
 use borrow.Author.Needs.{needs}
-use Rattle.planner.proofs.view.put_point.Statement.{statement}
-use Rattle.planner.proofs.view.put_point.Tie as tie
+use Rattle.vishalneq.proofs.put_point.Statement.{statement}
+use Rattle.vishalneq.proofs.put_point.Tie as tie
 
 slice-set-from-y : tie.Need-slice-set-from-y
 slice-set-from-y c = simp length-set (omega arith)

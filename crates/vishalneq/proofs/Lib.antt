@@ -1,0 +1,2 @@
+-- Laws that the proofs of the loaded functions cite.
+pub mod Buffers

@@ -1,0 +1,39 @@
+-- What is written to a lent buffer, and that nothing else of it changes: the line of a plan, the lines of a panel, the start pair after a prefix.
+use mathlib.Core.Path.{_≡_}
+use mathlib.Core.List.{List}
+use Prim.Native.Nat.{ℕ, _≤_, _<_}
+use lib.ListN.{length, set}
+use lib.IntN.{ℤ}
+use Rattle.lp.specs.declared.Point.{Point}
+use Rattle.book.specs.Layout.{v1}
+use Rattle.book.specs.Reading.{readOf}
+use Rattle.report.specs.declared.Answer.{Answer}
+use Rattle.report.specs.Append.{Written}
+use Rattle.report.specs.Panel.{Shown}
+use Rattle.planner.specs.Planning.{Answers}
+use Rattle.planner.specs.Panel.{panelOf}
+use Rattle.planner.specs.View.{viewOf}
+
+-- the promise of the printed line: it is that of an answer to the book, which is one as `plan` promises
+pub record PlanLine (s before after : List ℕ) (count : ℕ) : Type 0 where
+  pub answer : Answer
+  pub answers : Answers s answer
+  pub written : Written answer before after count
+
+-- the promise of a panel's lines
+pub record PanelLines (s before after : List ℕ) (count : ℕ) : Type 0 where
+  pub written : Shown (panelOf (readOf v1 s)) before after count
+
+-- a point as three numbers at the start of a run
+abbrev pub putPoint : List ℤ → Point → List ℤ
+putPoint l v = set (set (set l 0 (v .x)) 1 (v .y)) 2 (v .d)
+
+pub record PointRoom (l : List ℤ) : Type 0 where
+  pub room : 3 ≤ length l
+
+-- the promise of the view: a refused book, and fewer than three numbers, leave what is lent as it was
+pub record StartWritten (s : List ℕ) (k : ℕ) (before after : List ℤ) (count : ℕ) : Type 0 where
+  pub written : viewOf (readOf v1 s) k .number ≡ 0 → 3 ≤ length before → after ≡ putPoint before (viewOf (readOf v1 s) k .point)
+  pub refused-untouched : (viewOf (readOf v1 s) k .number ≡ 0 → ⊥) → after ≡ before
+  pub short-untouched : length before < 3 → after ≡ before
+  pub counted : count ≡ viewOf (readOf v1 s) k .restarts
