@@ -16,6 +16,9 @@ extern "C" {
 #define VISHALNEQ_LINE 256
 #define VISHALNEQ_PANEL 16384
 
+/* What vishalneq_start_after hands back is a count below this, or a refusal: its number is the quotient by this, its record the remainder. */
+#define VISHALNEQ_REFUSED 65536
+
 /* The line of a book's plan, or of its refusal, with its line feed, at the start of `out`. Hands back its length. A buffer of less than
  * VISHALNEQ_LINE bytes is left as it is, and 0 handed back. */
 size_t vishalneq_plan_line(const uint8_t *book, size_t book_length, uint8_t *out, size_t out_length);
@@ -25,8 +28,8 @@ size_t vishalneq_plan_line(const uint8_t *book, size_t book_length, uint8_t *out
 size_t vishalneq_panel_lines(const uint8_t *book, size_t book_length, uint8_t *out, size_t out_length);
 
 /* The start pair after the first `prefix` rules of a book's chain, the whole chain if it has fewer: X, Y and D in out[0], out[1] and out[2], three zeros where
- * no pair is allowed. Hands back how many of those rules the start pair before them did not keep. A refused book, and a buffer of less than three
- * numbers, leave the buffer as it is; a refused book's count is 0. */
+ * no pair is allowed. Hands back how many of those rules the start pair before them did not keep, at most 255. A buffer of less than three numbers is left as
+ * it is. A refused book leaves every buffer as it is, and VISHALNEQ_REFUSED times its number plus its record is handed back. */
 size_t vishalneq_start_after(const uint8_t *book, size_t book_length, size_t prefix, int64_t *out, size_t out_length);
 
 #ifdef __cplusplus

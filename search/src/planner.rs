@@ -28,37 +28,52 @@ mod linked {
     }
 }
 
-/// What is seen of the start pair: nothing of a refused book, whose buffer stays as it was; else the pair after the prefix or none, and how many
-/// rules broke it.
+/// What is seen of the start pair: of a refused book its number and record, and its buffer stays as it was; else the pair after the prefix or none, and
+/// how many rules broke it.
 #[cfg(not(feature = "standin"))]
 #[derive(Debug, PartialEq)]
 pub enum Seen {
-    Refused,
+    Refused { number: u64, record: u64 },
     After { start: Option<crate::exact::Pair>, count: u64 },
 }
+
+/// What stands in a buffer before a view is asked for.
+#[cfg(not(feature = "standin"))]
+const BEFORE: i64 = 0x5A5A;
 
 /// The planner's view. The fourth number must stay as it was, and a buffer of two numbers too.
 #[cfg(not(feature = "standin"))]
 pub fn start_after(book: &[u8], prefix: usize) -> Result<Seen, String> {
-    const BEFORE: i64 = 0x5A5A;
     let (mut out, mut short) = ([BEFORE; 4], [BEFORE; 2]);
-    let count = linked::view(book, prefix, &mut out) as u64;
+    let told = linked::view(book, prefix, &mut out) as u64;
     let [x, y, d, rest] = out;
     if rest != BEFORE {
         return Err("a number after the pair was changed".into());
     }
-    if linked::view(book, prefix, &mut short) as u64 != count || short != [BEFORE; 2] {
+    if linked::view(book, prefix, &mut short) as u64 != told || short != [BEFORE; 2] {
         return Err("a short buffer was changed, or had another count".into());
     }
-    // three equal numbers are a pair in lowest terms only where each is 1
-    if [x, y, d] == [BEFORE; 3] && count == 0 {
-        return Ok(Seen::Refused);
+    if told >= 65_536 {
+        return refused(told, [x, y, d]);
     }
-    let [x, y, d] = [x, y, d].map(i128::from);
+    pair([x, y, d]).map(|start| Seen::After { start, count: told })
+}
+
+#[cfg(not(feature = "standin"))]
+fn refused(told: u64, out: [i64; 3]) -> Result<Seen, String> {
+    if out != [BEFORE; 3] {
+        return Err("the buffer of a refused book was changed".into());
+    }
+    Ok(Seen::Refused { number: told / 65_536, record: told % 65_536 })
+}
+
+#[cfg(not(feature = "standin"))]
+fn pair(out: [i64; 3]) -> Result<Option<crate::exact::Pair>, String> {
+    let [x, y, d] = out.map(i128::from);
     match d {
-        0 if (x, y) == (0, 0) => Ok(Seen::After { start: None, count }),
+        0 if (x, y) == (0, 0) => Ok(None),
         0 => Err("a pair without a denominator".into()),
-        _ => Ok(Seen::After { start: Some(crate::exact::Pair { x, y, d }), count }),
+        _ => Ok(Some(crate::exact::Pair { x, y, d })),
     }
 }
 

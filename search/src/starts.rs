@@ -7,7 +7,7 @@ use crate::exact::{start, Line, Pair};
 use crate::families::source;
 use crate::planner::{start_after, Seen};
 use crate::random::Random;
-use crate::read::read;
+use crate::read::{read, Refused};
 use crate::stored;
 
 /// The start pair and the count after 0, 1, .. n rules.
@@ -22,12 +22,15 @@ fn expected(rules: &[Line]) -> Vec<(Option<Pair>, u64)> {
     seen
 }
 
-/// What must be seen after 0, 1, .. n rules: of a refused book nothing.
+/// What must be seen after 0, 1, .. n rules: of a refused book its refusal.
 fn views(book: &[u8]) -> Vec<Seen> {
-    read(book).map_or(vec![Seen::Refused], |a| {
-        let rules: Vec<Line> = a.rules.iter().map(|r| r.line).collect();
-        expected(&rules).into_iter().map(|(start, count)| Seen::After { start, count }).collect()
-    })
+    match read(book) {
+        Err(Refused { number, record }) => vec![Seen::Refused { number: number.into(), record: record as u64 }],
+        Ok(a) => {
+            let rules: Vec<Line> = a.rules.iter().map(|r| r.line).collect();
+            expected(&rules).into_iter().map(|(start, count)| Seen::After { start, count }).collect()
+        }
+    }
 }
 
 /// Every prefix of a book, and some lengths beyond its chain.

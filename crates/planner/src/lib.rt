@@ -38,8 +38,8 @@ pub fn slacks(book: &[u8]) -> Panel
 // The start pair after a prefix of the chain, if a pair is allowed, and how many rules so far the start pair before them did not keep. A refused book has its
 // number and record instead. What is not used is zero.
 pub struct StartView {
-    pub number: usize,
-    pub at: usize,
+    pub number: u8,
+    pub at: u16,
     pub held: bool,
     pub point: Point,
     pub restarts: usize,

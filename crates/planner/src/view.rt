@@ -74,8 +74,8 @@ pub fn view(book: &[u8], prefix: usize) -> StartView
         view_chain(book, chain, prefix)
     } else {
         StartView {
-            number: number as usize,
-            at: chain.at as usize,
+            number,
+            at: chain.at,
             held: false,
             point: nowhere(),
             restarts: 0,

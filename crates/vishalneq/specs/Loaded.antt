@@ -1,8 +1,10 @@
 -- What is written to a lent buffer, and that nothing else of it changes: the line of a plan, the lines of a panel, the start pair after a prefix.
 use mathlib.Core.Path.{_≡_}
 use mathlib.Core.List.{List}
-use Prim.Native.Nat.{ℕ, _≤_, _<_}
+use mathlib.Core.Bool.{cond}
+use Prim.Native.Nat.{ℕ, _+_, _*_, _≤_, _<_}
 use lib.ListN.{length, set}
+use lib.Dec.{eqb}
 use lib.IntN.{ℤ}
 use Rattle.lp.specs.declared.Point.{Point}
 use Rattle.book.specs.Layout.{v1}
@@ -10,6 +12,7 @@ use Rattle.book.specs.Reading.{readOf}
 use Rattle.report.specs.declared.Answer.{Answer}
 use Rattle.report.specs.Append.{Written}
 use Rattle.report.specs.Panel.{Shown}
+use Rattle.planner.specs.declared.StartView.{StartView}
 use Rattle.planner.specs.Planning.{Answers}
 use Rattle.planner.specs.Panel.{panelOf}
 use Rattle.planner.specs.View.{viewOf}
@@ -31,9 +34,13 @@ putPoint l v = set (set (set l 0 (v .x)) 1 (v .y)) 2 (v .d)
 pub record PointRoom (l : List ℤ) : Type 0 where
   pub room : 3 ≤ length l
 
+-- what is handed back of a view: the count of an accepted book, which is at most 255; of a refused one its number and record, so that it is 65,536 or more
+abbrev pub toldOf : StartView → ℕ
+toldOf v = cond (eqb (v .number) 0) (v .restarts) (65536 * v .number + v .at)
+
 -- the promise of the view: a refused book, and fewer than three numbers, leave what is lent as it was
 pub record StartWritten (s : List ℕ) (k : ℕ) (before after : List ℤ) (count : ℕ) : Type 0 where
   pub written : viewOf (readOf v1 s) k .number ≡ 0 → 3 ≤ length before → after ≡ putPoint before (viewOf (readOf v1 s) k .point)
   pub refused-untouched : (viewOf (readOf v1 s) k .number ≡ 0 → ⊥) → after ≡ before
   pub short-untouched : length before < 3 → after ≡ before
-  pub counted : count ≡ viewOf (readOf v1 s) k .restarts
+  pub told : count ≡ toldOf (viewOf (readOf v1 s) k)

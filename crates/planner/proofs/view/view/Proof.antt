@@ -10,11 +10,11 @@ view-chain-requires c κs = zero-chained (c .before .before .before .args .book 
 
 returns-2 : tie.Need-returns-2
 returns-2 c =
-    let s = c .before .before .before .before .before in
-    refused-viewed (s .args .book .now) (c .before .before .before .read .result) (c .before .before .before .read .ensures) (λ z. c .before .before .if1 .left z) (s .args .prefix) _
+    let s = c .before .before .before .before in
+    refused-viewed (s .args .book .now) (c .before .before .read .result) (c .before .before .read .ensures) (λ z. c .before .if1 .left z) (s .args .prefix) _
     (c .nowhere .ensures)
 
 pub view-spec : {M : Type 1} → statement M
 view-spec =
     tie.close
-    (tie.spec (λ c κs. search needs) view-chain-requires (λ c. search needs) (λ c. search needs) (λ c κs. search needs) (λ c. search needs) returns-2)
+    (tie.spec (λ c κs. search needs) view-chain-requires (λ c. search needs) (λ c. search needs) returns-2)
