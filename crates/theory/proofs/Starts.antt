@@ -51,13 +51,73 @@ walkFromWith R t f S n [] w = w
 walkFromWith R t f S n (h ∷ rest) w =
     walkFromWith R t f (S ++ (h ∷ [])) (suc n) rest (steppedWith (R S n h) t f S n h (w .moves) (w .opened) (w .restarts) (w .state))
 
--- the steps of the walk whose start point is worked out again: those that lose it
+-- what a step gives, or a walk, and how often `restart` was used for it
+pub record Logged : Type 0 where
+  pub walk : Walk
+  pub uses : ℕ
+
+-- the step with its uses of `restart` written down. Where the start point is kept (true) it goes by that one; else by what `restart` gives, and only there,
+-- beside it, stands a 1
+abbrev pub loggedSettled : Tie → Functional → List Constraint → ℕ → Constraint → Cone → Best → ℕ → ℕ → ℕ → Point → Bool → Logged
+loggedSettled t f S n h cone b moves opened restarts s true = record { walk = settled t f S n h cone b moves opened restarts (Moved s); uses = 0 }
+loggedSettled t f S n h cone b moves opened restarts s false = record { walk = settled t f S n h cone b moves opened restarts (restart t S n h); uses = 1 }
+
+abbrev pub loggedStepped : Tie → Functional → List Constraint → ℕ → Constraint → ℕ → ℕ → ℕ → State → Logged
+loggedStepped t f S n h moves opened restarts (Ended p c) =
+    record { walk = record { state = Ended p c; moves = moves; opened = opened; restarts = restarts }; uses = 0 }
+loggedStepped t f S n h moves opened restarts (Going s cone b) =
+    loggedSettled t f S n h cone b moves opened (recounted restarts h s) s (keeps h s)
+
+abbrev pub loggedStep : Tie → Functional → List Constraint → ℕ → Constraint → Walk → Logged
+loggedStep t f S n h w = loggedStepped t f S n h (w .moves) (w .opened) (w .restarts) (w .state)
+
+-- the walk of such steps, and the sum of their uses. It is the walk: `logged-walk`
+abbrev pub loggedFrom : Tie → Functional → List Constraint → ℕ → List Constraint → Walk → Logged
+loggedFrom t f S n [] w = record { walk = w; uses = 0 }
+loggedFrom t f S n (h ∷ rest) w =
+    let one = loggedStep t f S n h w in
+    let others = loggedFrom t f (S ++ (h ∷ [])) (suc n) rest (one .walk) in
+    record { walk = others .walk; uses = one .uses + others .uses }
+
+-- how often the start point is worked out along the walk: its uses of `restart`
 abbrev pub workings : Tie → Functional → List Constraint → ℕ → List Constraint → Walk → ℕ
-workings t f S n [] w = 0
-workings t f S n (h ∷ rest) w = one-if (isLost (startHeld (w .state)) h) + workings t f (S ++ (h ∷ [])) (suc n) rest (step t f S n h w)
+workings t f S n rest w = loggedFrom t f S n rest w .uses
 
 module _ (t : Tie) (f : Functional) where
-  -- such a step goes by what `restart` gives ..
+  -- the logged walk is the walk, step by step ..
+  pub logged-step : (S : List Constraint) (n : ℕ) (h : Constraint) (w : Walk) → loggedStep t f S n h w .walk ≡ step t f S n h w
+  logged-step S n h w = go (w .state)
+    where
+      settle : (k : ℕ) (s : Point) (cone : Cone) (b : Best) (u : Bool) → loggedSettled t f S n h cone b (w .moves) (w .opened) k s u .walk ≡ settled t f S n h cone b (w .moves) (w .opened) k (elim u [ true ↦ Moved s | false ↦ restart t S n h ])
+      settle k s cone b true = refl
+      settle k s cone b false = refl
+
+      go : (x : State) → loggedStepped t f S n h (w .moves) (w .opened) (w .restarts) x .walk ≡ stepped t f S n h (w .moves) (w .opened) (w .restarts) x
+      go (Ended p c) = refl
+      go (Going s cone b) = settle (recounted (w .restarts) h s) s cone b (keeps h s)
+
+  pub logged-walk : (S : List Constraint) (n : ℕ) (rest : List Constraint) (w : Walk) → loggedFrom t f S n rest w .walk ≡ walkFrom t f S n rest w
+  logged-walk S n [] w = refl
+  logged-walk S n (h ∷ rest) w =
+      logged-walk (S ++ (h ∷ [])) (suc n) rest (loggedStep t f S n h w .walk) ∙ ap (walkFrom t f (S ++ (h ∷ [])) (suc n) rest) (logged-step S n h w)
+
+  -- .. and its step uses `restart` once where the start point is lost, else not at all
+  pub used-if-lost : (S : List Constraint) (n : ℕ) (h : Constraint) (w : Walk) → loggedStep t f S n h w .uses ≡ one-if (isLost (startHeld (w .state)) h)
+  used-if-lost S n h w = go (w .state)
+    where
+      once : (k : ℕ) (s : Point) (cone : Cone) (b : Best) (u : Bool) → loggedSettled t f S n h cone b (w .moves) (w .opened) k s u .uses ≡ one-if (not u)
+      once k s cone b true = refl
+      once k s cone b false = refl
+
+      go : (x : State) → loggedStepped t f S n h (w .moves) (w .opened) (w .restarts) x .uses ≡ one-if (isLost (startHeld x) h)
+      go (Ended p c) = refl
+      go (Going s cone b) = once (recounted (w .restarts) h s) s cone b (keeps h s)
+
+  workings-on : (S : List Constraint) (n : ℕ) (h : Constraint) (rest : List Constraint) (w : Walk) → workings t f S n (h ∷ rest) w ≡ one-if (isLost (startHeld (w .state)) h) + workings t f (S ++ (h ∷ [])) (suc n) rest (step t f S n h w)
+  workings-on S n h rest w =
+      ap (λ (k : ℕ). k + workings t f (S ++ (h ∷ [])) (suc n) rest (loggedStep t f S n h w .walk)) (used-if-lost S n h w) ∙ ap (λ (x : Walk). one-if (isLost (startHeld (w .state)) h) + workings t f (S ++ (h ∷ [])) (suc n) rest x) (logged-step S n h w)
+
+  -- a step that loses the start point goes by what `restart` gives ..
   pub stepped-is : (S : List Constraint) (n : ℕ) (h : Constraint) (m o k : ℕ) (x : State) → stepped t f S n h m o k x ≡ steppedWith (restart t S n h) t f S n h m o k x
   stepped-is S n h m o k (Ended p c) = refl
   stepped-is S n h m o k (Going s cone b) = refl
@@ -101,14 +161,14 @@ module _ (t : Tie) (f : Functional) where
       go (Ended p c) = nothing-more (w .restarts)
       go (Going s cone b) = settle s cone b (elim (keeps h s) [ true ↦ Moved s | false ↦ restart t S n h ])
 
-  -- the count is how often it is worked out
+  -- the count is how often `restart` is used
   pub worked-out-counted : (S : List Constraint) (n : ℕ) (rest : List Constraint) (w : Walk) → walkFrom t f S n rest w .restarts ≡ w .restarts + workings t f S n rest w
   worked-out-counted S n [] w = nothing-more (w .restarts)
     where
       nothing-more : (m : ℕ) → m ≡ m + 0
       nothing-more m = omega arith
   worked-out-counted S n (h ∷ rest) w =
-      add (w .restarts) (step t f S n h w .restarts) (one-if (isLost (startHeld (w .state)) h)) (workings t f (S ++ (h ∷ [])) (suc n) rest (step t f S n h w)) (walkFrom t f (S ++ (h ∷ [])) (suc n) rest (step t f S n h w) .restarts) (step-counts S n h w) (worked-out-counted (S ++ (h ∷ [])) (suc n) rest (step t f S n h w))
+      add (w .restarts) (step t f S n h w .restarts) (one-if (isLost (startHeld (w .state)) h)) (workings t f (S ++ (h ∷ [])) (suc n) rest (step t f S n h w)) (walkFrom t f (S ++ (h ∷ [])) (suc n) rest (step t f S n h w) .restarts) (step-counts S n h w) (worked-out-counted (S ++ (h ∷ [])) (suc n) rest (step t f S n h w)) ∙ ap (λ (k : ℕ). w .restarts + k) (sym (workings-on S n h rest w))
     where
       add : (m m₁ a b m₂ : ℕ) → m₁ ≡ m + a → m₂ ≡ m₁ + b → m₂ ≡ m + (a + b)
       add m m₁ a b m₂ p q = omega arith
@@ -117,8 +177,8 @@ module _ (t : Tie) (f : Functional) where
   pub never-worked-out : (R : List Constraint → ℕ → Constraint → Restart) (S : List Constraint) (n : ℕ) (rest : List Constraint) (w : Walk) → workings t f S n rest w ≡ 0 → walkFrom t f S n rest w ≡ walkFromWith R t f S n rest w
   never-worked-out R S n [] w e = refl
   never-worked-out R S n (h ∷ rest) w e =
-      never-worked-out R (S ++ (h ∷ [])) (suc n) rest (step t f S n h w) (later (one-if (isLost (startHeld (w .state)) h)) (workings t f (S ++ (h ∷ [])) (suc n) rest (step t f S n h w)) e)
-      ∙ ap (walkFromWith R t f (S ++ (h ∷ [])) (suc n) rest) (kept-not-worked-out S n h (w .moves) (w .opened) (w .restarts) (w .state) (kept (isLost (startHeld (w .state)) h) (workings t f (S ++ (h ∷ [])) (suc n) rest (step t f S n h w)) e) (R S n h))
+      never-worked-out R (S ++ (h ∷ [])) (suc n) rest (step t f S n h w) (later (one-if (isLost (startHeld (w .state)) h)) (workings t f (S ++ (h ∷ [])) (suc n) rest (step t f S n h w)) (sym (workings-on S n h rest w) ∙ e))
+      ∙ ap (walkFromWith R t f (S ++ (h ∷ [])) (suc n) rest) (kept-not-worked-out S n h (w .moves) (w .opened) (w .restarts) (w .state) (kept (isLost (startHeld (w .state)) h) (workings t f (S ++ (h ∷ [])) (suc n) rest (step t f S n h w)) (sym (workings-on S n h rest w) ∙ e)) (R S n h))
     where
       later : (a b : ℕ) → a + b ≡ 0 → b ≡ 0
       later a b e = omega arith
@@ -155,6 +215,7 @@ module _ (t : Tie) (good : GoodTie t) (floors : Floors) (f : Functional) where
   pub record WalkStarts (rules : List Constraint) : Type 0 where
     pub start-defined : startHeld (walk t floors f rules .state) ≡ startOf t floors rules
     pub restarts-defined : walk t floors f rules .restarts ≡ restarts t floors rules
+    pub same-walk : loggedFrom t f (system floors []) 2 rules (begin floors f) .walk ≡ walk t floors f rules
     pub worked-out : workings t f (system floors []) 2 rules (begin floors f) ≡ restarts t floors rules
 
   pub walk-starts : (rules : List Constraint) → WalkStarts rules
@@ -162,6 +223,7 @@ module _ (t : Tie) (good : GoodTie t) (floors : Floors) (f : Functional) where
       record {
         start-defined = state-starts t good floors f rules (walk t floors f rules .state) (walk-stands t good floors f rules .stands);
         restarts-defined = counted;
+        same-walk = logged-walk t f (system floors []) 2 rules (begin floors f);
         worked-out = less (workings t f (system floors []) 2 rules (begin floors f)) (walk t floors f rules .restarts) (worked-out-counted t f (system floors []) 2 rules (begin floors f)) ∙ counted;
       }
     where
