@@ -1,6 +1,6 @@
 -- A label means one rule: 12 is said of a book exactly where a label stands a second time on the chain, and a book whose chain has distinct labels
 -- is read as it was before 12 was.
-use Prim.Native.Nat.{ℕ, zero, suc, _<_}
+use Prim.Native.Nat.{ℕ, zero, suc, _≤_, _<_}
 use mathlib.Core.Path.{_≡_, refl, subst, subst⁻¹}
 use mathlib.Core.Bool.{Bool, true, false, cond}
 use mathlib.Core.List.{List, [], _∷_, _++_, map}
@@ -119,17 +119,18 @@ module _ (L : Layout) (s : List ℕ) where
 
   -- ---- distinct labels on the chain
 
+  -- of the records that are there: links may lead past the count, where a record reads as label 0
   pub record DistinctLabels : Type 0 where
-    pub apart : (i j : ℕ) → OnChain L s i → OnChain L s j → (i ≡ 0 → ⊥) → (j ≡ 0 → ⊥) → labelAt L s i ≡ labelAt L s j → i ≡ j
+    pub apart : (i j : ℕ) → OnChain L s i → OnChain L s j → (i ≡ 0 → ⊥) → (j ≡ 0 → ⊥) → i ≤ countOf L s → j ≤ countOf L s → labelAt L s i ≡ labelAt L s j → i ≡ j
 
   walked-here : {done : List ℕ} {at : ℕ} → Walked L s done at → OnChain L s at
   walked-here (header a b c d f) = header
   walked-here (visit w i e z h m ka kb kc q) = subst⁻¹ (OnChain L s) e (link (walked-here w))
 
-  walked-chain : {done : List ℕ} {at : ℕ} → Walked L s done at → (k : ℕ) → k < length done → OnChain L s (getD done k 0) × (getD done k 0 ≡ 0 → ⊥)
+  walked-chain : {done : List ℕ} {at : ℕ} → Walked L s done at → (k : ℕ) → k < length done → OnChain L s (getD done k 0) × ((getD done k 0 ≡ 0 → ⊥) × (getD done k 0 ≤ countOf L s))
   walked-chain (header a b c d f) = λ k h. absurd (let z : ⊥ = omega arith in z)
   walked-chain (visit {done = done} w i e z h m ka kb kc q) =
-      each-snoc (λ j. OnChain L s j × (j ≡ 0 → ⊥)) done i (walked-chain w) (subst⁻¹ (OnChain L s) e (link (walked-here w)), z)
+      each-snoc (λ j. OnChain L s j × ((j ≡ 0 → ⊥) × (j ≤ countOf L s))) done i (walked-chain w) (subst⁻¹ (OnChain L s) e (link (walked-here w)), (z, h))
 
   distinct-other : DistinctLabels → Other (readOf L s)
   distinct-other d i e =
@@ -139,7 +140,7 @@ module _ (L : Layout) (s : List ℕ) where
       let there = walked-chain (w .walked) (p .place) (p .within) in
       let here : OnChain L s i = subst⁻¹ (OnChain L s) (w .link) (link (walked-here (w .walked))) in
       not-there (λ n. n) (w .done) i (rw (map-same (w .done)) (w .new)) (p .place) (p .within)
-      (d .apart (getD (w .done) (p .place) 0) i (there .0) here (there .1) (w .some) (p .value))
+      (d .apart (getD (w .done) (p .place) 0) i (there .0) here (there .1 .0) (w .some) (there .1 .1) (w .within) (p .value))
 
   -- a book whose chain has distinct labels is read as before
   pub distinct-as-before : DistinctLabels → readOf L s ≡ readBefore L s
