@@ -75,14 +75,14 @@ turned-round w h b half whole wide fits =
 pub signed-wide : (w : Width) (b : ℕ) → Fits w b → 2 ^ hbits w ≤ 2 ^ 63 → SFits w64 (toZ w b)
 signed-wide w b f k = record { sfits = lt-of-lt-of-le (toZ-fits w b f .sfits) k }
 
--- a number that is not below −1,000,000,000 can be turned round
-pub neg-fits : (z : ℤ) → SFits w64 z → ltZ z (negsuc 999999999) ≡ false → SFits w64 (pos 0 -ℤ z)
+-- a number that is not below −9,223,372,036,854,775,807 can be turned round
+pub neg-fits : (z : ℤ) → SFits w64 z → ltZ z (negsuc 9223372036854775806) ≡ false → SFits w64 (pos 0 -ℤ z)
 neg-fits z f h = rw +ℤ-idl (go z f h)
   where
-    go : (z : ℤ) → SFits w64 z → ltZ z (negsuc 999999999) ≡ false → SFits w64 (negℤ z)
+    go : (z : ℤ) → SFits w64 z → ltZ z (negsuc 9223372036854775806) ≡ false → SFits w64 (negℤ z)
     go (pos zero) f h = f
     go (pos (suc n)) f h = record { sfits = lt-of-le-of-lt (le-suc n) (f .sfits) }
-    go (negsuc n) f h = record { sfits = lt-of-le-of-lt (suc-le-suc (ltb-false 999999999 n h)) (lit< tt) }
+    go (negsuc n) f h = record { sfits = lt-of-le-of-lt (suc-le-suc (ltb-false 9223372036854775806 n h)) (lit< tt) }
 
 -- ---- a field of a record: the first bytes of a part are the whole's
 

@@ -9,9 +9,10 @@ use Rattle.book.specs.declared.Rule.{Rule}
 use Rattle.book.specs.Answers.{constraintOf, turned}
 use Rattle.book.specs.Lawful.{LawfulRule, LawfulConstraint}
 
-turned-is : (z : ℤ) → natAbs z ≤ 1000000000 → turned z ≡ negℤ z
+-- every number of 64 bits but the lowest
+pub turned-is : (z : ℤ) → natAbs z ≤ 9223372036854775807 → turned z ≡ negℤ z
 turned-is (pos n) h = refl
-turned-is (negsuc n) h = rw (le-ltb 999999999 n (omega arith))
+turned-is (negsuc n) h = rw (le-ltb 9223372036854775806 n (omega arith))
 
 same-size : (z : ℤ) → natAbs (negℤ z) ≡ natAbs z
 same-size (pos zero) = refl
@@ -27,7 +28,7 @@ unfolding constraintOf
 at-least-planned r l k =
     let a = turned-is (r .a) (omega (arith, l .a)) in
     let b = turned-is (r .b) (omega (arith, l .b)) in
-    let c = turned-is (r .c) (l .c) in
+    let c = turned-is (r .c) (omega (arith, l .c)) in
     rw (eq-eqb (r .kind) 2 k) (λ i. record { a = a i; b = b i; c = c i })
 
 pub planned-lawful : (r : Rule) → LawfulRule r → LawfulConstraint (constraintOf r)

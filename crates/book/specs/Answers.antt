@@ -39,9 +39,10 @@ abbrev pub outputOf : Packing → List ℕ → List ℕ
 outputOf (declined n r) out = out
 outputOf (packed bs) out = bs ++ drop (length bs) out
 
--- a number of a kind 2 rule turned round. Below −1,000,000,000, where no rule of a book has one, it is 0
+-- a number of a kind 2 rule turned round. Of 64 bits only the lowest, −9,223,372,036,854,775,808, has no opposite that fits: it becomes 0, and
+-- no rule of a book has it
 abbrev pub turned : ℤ → ℤ
-turned z = cond (ltZ z (negsuc 999999999)) (pos 0) (negℤ z)
+turned z = cond (ltZ z (negsuc 9223372036854775806)) (pos 0) (negℤ z)
 
 -- a rule as it is planned
 unfoldable pub constraintOf : Rule → Constraint

@@ -154,9 +154,9 @@ pub fn number_of(decoded: Decoded) -> u8
     }
 }
 
-// A number of a kind 2 rule, turned round. No rule of a book has one below -1,000,000,000; for such a one it is 0.
+// A number of a kind 2 rule, turned round. Only the lowest i64 has no opposite that fits: it becomes 0, and no rule of a book has it.
 pub fn turned(x: i64) -> i64
     ensures { λ r. ⌜ r ≡ answers.turned x ⌝ }
 {
-    if x < -1000000000 { 0 } else { 0 - x }
+    if x < -9223372036854775807 { 0 } else { 0 - x }
 }

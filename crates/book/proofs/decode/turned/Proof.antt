@@ -14,15 +14,15 @@ use Rattle.book.proofs.decode.turned.Tie as tie
 value : (c : tie.Else1) → toZ w64 (ofZ w64 (c .before .args .x)) ≡ c .before .args .x
 value c = toZ-ofZ (c .before .fits .x)
 
-low : (c : tie.Else1) → ltZ (c .before .args .x) (negsuc 999999999) ≡ false
-low c = ap (λ z. ltZ z (negsuc 999999999)) (sym (value c)) ∙ c .if1 .left
+low : (c : tie.Else1) → ltZ (c .before .args .x) (negsuc 9223372036854775806) ≡ false
+low c = ap (λ z. ltZ z (negsuc 9223372036854775806)) (sym (value c)) ∙ c .if1 .left
 
 sub-result : tie.Need-sub-result
 sub-result c = rw (value c) (neg-fits (c .before .args .x) (c .before .fits .x) (low c))
 
 returns : tie.Need-returns
 returns c =
-    let h : ltZ (c .before .args .x) (negsuc 999999999) ≡ true = ap (λ z. ltZ z (negsuc 999999999)) (sym (toZ-ofZ (c .before .fits .x))) ∙ c .if1 .taken in
+    let h : ltZ (c .before .args .x) (negsuc 9223372036854775806) ≡ true = ap (λ z. ltZ z (negsuc 9223372036854775806)) (sym (toZ-ofZ (c .before .fits .x))) ∙ c .if1 .taken in
     rw h
 
 returns-2 : tie.Need-returns-2
