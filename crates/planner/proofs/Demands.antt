@@ -1,4 +1,5 @@
--- Demand 3 on bytes: what `plan` promises of a book, in the textbook's words, for every accepted book. Each theorem takes the promise of a call and nothing else.
+-- Demand 3 on bytes, in the textbook's words: for all bytes s and the answer a that `plan` hands back for them. Of the code each theorem takes the promise of
+-- that call, `Answers s a`, and nothing else; of the bytes, what they read as. All but the first two speak of the plan p in the answer to an accepted book.
 use mathlib.Core.Path.{_≡_, refl, sym, _∙_, subst}
 use mathlib.Core.List.{List}
 use mathlib.Core.Logic.{_↔_}
@@ -25,7 +26,8 @@ use Rattle.theory.proofs.Meaning.{outcome-order-free}
 use Rattle.theory.proofs.Theorems.{infeasible-exactly, unbounded-exactly, optimal-exactly, BestPoint, optimum-best, FirstPoint, start-first, FlattestRay, ray-flattest, Placed, place-least, moves-at-most, open-at-most}
 use Rattle.witness.specs.Witness.{coded}
 use Rattle.planner.proofs.Chains.{length-rules}
-use Rattle.planner.proofs.Ordered.{InOrder, rising-in-order}
+use Rattle.planner.proofs.Ordered.{InOrder, NoneTwice, rising-in-order, rising-none-twice}
+use Rattle.planner.proofs.Codes.{coded-apart, one-to-three}
 use Rattle.planner.specs.Planning.{rulesOf, recordsOf, Proves, Witnessed, PlannedAs, AnsweredBy, Answers}
 
 -- an accepted book is planned, never refused
@@ -40,73 +42,90 @@ accepted-planned s a promise o es e = go a refl (subst (λ r. AnsweredBy r a) e 
 pub refused-answered : (s : List ℕ) (a : Answer) → Answers s a → (n r : ℕ) → readOf v1 s ≡ refused n r → a ≡ Refused n r
 refused-answered s a promise n r e = subst (λ x. AnsweredBy x a) e (promise .answered)
 
-module _ (o : Functional) (es : List Entry) (p : Plan) (promise : PlannedAs es o p) where
+-- an accepted book s, its answer a and the plan p in it
+module _ (s : List ℕ) (a : Answer) (promise : Answers s a) (o : Functional) (es : List Entry) (e : readOf v1 s ≡ accepted o es) (p : Plan) (q : a ≡ Planned p) where
+  -- p is document 01's answer to the chain that the bytes read as
+  pub planned : PlannedAs es o p
+  planned = subst (AnsweredBy (accepted o es)) q (subst (λ r. AnsweredBy r a) e (promise .answered))
+
+  -- the floors and the rules that the bytes read as, in the chain's order
   abbrev pub chain : List Constraint
   chain = system zeroFloors (rulesOf es)
 
   -- "impossible" exactly when no pair of fractions of any size keeps all rules
   pub impossible-exactly : (p .outcome ≡ outcome.Infeasible) ↔ Infeasible chain
   impossible-exactly = (
-    (λ e. infeasible-exactly leastXThenY least-x-then-y-good zeroFloors o (rulesOf es) .0 (sym (promise .outcome-defined) ∙ e)),
-    (λ none. promise .outcome-defined ∙ infeasible-exactly leastXThenY least-x-then-y-good zeroFloors o (rulesOf es) .1 none),
+    (λ f. infeasible-exactly leastXThenY least-x-then-y-good zeroFloors o (rulesOf es) .0 (sym (planned .outcome-defined) ∙ f)),
+    (λ none. planned .outcome-defined ∙ infeasible-exactly leastXThenY least-x-then-y-good zeroFloors o (rulesOf es) .1 none),
   )
 
   -- "unlimited" exactly when allowed pairs exist and gains have no top
-  pub unlimited-exactly : ((s : Point) × (d : Ray) × (p .outcome ≡ outcome.Unbounded s d)) ↔ Unbounded chain o
+  pub unlimited-exactly : ((u : Point) × (d : Ray) × (p .outcome ≡ outcome.Unbounded u d)) ↔ Unbounded chain o
   unlimited-exactly = (
-    (λ x. unbounded-exactly leastXThenY least-x-then-y-good zeroFloors o (rulesOf es) .0 (x .0, x .1, sym (promise .outcome-defined) ∙ x .2)),
-    (λ u. back (unbounded-exactly leastXThenY least-x-then-y-good zeroFloors o (rulesOf es) .1 u)),
+    (λ x. unbounded-exactly leastXThenY least-x-then-y-good zeroFloors o (rulesOf es) .0 (x .0, x .1, sym (planned .outcome-defined) ∙ x .2)),
+    (λ g. back (unbounded-exactly leastXThenY least-x-then-y-good zeroFloors o (rulesOf es) .1 g)),
   )
     where
-      back : (s : Point) × (d : Ray) × (Rattle.lp.specs.Outcome.outcome leastXThenY zeroFloors o (rulesOf es) ≡ outcome.Unbounded s d) → (s : Point) × (d : Ray) × (p .outcome ≡ outcome.Unbounded s d)
-      back (s, d, e) = (s, d, promise .outcome-defined ∙ e)
+      back : (u : Point) × (d : Ray) × (Rattle.lp.specs.Outcome.outcome leastXThenY zeroFloors o (rulesOf es) ≡ outcome.Unbounded u d) → (u : Point) × (d : Ray) × (p .outcome ≡ outcome.Unbounded u d)
+      back (u, d, f) = (u, d, planned .outcome-defined ∙ f)
 
   -- "best" exactly when they exist and gains have a top
   pub best-exactly : ((v : Point) × (p .outcome ≡ outcome.Optimal v)) ↔ Bounded chain o
   best-exactly = (
-    (λ x. optimal-exactly leastXThenY least-x-then-y-good zeroFloors o (rulesOf es) .0 (x .0, sym (promise .outcome-defined) ∙ x .1)),
+    (λ x. optimal-exactly leastXThenY least-x-then-y-good zeroFloors o (rulesOf es) .0 (x .0, sym (planned .outcome-defined) ∙ x .1)),
     (λ b. back (optimal-exactly leastXThenY least-x-then-y-good zeroFloors o (rulesOf es) .1 b)),
   )
     where
       back : (v : Point) × (Rattle.lp.specs.Outcome.outcome leastXThenY zeroFloors o (rulesOf es) ≡ outcome.Optimal v) → (v : Point) × (p .outcome ≡ outcome.Optimal v)
-      back (v, e) = (v, promise .outcome-defined ∙ e)
+      back (v, f) = (v, planned .outcome-defined ∙ f)
 
   -- a best pair is allowed, no allowed pair gains more, and it is first by the tie
   pub best-pair : (v : Point) → p .outcome ≡ outcome.Optimal v → BestPoint leastXThenY least-x-then-y-good zeroFloors o (rulesOf es) v
-  best-pair v e = optimum-best leastXThenY least-x-then-y-good zeroFloors o (rulesOf es) v (sym (promise .outcome-defined) ∙ e)
+  best-pair v f = optimum-best leastXThenY least-x-then-y-good zeroFloors o (rulesOf es) v (sym (planned .outcome-defined) ∙ f)
 
-  pub start-pair : (s : Point) (d : Ray) → p .outcome ≡ outcome.Unbounded s d → FirstPoint leastXThenY least-x-then-y-good zeroFloors o (rulesOf es) s
-  start-pair s d e = start-first leastXThenY least-x-then-y-good zeroFloors o (rulesOf es) s d (sym (promise .outcome-defined) ∙ e)
+  pub start-pair : (u : Point) (d : Ray) → p .outcome ≡ outcome.Unbounded u d → FirstPoint leastXThenY least-x-then-y-good zeroFloors o (rulesOf es) u
+  start-pair u d f = start-first leastXThenY least-x-then-y-good zeroFloors o (rulesOf es) u d (sym (planned .outcome-defined) ∙ f)
 
-  pub direction-given : (s : Point) (d : Ray) → p .outcome ≡ outcome.Unbounded s d → FlattestRay leastXThenY least-x-then-y-good zeroFloors o (rulesOf es) d
-  direction-given s d e = ray-flattest leastXThenY least-x-then-y-good zeroFloors o (rulesOf es) s d (sym (promise .outcome-defined) ∙ e)
+  pub direction-given : (u : Point) (d : Ray) → p .outcome ≡ outcome.Unbounded u d → FlattestRay leastXThenY least-x-then-y-good zeroFloors o (rulesOf es) d
+  direction-given u d f = ray-flattest leastXThenY least-x-then-y-good zeroFloors o (rulesOf es) u d (sym (planned .outcome-defined) ∙ f)
 
   -- the place is the least k whose first k rules allow no pair
   pub place-given : p .outcome ≡ outcome.Infeasible → Placed leastXThenY least-x-then-y-good zeroFloors o (rulesOf es) (p .place)
-  place-given e =
-      subst (Placed leastXThenY least-x-then-y-good zeroFloors o (rulesOf es)) (sym (promise .place-defined)) (place-least leastXThenY least-x-then-y-good zeroFloors o (rulesOf es) (impossible-exactly .0 e))
+  place-given f =
+      subst (Placed leastXThenY least-x-then-y-good zeroFloors o (rulesOf es)) (sym (planned .place-defined)) (place-least leastXThenY least-x-then-y-good zeroFloors o (rulesOf es) (impossible-exactly .0 f))
 
   -- an "impossible" names rules that can be added up, and they exclude every pair
   pub witness-given : p .outcome ≡ outcome.Infeasible → Proves es (p .place) (p .witness)
-  witness-given e = subst (Witnessed es (p .place) (p .witness)) e (promise .witnessed)
+  witness-given f = subst (Witnessed es (p .place) (p .witness)) f (planned .witnessed)
 
   -- its entries in the printed order: floors first, then records rising
   pub witness-rises : p .outcome ≡ outcome.Infeasible → InOrder (p .witness)
-  witness-rises e = subst InOrder (sym (witness-given e .same-entries)) (rising-in-order (coded (recordsOf es) (witness-given e .certificate)))
+  witness-rises f = subst InOrder (sym (witness-given f .same-entries)) (rising-in-order (coded (recordsOf es) (witness-given f .certificate)))
 
-  pub witness-excludes : (e : p .outcome ≡ outcome.Infeasible) → Infeasible (system zeroFloors (take (p .place) (rulesOf es)))
-  witness-excludes e =
-      certificate-excludes (system zeroFloors (take (p .place) (rulesOf es))) (named (witness-given e .certificate)) (witness-given e .valid)
+  -- one to three entries are named, and none twice: the codes of those in use rise strictly
+  pub witness-none-twice : p .outcome ≡ outcome.Infeasible → NoneTwice (p .witness)
+  witness-none-twice f =
+      subst NoneTwice (sym (witness-given f .same-entries)) (rising-none-twice (coded (recordsOf es) (witness-given f .certificate)) (coded-apart s o es e (p .place) (witness-given f .certificate) (witness-given f .valid)))
+
+  -- as many as the printed line counts
+  pub witness-one-to-three : p .outcome ≡ outcome.Infeasible → (1 ≤ length (named (p .witness))) × (length (named (p .witness)) ≤ 3)
+  witness-one-to-three f = one-to-three (p .witness) (witness-none-twice f .first-used)
+
+  pub witness-excludes : p .outcome ≡ outcome.Infeasible → Infeasible (system zeroFloors (take (p .place) (rulesOf es)))
+  witness-excludes f =
+      certificate-excludes (system zeroFloors (take (p .place) (rulesOf es))) (named (witness-given f .certificate)) (witness-given f .valid)
 
   pub moves-bounded : p .moves ≤ length es
   moves-bounded =
-      subst (λ n. p .moves ≤ n) (length-rules es) (subst (λ n. n ≤ length (rulesOf es)) (sym (promise .moves-defined)) (moves-at-most leastXThenY least-x-then-y-good zeroFloors o (rulesOf es)))
+      subst (λ n. p .moves ≤ n) (length-rules es) (subst (λ n. n ≤ length (rulesOf es)) (sym (planned .moves-defined)) (moves-at-most leastXThenY least-x-then-y-good zeroFloors o (rulesOf es)))
 
   pub open-bounded : p .opened ≤ length es + 1
   open-bounded =
-      subst (λ n. p .opened ≤ n + 1) (length-rules es) (subst (λ n. n ≤ length (rulesOf es) + 1) (sym (promise .open-defined)) (open-at-most leastXThenY least-x-then-y-good zeroFloors o (rulesOf es)))
+      subst (λ n. p .opened ≤ n + 1) (length-rules es) (subst (λ n. n ≤ length (rulesOf es) + 1) (sym (planned .open-defined)) (open-at-most leastXThenY least-x-then-y-good zeroFloors o (rulesOf es)))
 
 -- two accepted books alike in objective and rules (floors are the same in every book) get the same outcome, pair and direction
-pub order-free : (o : Functional) (es fs : List Entry) (p q : Plan) → PlannedAs es o p → PlannedAs fs o q → AlikeInRules (rulesOf es) (rulesOf fs) → p .outcome ≡ q .outcome
-order-free o es fs p q f g alike =
-    f .outcome-defined ∙ outcome-order-free leastXThenY least-x-then-y-good zeroFloors o (rulesOf es) (rulesOf fs) alike ∙ sym (g .outcome-defined)
+pub order-free : (s s′ : List ℕ) (a a′ : Answer) → Answers s a → Answers s′ a′ → (o : Functional) (es fs : List Entry) → readOf v1 s ≡ accepted o es → readOf v1 s′ ≡ accepted o fs → (p p′ : Plan) → a ≡ Planned p → a′ ≡ Planned p′ → AlikeInRules (rulesOf es) (rulesOf fs) → p .outcome ≡ p′ .outcome
+order-free s s′ a a′ promise promise′ o es fs e e′ p p′ q q′ alike =
+    planned s a promise o es e p q .outcome-defined
+    ∙ outcome-order-free leastXThenY least-x-then-y-good zeroFloors o (rulesOf es) (rulesOf fs) alike
+    ∙ sym (planned s′ a′ promise′ o fs e′ p′ q′ .outcome-defined)

@@ -14,5 +14,6 @@ pub mod Views
 pub mod Ordered
 pub mod Amounts
 pub mod Shown
+pub mod Codes
 pub mod Demands
 pub mod Seen

@@ -1,11 +1,14 @@
--- A witness's entries are in the printed order: no entry goes before the one ahead of it, so used entries come first and their codes rise.
+-- A witness's entries are in the printed order: no entry goes before the one ahead of it, so used entries come first and their codes rise. Where no two used
+-- entries have one code, they rise strictly: none is named twice.
 use mathlib.Core.Path.{_≡_, refl, sym, subst}
 use mathlib.Core.Bool.{Bool, true, false, not, _&&_, _||_}
-use Prim.Native.Nat.{ℕ}
+use Prim.Native.Nat.{ℕ, _≤_, _<_}
 use native.Mathlib.Omega.{arith}
 use lib.Dec.{T, ltb, ltb→lt, nltb→le, not-T}
+use lib.IntN.{ℤ}
 use Rattle.lp.specs.declared.Certificate.{Certificate}
 use Rattle.lp.specs.Certificate.{isZero}
+use Rattle.model.specs.Step.{certificate}
 use Rattle.witness.specs.Witness.{goesBefore, orderFirst, orderLast, rising}
 
 -- the second entry does not go before the first, nor the third before the second
@@ -74,3 +77,82 @@ rising-in-order k =
       first-two = first-in-order (orderLast (orderFirst k));
       last-two = last-stays (orderLast (orderFirst k)) (greatest-last (orderFirst k) (first-in-order k) .0) (greatest-last (orderFirst k) (first-in-order k) .1);
     }
+
+-- ---- no entry twice
+
+-- an entry is named where its weight is not zero
+abbrev pub Used : ℤ → Type 0
+Used w = T (not (isZero w))
+
+-- one to three entries are named, those in use first, and their codes rise strictly: so none is named twice
+pub record NoneTwice (k : Certificate) : Type 0 where
+  pub first-used : Used (k .«first_weight»)
+  pub second-above : Used (k .«second_weight») → k .first < k .second
+  pub third-above : Used (k .«third_weight») → Used (k .«second_weight») × (k .second < k .third)
+
+-- some entry is in use, and no two in use have the same code, in whatever order they stand
+pub record Apart (k : Certificate) : Type 0 where
+  pub some : T (isZero (k .«first_weight»)) → T (isZero (k .«second_weight»)) → T (isZero (k .«third_weight»)) → ⊥
+  pub first-second : Used (k .«first_weight») → Used (k .«second_weight») → k .first ≡ k .second → ⊥
+  pub first-third : Used (k .«first_weight») → Used (k .«third_weight») → k .first ≡ k .third → ⊥
+  pub second-third : Used (k .«second_weight») → Used (k .«third_weight») → k .second ≡ k .third → ⊥
+
+first-apart : (k : Certificate) → Apart k → Apart (orderFirst k)
+first-apart k h = go (goesBefore (k .second) (k .«second_weight») (k .first) (k .«first_weight»))
+  where
+    go : (b : Bool) → Apart (elim b [ true ↦ certificate (k .second) (k .«second_weight») (k .first) (k .«first_weight») (k .third) (k .«third_weight») | false ↦ k ])
+    go true =
+        record {
+          some = λ a b c. h .some b a c;
+          first-second = λ u v q. h .first-second v u (sym q);
+          first-third = h .second-third;
+          second-third = h .first-third;
+        }
+    go false = h
+
+last-apart : (k : Certificate) → Apart k → Apart (orderLast k)
+last-apart k h = go (goesBefore (k .third) (k .«third_weight») (k .second) (k .«second_weight»))
+  where
+    go : (b : Bool) → Apart (elim b [ true ↦ certificate (k .first) (k .«first_weight») (k .third) (k .«third_weight») (k .second) (k .«second_weight») | false ↦ k ])
+    go true =
+        record {
+          some = λ a b c. h .some a c b;
+          first-second = h .first-third;
+          first-third = h .first-second;
+          second-third = λ u v q. h .second-third v u (sym q);
+        }
+    go false = h
+
+-- an entry in use has one in use ahead of it, whose code is no greater
+ahead : (z : Bool) (e : ℕ) (z′ : Bool) (e′ : ℕ) → T (not (before z′ e′ z e)) → T (not z′) → T (not z) × (e ≤ e′)
+ahead z e true e′ t u = absurd u
+ahead true e false e′ t u = absurd t
+ahead false e false e′ t u = (tt, nltb→le e′ e t)
+
+-- and where some are in use the first is
+in-use : (za : Bool) (ea : ℕ) (zb : Bool) (eb : ℕ) (zc : Bool) (ec : ℕ) → T (not (before zb eb za ea)) → T (not (before zc ec zb eb)) → (T za → T zb → T zc → ⊥) → T (not za)
+in-use false ea zb eb zc ec p q h = tt
+in-use true ea true eb true ec p q h = absurd (h tt tt tt)
+in-use true ea true eb false ec p q h = absurd q
+in-use true ea false eb zc ec p q h = absurd p
+
+below : (m n : ℕ) → m ≤ n → (m ≡ n → ⊥) → m < n
+below m n h d = omega arith
+
+none-twice : (k : Certificate) → InOrder k → Apart k → NoneTwice k
+none-twice k r h =
+    record {
+      first-used = in-use (isZero (k .«first_weight»)) (k .first) (isZero (k .«second_weight»)) (k .second) (isZero (k .«third_weight»)) (k .third) (r .first-two) (r .last-two) (h .some);
+      second-above = λ u. below (k .first) (k .second) (one u .1) (h .first-second (one u .0) u);
+      third-above = λ u. (two u .0, below (k .second) (k .third) (two u .1) (h .second-third (two u .0) u));
+    }
+  where
+    one : Used (k .«second_weight») → Used (k .«first_weight») × (k .first ≤ k .second)
+    one u = ahead (isZero (k .«first_weight»)) (k .first) (isZero (k .«second_weight»)) (k .second) (r .first-two) u
+
+    two : Used (k .«third_weight») → Used (k .«second_weight») × (k .second ≤ k .third)
+    two u = ahead (isZero (k .«second_weight»)) (k .second) (isZero (k .«third_weight»)) (k .third) (r .last-two) u
+
+pub rising-none-twice : (k : Certificate) → Apart k → NoneTwice (rising k)
+rising-none-twice k h =
+    none-twice (rising k) (rising-in-order k) (first-apart (orderLast (orderFirst k)) (last-apart (orderFirst k) (first-apart k h)))

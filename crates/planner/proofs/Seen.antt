@@ -1,4 +1,5 @@
--- What the promise of `start_after` says of a book, in the textbook's words. Each theorem takes that promise and nothing else.
+-- What the promise of `start_after` says of a book, in the textbook's words. Each theorem takes that promise and nothing else of the code; the last one, which
+-- compares two calls, that of `plan` too.
 use mathlib.Core.Path.{_≡_, refl, sym, _∙_, ap, subst}
 use mathlib.Core.List.{List}
 use mathlib.Core.Bool.{true, false, true≢false}
@@ -18,12 +19,15 @@ use Rattle.lp.specs.Start.{Start, none, at, startOf, restarts}
 use Rattle.lp.specs.Document.{leastXThenY, zeroFloors}
 use Rattle.book.specs.Layout.{v1}
 use Rattle.book.specs.Reading.{Reading, refused, accepted, Entry, readOf}
+use Rattle.report.specs.declared.Answer.{Answer}
+use Rattle.report.specs.declared.Answer.the-variants.{Planned}
 use Rattle.report.specs.declared.Plan.{Plan}
 use Rattle.theory.proofs.Ties.{least-x-then-y-good}
 use Rattle.theory.proofs.Theorems.{FirstPoint}
 use Rattle.theory.proofs.Starts.{none-exactly, at-first, unbounded-start, restarts-at-most}
+use Rattle.planner.proofs.Demands.{planned}
 use Rattle.planner.specs.declared.StartView.{StartView}
-use Rattle.planner.specs.Planning.{rulesOf, PlannedAs}
+use Rattle.planner.specs.Planning.{rulesOf, Answers}
 use Rattle.planner.specs.View.{nowhere, viewed, startView, viewOf, Views}
 
 -- a refused book: its number and record, and nothing else
@@ -75,7 +79,7 @@ module _ (s : List ℕ) (k : ℕ) (v : StartView) (h : Views s k v) (o : Functio
     pub whole-seen : v ≡ startView (rulesOf es)
     whole-seen = accepted-seen ∙ ap startView (take-all k (rulesOf es) beyond)
 
-    pub unlimited-seen : (p : Plan) → PlannedAs es o p → (u : Point) (d : Ray) → p .outcome ≡ outcome.Unbounded u d → v .point ≡ u
-    unlimited-seen p promise u d q =
+    pub unlimited-seen : (a : Answer) → Answers s a → (p : Plan) → a ≡ Planned p → (u : Point) (d : Ray) → p .outcome ≡ outcome.Unbounded u d → v .point ≡ u
+    unlimited-seen a promise p f u d q =
         ap (λ (x : StartView). x .point) whole-seen
-        ∙ ap (λ (x : Start). viewed x (restarts leastXThenY zeroFloors (rulesOf es)) .point) (unbounded-start leastXThenY least-x-then-y-good zeroFloors o (rulesOf es) u d (sym (promise .outcome-defined) ∙ q))
+        ∙ ap (λ (x : Start). viewed x (restarts leastXThenY zeroFloors (rulesOf es)) .point) (unbounded-start leastXThenY least-x-then-y-good zeroFloors o (rulesOf es) u d (sym (planned s a promise o es e p f .outcome-defined) ∙ q))

@@ -1,0 +1,188 @@
+-- The codes of a valid certificate's entries: an accepted chain has no record twice and each is one after the header, so entries apart by index are apart by code.
+use mathlib.Core.Path.{_≡_, refl, sym, _∙_, ap, subst}
+use mathlib.Core.List.{List, _++_, List·Memᴰ, List·Memᴰ·head, List·Memᴰ·tail}
+use mathlib.Core.Bool.{Bool, true, false, not, _&&_}
+use Prim.Native.Nat.{ℕ, zero, suc, _+_, _≤_, _<_}
+use native.Mathlib.Omega.{arith}
+use native.Mathlib.Decide.{decLt}
+use borrow.Author.Tests.{eq-eqb}
+use lib.Dec.{T, eqb, leb, ltb, ltb→lt}
+use lib.ListN.{length, take, getD, length-append, length-take}
+use lib.IntN.{ℤ, pos, negsuc}
+use lib.Signed.{leZ, ltZ}
+use Rattle.lp.specs.declared.Constraint.{Constraint}
+use Rattle.lp.specs.declared.Functional.{Functional}
+use Rattle.lp.specs.declared.Certificate.{Certificate}
+use Rattle.lp.specs.Program.{system}
+use Rattle.lp.specs.Outcome.{every}
+use Rattle.lp.specs.Certificate.{Weighted, weighted, named, total, distinct, greatestWeight, isZero, certifies}
+use Rattle.lp.specs.Document.{zeroFloors}
+use Rattle.book.specs.Layout.{v1}
+use Rattle.book.specs.Reading.{accepted, Entry, readOf}
+use Rattle.book.proofs.Bounds.{index-within, index-distinct}
+use Rattle.theory.proofs.Lists.{and-left, and-right, every-at}
+use Rattle.theory.proofs.Farkas.{is-zero, certificate-refutes}
+use Rattle.witness.specs.Witness.{codeAt, codeOf, coded}
+use Rattle.planner.specs.Planning.{rulesOf, recordsOf}
+use Rattle.planner.proofs.Chains.{length-rules}
+use Rattle.planner.proofs.Ordered.{Used, Apart}
+
+-- ---- the entries that a certificate names
+
+abbrev entry : ℕ → ℤ → Weighted
+entry e w = record { entry = e; weight = w }
+
+named-here : (e : ℕ) (w : ℤ) (l : List Weighted) → Used w → List·Memᴰ (entry e w) (weighted e w ++ l)
+named-here e (pos zero) l u = absurd u
+named-here e (pos (suc n)) l u = List·Memᴰ·head refl
+named-here e (negsuc n) l u = List·Memᴰ·head refl
+
+named-last : (e : ℕ) (w : ℤ) → Used w → List·Memᴰ (entry e w) (weighted e w)
+named-last e (pos zero) u = absurd u
+named-last e (pos (suc n)) u = List·Memᴰ·head refl
+named-last e (negsuc n) u = List·Memᴰ·head refl
+
+named-later : (x : Weighted) (e : ℕ) (w : ℤ) (l : List Weighted) → List·Memᴰ x l → List·Memᴰ x (weighted e w ++ l)
+named-later x e (pos zero) l i = i
+named-later x e (pos (suc n)) l i = List·Memᴰ·tail i
+named-later x e (negsuc n) l i = List·Memᴰ·tail i
+
+-- one in use is apart from all that are named after it, and those from each other
+others : (e : ℕ) (w : ℤ) (l : List Weighted) → Used w → T (distinct (weighted e w ++ l)) → T (every (λ u. not (eqb e (u .entry))) l)
+others e (pos zero) l u t = absurd u
+others e (pos (suc n)) l u t = and-left (every (λ u. not (eqb e (u .entry))) l) (distinct l) t
+others e (negsuc n) l u t = and-left (every (λ u. not (eqb e (u .entry))) l) (distinct l) t
+
+rest : (e : ℕ) (w : ℤ) (l : List Weighted) → T (distinct (weighted e w ++ l)) → T (distinct l)
+rest e (pos zero) l t = t
+rest e (pos (suc n)) l t = and-right (every (λ u. not (eqb e (u .entry))) l) (distinct l) t
+rest e (negsuc n) l t = and-right (every (λ u. not (eqb e (u .entry))) l) (distinct l) t
+
+unequal : (i j : ℕ) → T (not (eqb i j)) → i ≡ j → ⊥
+unequal i j t q = subst (λ b. T (not b)) (eq-eqb i j q) t
+
+not-named : (e : ℕ) (w : ℤ) → T (isZero w) → length (weighted e w) ≡ 0
+not-named e w t = ap (λ z. length (weighted e z)) (is-zero w t)
+
+-- how many are named: at least one where the first is in use, and never above three
+at-most-one : (e : ℕ) (w : ℤ) → length (weighted e w) ≤ 1
+at-most-one e (pos zero) = omega arith
+at-most-one e (pos (suc n)) = omega arith
+at-most-one e (negsuc n) = omega arith
+
+just-one : (e : ℕ) (w : ℤ) → Used w → length (weighted e w) ≡ 1
+just-one e (pos zero) u = absurd u
+just-one e (pos (suc n)) u = refl
+just-one e (negsuc n) u = refl
+
+pub one-to-three : (k : Certificate) → Used (k .«first_weight») → (1 ≤ length (named k)) × (length (named k) ≤ 3)
+one-to-three k u =
+    let a : List Weighted = weighted (k .first) (k .«first_weight») in
+    let b : List Weighted = weighted (k .second) (k .«second_weight») in
+    let c : List Weighted = weighted (k .third) (k .«third_weight») in
+    let one : length a ≡ 1 = just-one (k .first) (k .«first_weight») u in (
+      omega (arith, one, length-append a (b ++ c)),
+      omega (arith, one, length-append a (b ++ c), length-append b c, at-most-one (k .second) (k .«second_weight»), at-most-one (k .third) (k .«third_weight»)),
+    )
+
+-- ---- the parts of the test
+
+first-three : (a b c d e f g h : Bool) → T (a && b && c && d && e && f && g && h) → T (a && b && c)
+first-three a b c d e f g h t =
+    and-left (a && b && c) d
+    (and-left (a && b && c && d) e
+    (and-left (a && b && c && d && e) f
+    (and-left (a && b && c && d && e && f) g (and-left (a && b && c && d && e && f && g) h t))))
+
+module _ (S : List Constraint) (l : List Weighted) (t : T (certifies S l)) where
+  abbrev shaped : T (ltb 0 (length l) && leb (length l) 3 && distinct l)
+  shaped =
+      first-three (ltb 0 (length l)) (leb (length l) 3) (distinct l) (every (λ w. ltb (w .entry) (length S)) l) (every (λ w. leZ (pos 1) (w .weight) && leZ (w .weight) greatestWeight) l) (isZero (total (λ r. r .a) S l)) (isZero (total (λ r. r .b) S l)) (ltZ (total (λ r. r .c) S l) (pos 0)) t
+
+  some-named : 0 < length l
+  some-named =
+      ltb→lt 0 (length l) (and-left (ltb 0 (length l)) (leb (length l) 3) (and-left (ltb 0 (length l) && leb (length l) 3) (distinct l) shaped))
+
+  all-apart : T (distinct l)
+  all-apart = and-right (ltb 0 (length l) && leb (length l) 3) (distinct l) shaped
+
+-- ---- codes
+
+code-used : (records : List ℕ) (e : ℕ) (w : ℤ) → Used w → codeOf records e w ≡ codeAt records e
+code-used records e w u = go (isZero w) u
+  where
+    go : (b : Bool) → T (not b) → elim b [ true ↦ 0 | false ↦ codeAt records e ] ≡ codeAt records e
+    go true u = absurd u
+    go false u = refl
+
+module _ (s : List ℕ) (o : Functional) (es : List Entry) (e : readOf v1 s ≡ accepted o es) where
+  record-one : (i j : ℕ) → i < length es → j < length es → getD (recordsOf es) i 0 ≡ getD (recordsOf es) j 0 → i ≡ j
+  record-one i j m n q = go (decLt i j) (decLt j i)
+    where
+      go : Dec (i < j) → Dec (j < i) → i ≡ j
+      go (yes h) d = absurd (index-distinct v1 s e i j h n q)
+      go (no h) (yes g) = absurd (index-distinct v1 s e j i g m (sym q))
+      go (no h) (no g) = omega arith
+
+  -- no two entries of the system have the same code
+  pub code-one : (i j : ℕ) → i < length es + 2 → j < length es + 2 → codeAt (recordsOf es) i ≡ codeAt (recordsOf es) j → i ≡ j
+  code-one zero zero m n q = refl
+  code-one zero (suc zero) m n q = omega (arith, q)
+  code-one zero (suc (suc j)) m n q = omega (arith, q)
+  code-one (suc zero) zero m n q = omega (arith, q)
+  code-one (suc zero) (suc zero) m n q = refl
+  code-one (suc zero) (suc (suc j)) m n q = omega (arith, q, index-within v1 s e j (omega (arith, n)) .0)
+  code-one (suc (suc i)) zero m n q = omega (arith, q)
+  code-one (suc (suc i)) (suc zero) m n q = omega (arith, q, index-within v1 s e i (omega (arith, m)) .0)
+  code-one (suc (suc i)) (suc (suc j)) m n q =
+      ap (λ k. suc (suc k)) (record-one i j (omega (arith, m)) (omega (arith, n)) (omega (arith, q)))
+
+  module _ (k : ℕ) (c : Certificate) (valid : T (certifies (system zeroFloors (take k (rulesOf es))) (named c))) where
+    abbrev S : List Constraint
+    S = system zeroFloors (take k (rulesOf es))
+
+    abbrev second : List Weighted
+    second = weighted (c .second) (c .«second_weight») ++ weighted (c .third) (c .«third_weight»)
+
+    -- a named entry is one of the system
+    inside : (i : ℕ) (w : ℤ) → List·Memᴰ (entry i w) (named c) → i < length es + 2
+    inside i w m =
+        omega (arith, certificate-refutes S (named c) valid .sound (entry i w) m .entered, length-take k (rulesOf es), length-rules es)
+
+    two-codes : (i j : ℕ) (v w : ℤ) → List·Memᴰ (entry i v) (named c) → List·Memᴰ (entry j w) (named c) → Used v → Used w → (i ≡ j → ⊥) → codeOf (recordsOf es) i v ≡ codeOf (recordsOf es) j w → ⊥
+    two-codes i j v w m n u u′ d q =
+        d (code-one i j (inside i v m) (inside j w n) (sym (code-used (recordsOf es) i v u) ∙ q ∙ code-used (recordsOf es) j w u′))
+
+    first-in : Used (c .«first_weight») → List·Memᴰ (entry (c .first) (c .«first_weight»)) (named c)
+    first-in u = named-here (c .first) (c .«first_weight») second u
+
+    second-in : Used (c .«second_weight») → List·Memᴰ (entry (c .second) (c .«second_weight»)) second
+    second-in u = named-here (c .second) (c .«second_weight») (weighted (c .third) (c .«third_weight»)) u
+
+    third-in : Used (c .«third_weight») → List·Memᴰ (entry (c .third) (c .«third_weight»)) second
+    third-in u =
+        named-later (entry (c .third) (c .«third_weight»)) (c .second) (c .«second_weight») (weighted (c .third) (c .«third_weight»)) (named-last (c .third) (c .«third_weight») u)
+
+    inner : (i : ℕ) (w : ℤ) → List·Memᴰ (entry i w) second → List·Memᴰ (entry i w) (named c)
+    inner i w m = named-later (entry i w) (c .first) (c .«first_weight») second m
+
+    -- the first is apart from the others
+    first-from : Used (c .«first_weight») → (i : ℕ) (w : ℤ) → List·Memᴰ (entry i w) second → c .first ≡ i → ⊥
+    first-from u i w m =
+        unequal (c .first) i (every-at (λ x. not (eqb (c .first) (x .entry))) second (others (c .first) (c .«first_weight») second u (all-apart S (named c) valid)) (entry i w) m)
+
+    second-from : Used (c .«second_weight») → Used (c .«third_weight») → c .second ≡ c .third → ⊥
+    second-from u v =
+        unequal (c .second) (c .third)
+        (every-at (λ x. not (eqb (c .second) (x .entry))) (weighted (c .third) (c .«third_weight»))
+        (others (c .second) (c .«second_weight») (weighted (c .third) (c .«third_weight»)) u (rest (c .first) (c .«first_weight») second (all-apart S (named c) valid))) (entry (c .third) (c .«third_weight»)) (named-last (c .third) (c .«third_weight») v))
+
+    -- a valid certificate names some entry, and no two by the same code
+    pub coded-apart : Apart (coded (recordsOf es) c)
+    coded-apart =
+        record {
+          some = λ x y z. omega (arith, some-named S (named c) valid, length-append (weighted (c .first) (c .«first_weight»)) second, length-append (weighted (c .second) (c .«second_weight»)) (weighted (c .third) (c .«third_weight»)), not-named (c .first) (c .«first_weight») x, not-named (c .second) (c .«second_weight») y, not-named (c .third) (c .«third_weight») z);
+          first-second = λ u v. two-codes (c .first) (c .second) (c .«first_weight») (c .«second_weight») (first-in u) (inner (c .second) (c .«second_weight») (second-in v)) u v (first-from u (c .second) (c .«second_weight») (second-in v));
+          first-third = λ u v. two-codes (c .first) (c .third) (c .«first_weight») (c .«third_weight») (first-in u) (inner (c .third) (c .«third_weight») (third-in v)) u v (first-from u (c .third) (c .«third_weight») (third-in v));
+          second-third = λ u v. two-codes (c .second) (c .third) (c .«second_weight») (c .«third_weight») (inner (c .second) (c .«second_weight») (second-in u)) (inner (c .third) (c .«third_weight») (third-in v)) u v (second-from u v);
+        }
