@@ -34,7 +34,16 @@ const BOOKS: &[Row] = &[
     ("slip: a direction with gain 0, tilted", (1, -1), &[(1, 1, -1, 2)], "best 2 0 1 0 1"),
     ("slip: 14/10", (0, 1), &[(1, 0, 10, 14)], "best 0 7 5 0 1"),
     ("slip: 14/10 on both", (1, 1), &[(1, 10, 0, 14), (1, 0, 10, 14)], "best 7 7 5 0 2"),
+    ("slip: dividing before comparing, 4/3 and 5/4", (1, 0), &[(1, 3, 0, 4), (1, 4, 0, 5)], "best 5 0 4 1 1"),
     ("a start pair that moves", (1, 1), &[(2, 2, 0, 3), (1, 3, -1, 1)], "unlimited 3 7 2 1 3 0 3"),
+    ("every rule breaks the start pair", (0, 0), &[(2, 1, 1, 4), (1, 0, 1, 3), (2, 2, 1, 6)], "best 3 6 2 3 0"),
+    ("only the last rule breaks the start pair", (1, 1), &[(1, 1, 2, 8), (1, 3, 1, 9), (2, 1, 0, 1)], "best 2 3 1 1 1"),
+    (
+        "an impossible prefix, then lawful rules",
+        (1, 0),
+        &[(1, 1, 1, 3), (2, 1, 1, 4), (2, 1, 0, 1), (2, 0, 1, 5)],
+        "impossible 2 1 1 *",
+    ),
     ("the steepest direction", (0, 1), &[(1, 1, 0, 4)], "unlimited 0 0 1 0 1 0 2"),
     ("edge: a and b of -32,767", (-1, -1), &[(1, -32767, -32767, -1)], "best 0 1 32767 1 0"),
     (
@@ -42,6 +51,12 @@ const BOOKS: &[Row] = &[
         (1, 1),
         &[(1, 32767, -32766, 1_000_000_000), (1, -32766, 32767, 1_000_000_000)],
         "best 1000000000 1000000000 1 0 2",
+    ),
+    (
+        "edge: X and D close to their limits, nothing to divide by",
+        (1, 0),
+        &[(1, 32767, -32767, 1_000_000_000), (1, 32765, 32767, 999_999_999)],
+        "best 65533999967233 1999967233 2147287044 0 2",
     ),
     ("edge: objective of -32,767", (-32767, 32767), &[(1, 0, 1, 1)], "best 0 1 1 0 1"),
     ("4: p is -32,768", (-32768, 0), &[], "refused 4 0"),
@@ -122,4 +137,17 @@ fn far_apart() -> [Stored; 2] {
 fn source(p: i16, q: i16, rules: &[(u8, i16, i16, i32)]) -> Source {
     let rule = |(i, &(kind, a, b, c)): (usize, &(u8, i16, i16, i32))| Rule { kind, a, b, c, label: 101 + i as u16 };
     Source { p, q, rules: rules.iter().enumerate().map(rule).collect() }
+}
+
+#[cfg(test)]
+mod tests {
+    use super::*;
+    use std::collections::BTreeSet;
+
+    #[test]
+    fn every_book_has_a_name_of_its_own() {
+        let books = books();
+        let names: BTreeSet<&str> = books.iter().map(|s| s.name).collect();
+        assert_eq!(names.len(), books.len());
+    }
 }
