@@ -75,10 +75,8 @@ mod tests {
 
     #[test]
     fn adversarial_rules_all_move() {
-        for n in [16, 64, 255] {
-            for line in shown(adversarial, n) {
-                assert!(line.starts_with("best") && line.ends_with(&format!(" {n} 0")), "{line}");
-            }
+        for (n, line) in [16, 64, 255].into_iter().flat_map(|n| shown(adversarial, n).into_iter().map(move |line| (n, line))) {
+            assert!(line.starts_with("best") && line.ends_with(&format!(" {n} 0")), "{line}");
         }
     }
 

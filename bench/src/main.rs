@@ -5,6 +5,7 @@
 mod chains;
 mod date;
 
+use chains::Books;
 use search::planner::{self, LINE};
 use search::random::Random;
 use std::hint::black_box;
@@ -22,18 +23,23 @@ fn main() -> ExitCode {
     println!("Measured on {}; {ROUNDS} rounds of each; microseconds a book.\n", date::today());
     println!("| chain | rules | planner | twin | ratio, median | ratio, least |");
     println!("|---|---|---|---|---|---|");
-    for (name, books) in chains::SORTS {
-        for n in LENGTHS {
-            let books = books(&mut Random::new(n as u64), n);
-            if !same_lines(&books) {
-                eprintln!("planner and twin print different lines for a chain of {n} rules: {name}");
-                return ExitCode::FAILURE;
-            }
-            let Times { planner, twin, median, least } = measure(&books);
-            println!("| {name} | {n} | {planner:.2} | {twin:.2} | {median:.2} | {least:.2} |");
-        }
+    let mut rows = chains::SORTS.into_iter().flat_map(|sort| LENGTHS.map(|n| (sort, n)));
+    if let Err(message) = rows.try_for_each(|((name, books), n)| row(name, books, n)) {
+        eprintln!("{message}");
+        return ExitCode::FAILURE;
     }
     ExitCode::SUCCESS
+}
+
+/// Measures books of one sort and length and prints their row.
+fn row(name: &str, books: Books, n: usize) -> Result<(), String> {
+    let books = books(&mut Random::new(n as u64), n);
+    if !same_lines(&books) {
+        return Err(format!("planner and twin print different lines for a chain of {n} rules: {name}"));
+    }
+    let Times { planner, twin, median, least } = measure(&books);
+    println!("| {name} | {n} | {planner:.2} | {twin:.2} | {median:.2} | {least:.2} |");
+    Ok(())
 }
 
 /// Both must print the same lines, or their times say nothing.
@@ -77,9 +83,9 @@ fn round(plan: Planner, books: &[Vec<u8>], times: usize) -> f64 {
     let mut out = [0; LINE];
     let start = Instant::now();
     for _ in 0..times {
-        for book in books {
+        books.iter().for_each(|book| {
             black_box(plan(black_box(book), &mut out));
-        }
+        });
     }
     start.elapsed().as_secs_f64()
 }
