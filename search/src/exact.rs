@@ -62,17 +62,9 @@ pub fn start(rules: &[Line]) -> Option<Pair> {
 
 /// Every pair where two entries meet and that keeps all entries.
 fn corners(entries: &[Line]) -> Vec<Pair> {
-    let mut found = Vec::new();
-    for (i, h) in entries.iter().enumerate() {
-        for k in &entries[..i] {
-            if let Some(v) = meeting(h, k) {
-                if entries.iter().all(|e| e.kept_by(&v)) {
-                    found.push(v);
-                }
-            }
-        }
-    }
-    found
+    let pairs = entries.iter().enumerate().flat_map(|(i, h)| entries[..i].iter().map(move |k| (h, k)));
+    let meetings = pairs.filter_map(|(h, k)| meeting(h, k));
+    meetings.filter(|v| entries.iter().all(|e| e.kept_by(v))).collect()
 }
 
 /// Where two lines meet, by Cramer's rule.
@@ -133,11 +125,9 @@ mod tests {
 
     #[test]
     fn divisors_are_the_greatest() {
-        for m in 0..60 {
-            for n in 1..60 {
-                let plain = (1..=60).filter(|k| m % k == 0 && n % k == 0).max().unwrap();
-                assert_eq!(divisor(m, -n), plain);
-            }
+        for (m, n) in (0..60).flat_map(|m| (1..60).map(move |n| (m, n))) {
+            let plain = (1..=60).filter(|k| m % k == 0 && n % k == 0).max().unwrap();
+            assert_eq!(divisor(m, -n), plain);
         }
     }
 }

@@ -45,6 +45,16 @@ pub fn source(random: &mut Random, n: usize) -> (&'static str, Source) {
     (name, Source { p: p as i16, q: q as i16, rules })
 }
 
+/// A hundred books of up to 29 rules, for a program: to start one costs more than to plan.
+pub fn hundred_books(random: &mut Random) -> Vec<(&'static str, Vec<u8>)> {
+    let mut book = || {
+        let n = random.below(30);
+        let (name, source) = source(random, n);
+        (name, source.scattered(9, random))
+    };
+    (0..100).map(|_| book()).collect()
+}
+
 /// The last rules bound what was open or contradict each other, so that much happens late.
 fn twist(random: &mut Random, rules: &mut [Numbers]) {
     let far = random.pick(&[10, 1_000, 30_000]);

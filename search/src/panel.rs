@@ -3,7 +3,7 @@
 use crate::book::{to_hex, Rule, Source, MOST_RULES};
 use crate::damage::damage;
 use crate::exact::{divisor, outcome, Line, Outcome, Pair};
-use crate::families::source;
+use crate::families::{hundred_books, source};
 use crate::program::printed;
 use crate::random::Random;
 use crate::read::{read, Accepted, Entry};
@@ -75,26 +75,35 @@ fn judge(name: &str, book: &[u8], printed: Result<Vec<u8>, String>) -> Result<()
 
 /// The stored panels, the stored books, and random books of 0 to 12 rules, one in fifty of up to 255, one in six damaged.
 pub fn panels(seed: u64, random_books: u64) -> Result<u64, String> {
+    stored_panels()?;
+    stored::books().iter().try_for_each(|s| judge(s.name, &s.book, planner::panel(&s.book)))?;
     let mut random = Random::new(seed);
+    for i in 0..random_books {
+        let (name, book) = random_book(&mut random, i);
+        judge(name, &book, planner::panel(&book))?;
+    }
+    Ok(random_books)
+}
+
+/// The search itself must find the stored panels.
+fn stored_panels() -> Result<(), String> {
     for ((name, book), &(_, _, _, panel)) in books().iter().zip(PANELS) {
         judge(name, book, planner::panel(book))?;
         if right(book) != panel {
             return Err(format!("mismatch: {name}: stored {panel}, searched {}", right(book)));
         }
     }
-    for s in stored::books() {
-        judge(s.name, &s.book, planner::panel(&s.book))?;
+    Ok(())
+}
+
+fn random_book(random: &mut Random, i: u64) -> (&'static str, Vec<u8>) {
+    let n = random.below(if i % 50 == 0 { MOST_RULES + 1 } else { 13 });
+    let (name, source) = source(random, n);
+    let mut book = source.scattered(3, random);
+    if random.one_in(6) {
+        damage(random, &mut book);
     }
-    for i in 0..random_books {
-        let n = random.below(if i % 50 == 0 { MOST_RULES + 1 } else { 13 });
-        let (name, source) = source(&mut random, n);
-        let mut book = source.scattered(3, &mut random);
-        if random.one_in(6) {
-            damage(&mut random, &mut book);
-        }
-        judge(name, &book, planner::panel(&book))?;
-    }
-    Ok(random_books)
+    (name, book)
 }
 
 /// The panel program on the stored panels, the stored books and some random books.
@@ -102,11 +111,7 @@ pub fn program(path: &str, seed: u64) -> Result<u64, String> {
     let mut random = Random::new(seed);
     let mut all = books();
     all.extend(stored::books().into_iter().map(|s| (s.name, s.book)));
-    for _ in 0..100 {
-        let n = random.below(30);
-        let (name, source) = source(&mut random, n);
-        all.push((name, source.scattered(9, &mut random)));
-    }
+    all.extend(hundred_books(&mut random));
     for (name, book) in &all {
         judge(name, book, printed(path, book, random.below(book.len() + 1)))?;
     }

@@ -1,7 +1,10 @@
 //! The plan program's own path: a book on its standard input, in pieces, and one line on its standard output.
 
+use crate::families::hundred_books;
+use crate::prefixes::Depth;
+use crate::random::Random;
 use crate::runs::try_line;
-use crate::{families, prefixes::Depth, random::Random, stored};
+use crate::stored;
 use std::io::Write;
 use std::process::{Command, Stdio};
 
@@ -9,15 +12,10 @@ use std::process::{Command, Stdio};
 pub fn program(path: &str, seed: u64) -> Result<u64, String> {
     let mut books: Vec<(&str, Vec<u8>)> = stored::books().into_iter().map(|s| (s.name, s.book)).collect();
     let longest = books.iter().map(|(_, book)| book).find(|book| book.len() == 3072).unwrap().clone();
-    for more in [1, 12, 3072, 70_000, 1_000_000] {
-        books.push(("longer than a book", [&longest[..], &vec![0; more]].concat()));
-    }
+    let longer = |more| ("longer than a book", [&longest[..], &vec![0; more]].concat());
+    books.extend([1, 12, 3072, 70_000, 1_000_000].map(longer));
     let mut random = Random::new(seed);
-    for _ in 0..100 {
-        let n = random.below(30);
-        let (name, source) = families::source(&mut random, n);
-        books.push((name, source.scattered(9, &mut random)));
-    }
+    books.extend(hundred_books(&mut random));
     for (name, book) in &books {
         try_line(name, book, Depth::Every, printed(path, book, random.below(book.len() + 1)))?;
     }

@@ -89,14 +89,7 @@ pub fn damaged_books(tally: &mut Tally, seed: u64, books: u64) -> Result<u64, St
     let mut random = Random::new(seed);
     let mut tried = 0;
     while tried < books {
-        let n = random.below(MOST_RULES + 1);
-        let (name, source) = source(&mut random, n);
-        let mut book = source.scattered(3, &mut random);
-        for _ in 0..random.between(1, 2) {
-            if book.len() >= RECORD {
-                damage(&mut random, &mut book);
-            }
-        }
+        let (name, book) = damaged_book(&mut random);
         if read(&book).is_err() {
             tally.count(&try_book(name, &book, Depth::Whole)?);
             tried += 1;
@@ -105,22 +98,39 @@ pub fn damaged_books(tally: &mut Tally, seed: u64, books: u64) -> Result<u64, St
     Ok(books)
 }
 
+fn damaged_book(random: &mut Random) -> (&'static str, Vec<u8>) {
+    let n = random.below(MOST_RULES + 1);
+    let (name, source) = source(random, n);
+    let mut book = source.scattered(3, random);
+    for _ in 0..random.between(1, 2) {
+        if book.len() >= RECORD {
+            damage(random, &mut book);
+        }
+    }
+    (name, book)
+}
+
 /// The same rules in ten random orders: same outcome, pair and direction. One book in ten is long.
 pub fn orders(seed: u64, books: u64) -> Result<u64, String> {
     let mut random = Random::new(seed);
     for i in 0..books {
         let n = random.below(if i % 10 == 0 { 256 } else { 13 });
         let (name, source) = source(&mut random, n);
-        let first = source.packed();
-        let said = order_free(&first)?;
-        for _ in 0..10 {
-            let book = reordered(&source, &mut random);
-            if order_free(&book)? != said {
-                return Err(format!("mismatch: {name}: another order\nbook    {}\nother   {}", to_hex(&first), to_hex(&book)));
-            }
-        }
+        ten_orders(name, &source, &mut random)?;
     }
     Ok(books)
+}
+
+fn ten_orders(name: &str, source: &Source, random: &mut Random) -> Result<(), String> {
+    let first = source.packed();
+    let said = order_free(&first)?;
+    for _ in 0..10 {
+        let book = reordered(source, random);
+        if order_free(&book)? != said {
+            return Err(format!("mismatch: {name}: another order\nbook    {}\nother   {}", to_hex(&first), to_hex(&book)));
+        }
+    }
+    Ok(())
 }
 
 /// An alike book: rules shuffled, some turned round.

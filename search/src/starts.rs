@@ -41,7 +41,10 @@ fn try_starts(name: &str, book: &[u8]) -> Result<u64, String> {
     for k in (0..=n).chain(beyond) {
         let (right, seen) = (&right[k.min(n)], start_after(book, k));
         if seen.as_ref() != Ok(right) {
-            return Err(format!("mismatch: {name}: start after {k}\nbook    {}\nright   {right:?}\nseen    {seen:?}", to_hex(book)));
+            return Err(format!(
+                "mismatch: {name}: start after {k}\nbook    {}\nright   {right:?}\nseen    {seen:?}",
+                to_hex(book)
+            ));
         }
     }
     Ok(right.len() as u64)
@@ -49,21 +52,23 @@ fn try_starts(name: &str, book: &[u8]) -> Result<u64, String> {
 
 /// Stored and random books, every prefix of each. One in twenty is longer, one in eight damaged.
 pub fn starts(seed: u64, books: u64) -> Result<u64, String> {
-    let mut prefixes = 0;
-    for s in stored::books() {
-        prefixes += try_starts(s.name, &s.book)?;
-    }
+    let mut prefixes = stored::books().iter().map(|s| try_starts(s.name, &s.book)).sum::<Result<u64, String>>()?;
     let mut random = Random::new(seed);
     for i in 0..books {
-        let n = random.below(if i % 20 == 0 { 41 } else { 13 });
-        let (name, source) = source(&mut random, n);
-        let mut book = source.scattered(3, &mut random);
-        if i % 8 == 0 {
-            damage(&mut random, &mut book);
-        }
+        let (name, book) = random_book(&mut random, i);
         prefixes += try_starts(name, &book)?;
     }
     Ok(prefixes)
+}
+
+fn random_book(random: &mut Random, i: u64) -> (&'static str, Vec<u8>) {
+    let n = random.below(if i % 20 == 0 { 41 } else { 13 });
+    let (name, source) = source(random, n);
+    let mut book = source.scattered(3, random);
+    if i % 8 == 0 {
+        damage(random, &mut book);
+    }
+    (name, book)
 }
 
 #[cfg(test)]
