@@ -71,6 +71,16 @@ mod tests {
     }
 
     #[test]
+    fn products_keep_their_range_with_the_constant_on_either_side() {
+        assert_eq!(line(b"500000000*(2*x)-1000000000*x<=0"), "rule 1 0 0 0");
+        assert_eq!(line(b"142857143*(7*x)-1000000000*x<=0"), "refused 15 0");
+        assert_eq!(line(b"(2*y)*500000000-1000000000*y<=0"), "rule 1 0 0 0");
+        assert_eq!(line(b"(7*y)*142857143-1000000000*y<=0"), "refused 15 0");
+        assert_eq!(line(b"(x+2)*500000000-(500000000*x+1000000000)<=0"), "rule 1 0 0 0");
+        assert_eq!(line(b"(x+2)*500000001-(500000001*x+1000000000)<=0"), "refused 15 0");
+    }
+
+    #[test]
     fn eight_deep_is_read_and_nine_deep_is_not() {
         assert_eq!(line(b"((((((((x))))))))<=1"), "rule 1 1 0 1");
         assert_eq!(line(b"(((((((((x)))))))))<=1"), "refused 13 0");
