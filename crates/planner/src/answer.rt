@@ -34,10 +34,9 @@ pub fn planned(book: &[u8], chain: Chain) -> Plan
     ensures { λ r. ⌜ Answers (now (book .entry)) (Answer.Planned r) ⌝ }
 {
     let n = chain.n;
-    let records = chain.records;
     let objective = chain.objective;
     let mut entries = [0i64; 771];
-    lay_out(book, &records, n, &mut entries);
+    lay_out(book, &chain.records, n, &mut entries);
     let plan = plan_entries(objective, least_x_then_y(), zero_floors(), &entries, n + 2);
     let outcome = plan.outcome;
     let certificate = plan.witness;
@@ -46,7 +45,7 @@ pub fn planned(book: &[u8], chain: Chain) -> Plan
         moves: plan.moves,
         opened: plan.opened,
         place: plan.place,
-        witness: witness(&records, certificate),
+        witness: witness(&chain.records, certificate),
     }
 }
 
