@@ -1,9 +1,9 @@
 -- The plan of an accepted book, from the chain that was read off it: what each call asks, and what the answer is.
 use mathlib.Core.Path.{_≡_, refl, sym, _∙_, ap, subst}
-use mathlib.Core.List.{List, map}
+use mathlib.Core.List.{List}
 use Prim.Native.Nat.{ℕ, _+_, _-_, _≤_}
 use native.Mathlib.Omega.{arith}
-use lib.ListN.{length, replicate, length-append, length-replicate}
+use lib.ListN.{length}
 use lib.IntN.{ℤ}
 use Rattle.lp.specs.declared.Functional.{Functional}
 use Rattle.lp.specs.declared.Floors.{Floors}
@@ -12,8 +12,8 @@ use Rattle.lp.specs.declared.Certificate.{Certificate}
 use Rattle.lp.specs.Document.{leastXThenY, zeroFloors}
 use Rattle.book.specs.declared.Chain.{Chain}
 use Rattle.book.specs.Layout.{v1}
-use Rattle.book.specs.Reading.{Reading, refused, accepted, Entry, readOf}
-use Rattle.book.specs.Answers.{Reads, chainOf, padded, indexIn}
+use Rattle.book.specs.Reading.{Reading, refused, accepted, readOf}
+use Rattle.book.specs.Answers.{Reads, chainOf}
 use Rattle.book.proofs.Causes.{refusal-applies, cause-number}
 use Rattle.report.specs.declared.Answer.the-variants.{Refused, Planned}
 use Rattle.report.specs.declared.Plan.{Plan}
@@ -23,8 +23,8 @@ use Rattle.planner.specs.Sizes.{Walking}
 use Rattle.planner.specs.Layout.{laidOut, ruleFor, Laying}
 use Rattle.witness.specs.Witness.{coded, rising}
 use Rattle.planner.specs.Verdict.{verdictOf}
-use Rattle.planner.specs.Planning.{rulesOf, Chained, AnsweredBy, Answers}
-use Rattle.planner.proofs.Chains.{length-index, few, laying, walking, rules-given}
+use Rattle.planner.specs.Planning.{rulesOf, chainWith, Chained, AnsweredBy, Answers}
+use Rattle.planner.proofs.Chains.{few, laying, walking, rules-given}
 use Rattle.planner.proofs.Finish.{finished}
 
 module _ (s : List ℕ) (chain : Chain) (h : Chained s chain) where
@@ -32,15 +32,16 @@ module _ (s : List ℕ) (chain : Chain) (h : Chained s chain) where
   unfolding chainOf
   chain-few = subst (λ (c : Chain). c .n ≤ 255) (sym (h .chain)) (few s (h .objective) (h .entries) (h .accepts))
 
-  pub chain-length : 255 ≡ length (chain .records)
+  -- the chain of the same parts
+  pub parts-chained : Chained s (chainWith (chain .objective) (chain .n) (chain .records))
   unfolding chainOf
-  chain-length = subst (λ (c : Chain). 255 ≡ length (c .records)) (sym (h .chain)) (padded-length (map indexIn (h .entries)) (fits (h .entries) (few s (h .objective) (h .entries) (h .accepts))))
-    where
-      fits : (es : List Entry) → length es ≤ 255 → length (map indexIn es) ≤ 255
-      fits es k = omega (arith, length-index es)
-
-      padded-length : (l : List ℕ) → length l ≤ 255 → 255 ≡ length (padded l)
-      padded-length l k = omega (arith, length-append l (replicate (255 - length l) 0), length-replicate {A = ℕ} (255 - length l) 0)
+  parts-chained =
+      record {
+        objective = h .objective;
+        entries = h .entries;
+        accepts = h .accepts;
+        chain = ap (λ (c : Chain). chainWith (c .objective) (c .n) (c .records)) (h .chain);
+      }
 
   pub chain-laying : (l : List ℤ) → length l ≡ 771 → Laying (chain .records) (chain .n) l
   unfolding chainOf

@@ -67,6 +67,10 @@ AnsweredBy (accepted o es) (Planned p) = PlannedAs es o p
 pub record Answers (s : List ℕ) (a : Answer) : Type 0 where
   pub answered : AnsweredBy (readOf v1 s) a
 
+-- an accepted book's chain, of its parts
+abbrev pub chainWith : Functional → ℕ → List ℕ → Chain
+chainWith o n records = record { number = 0; at = 0; objective = o; n = n; records = records }
+
 -- a chain that was read off an accepted book
 pub record Chained (s : List ℕ) (c : Chain) : Type 0 where
   pub objective : Functional

@@ -1,7 +1,6 @@
 // The plan of a book: its chain is read once, its entries laid out in one run of numbers, walked, and answered.
 use crate::layout::lay_out;
 use crate::verdict::plan_entries;
-use book::Chain;
 use lp::Floors;
 use lp::Functional;
 use lp::Tie;
@@ -10,7 +9,7 @@ use report::Plan;
 use witness::witness;
 ghost use mathlib.Core.Path.{_≡_};
 ghost use Rattle.lp.specs.Document.{leastXThenY, zeroFloors};
-ghost use Rattle.planner.specs.Planning.{Answers, Chained};
+ghost use Rattle.planner.specs.Planning.{Answers, chainWith, Chained};
 
 // Document 01's tie: least x, then least y.
 pub fn least_x_then_y() -> Tie
@@ -29,14 +28,12 @@ pub fn zero_floors() -> Floors
 }
 
 // The plan of an accepted book. The run has room for two floors and 255 rules.
-pub fn planned(book: &[u8], chain: Chain) -> Plan
-    requires { ⌜ Chained (now book) chain ⌝ }
+pub fn planned(book: &[u8], records: &[u16], n: usize, objective: Functional) -> Plan
+    requires { ⌜ Chained (now book) (chainWith objective n (now records)) ⌝ }
     ensures { λ r. ⌜ Answers (now (book .entry)) (Answer.Planned r) ⌝ }
 {
-    let n = chain.n;
-    let objective = chain.objective;
     let mut entries = [0i64; 771];
-    lay_out(book, &chain.records, n, &mut entries);
+    lay_out(book, records, n, &mut entries);
     let plan = plan_entries(objective, least_x_then_y(), zero_floors(), &entries, n + 2);
     let outcome = plan.outcome;
     let certificate = plan.witness;
@@ -45,7 +42,7 @@ pub fn planned(book: &[u8], chain: Chain) -> Plan
         moves: plan.moves,
         opened: plan.opened,
         place: plan.place,
-        witness: witness(&chain.records, certificate),
+        witness: witness(records, certificate),
     }
 }
 
@@ -56,7 +53,7 @@ pub fn answer(book: &[u8]) -> Answer
     let chain = book::read(book);
     let number = chain.number;
     if number == 0 {
-        Answer::Planned(planned(book, chain))
+        Answer::Planned(planned(book, &chain.records, chain.n, chain.objective))
     } else {
         Answer::Refused(number as usize, chain.at as usize)
     }

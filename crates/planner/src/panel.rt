@@ -101,7 +101,7 @@ fn accepted_panel(book: &[u8], chain: Chain) -> Panel
     requires { ⌜ Chained (now book) chain ⌝ }
     ensures { λ r. ⌜ Panels (now (book .entry)) r ⌝ }
 {
-    let outcome = planned(book, chain).outcome;
+    let outcome = planned(book, &chain.records, chain.n, chain.objective).outcome;
     match outcome {
         Outcome::Infeasible => no_rows(0, 0),
         Outcome::Unbounded(_, _) => no_rows(0, 0),
