@@ -84,5 +84,5 @@ abbrev pub typedExamples : List TypedExample
 typedExamples =
     record { typed = rule 1 (pos 1) (pos 5) (pos 40); line = "rule 1 1 5 40\n" }
     ∷ record { typed = rule 2 (negsuc 32766) (pos 0) (negsuc 999999999); line = "rule 2 -32767 0 -1000000000\n" }
-    ∷ record { typed = typed.Refused 13; line = "refused 13 0\n" }
+    ∷ record { typed = typed.Refused 13 0; line = "refused 13 0\n" }
     ∷ []

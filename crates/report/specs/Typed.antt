@@ -14,7 +14,7 @@ ruleFields w = text "rule" ++ (number (w .kind) ++ (integer (w .a) ++ (integer (
 
 unfoldable pub typedFields : Typed → List ℕ
 typedFields (Rule w) = ruleFields w
-typedFields (Refused n) = answerFields (answer.Refused n 0)
+typedFields (Refused n r) = answerFields (answer.Refused n r)
 
 unfoldable pub typedLine : Typed → List ℕ
 typedLine t = typedFields t ++ text "\n"

@@ -20,14 +20,14 @@ fn append_rule(w: Written, out: &mut [u8]) -> usize
     append_integer(w.c, out, c)
 }
 
-// The line of a typed text, but for its line feed. A refusal names no record.
+// The line of a typed text, but for its line feed.
 fn append_typed(t: Typed, out: &mut [u8]) -> usize
     requires { ⌜ Room (now out) 0 88 ⌝ }
     ensures { λ r. ⌜ Appended (now (out .entry)) 0 (typedFields t) 88 (now (out .exit)) r ⌝ }
 {
     match t {
         Typed::Rule(w) => append_rule(w, out),
-        Typed::Refused(number) => append_refused(number, 0, out),
+        Typed::Refused(number, record) => append_refused(number, record, out),
     }
 }
 

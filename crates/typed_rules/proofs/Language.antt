@@ -19,7 +19,7 @@ use Rattle.typed_rules.proofs.Complete.{parse-complete}
 pub answered : (r : Rule) → Lawful r → answer (spell r) ≡ valueRule r
 unfolding answer
 answered r l =
-    ap (λ (t : Bool). pickTyped t (judged (parse (spell r))) (Refused 13)) (le-leb (length (spell r)) 120 (l .short))
+    ap (λ (t : Bool). pickTyped t (judged (parse (spell r))) (Refused 13 0)) (le-leb (length (spell r)) 120 (l .short))
     ∙ ap judged (parse-complete r (l .left) (l .right))
 
 -- a text of the language: the tree that spells it, and the answer
@@ -32,7 +32,7 @@ pub record Reads (s : List ℕ) : Type 0 where
 -- a text that no lawful tree spells
 pub record Refuses (s : List ℕ) : Type 0 where
   pub nothing : (r : Rule) → Lawful r → s ≡ spell r → ⊥
-  pub answer : answer s ≡ Refused 13
+  pub answer : answer s ≡ Refused 13 0
 
 too-long : (s : List ℕ) → leb (length s) 120 ≡ false → (r : Rule) → Lawful r → s ≡ spell r → ⊥
 too-long s e r l p = absurd (omega (arith, leb-false (length s) 120 e, ap length p, l .short))

@@ -106,24 +106,24 @@ pub record InRange (w : Written) : Type 0 where
 
 abbrev pub Sound : Typed → Type 0
 Sound (Rule w) = InRange w
-Sound (Refused n) = Fault n
+Sound (Refused n r) = Fault n × (r ≡ 0)
 
 final-sound : (w : Written) → Kind (w .kind) → Sound (final w)
 unfolding final
 final-sound w k = go (inside 32767 (w .a)) refl (inside 32767 (w .b)) refl (inside limit (w .c)) refl
   where
-    go : (s : Bool) → inside 32767 (w .a) ≡ s → (t : Bool) → inside 32767 (w .b) ≡ t → (u : Bool) → inside limit (w .c) ≡ u → Sound (pickTyped (s && (t && u)) (Rule w) (Refused 15))
+    go : (s : Bool) → inside 32767 (w .a) ≡ s → (t : Bool) → inside 32767 (w .b) ≡ t → (u : Bool) → inside limit (w .c) ≡ u → Sound (pickTyped (s && (t && u)) (Rule w) (Refused 15 0))
     go true e true f true g = record { kind = k; a = leb-true (natAbs (w .a)) 32767 e; b = leb-true (natAbs (w .b)) 32767 f; c = leb-true (natAbs (w .c)) limit g }
-    go true e true f false g = inr refl
-    go true e false f u g = inr refl
-    go false e t f u g = inr refl
+    go true e true f false g = (inr refl, refl)
+    go true e false f u g = (inr refl, refl)
+    go false e t f u g = (inr refl, refl)
 
 conclude-sound : (k : ℕ) → Kind k → (v w : Value) → Plain v → Plain w → Sound (conclude k v w)
 unfolding conclude
 conclude-sound k h (Linear f) (Linear g) p q = final-sound (written k f g) h
-conclude-sound k h (Linear f) (Beyond n) p q = q
-conclude-sound k h (Beyond n) (Linear g) p q = p
-conclude-sound k h (Beyond n) (Beyond m) p q = p
+conclude-sound k h (Linear f) (Beyond n) p q = (q, refl)
+conclude-sound k h (Beyond n) (Linear g) p q = (p, refl)
+conclude-sound k h (Beyond n) (Beyond m) p q = (p, refl)
 
 kind-of : (k : G.Relation) → Kind (kindOf k)
 kind-of at-most = inl refl
@@ -134,11 +134,11 @@ pub value-sound : (r : G.Rule) → Sound (valueRule r)
 unfolding valueRule
 value-sound r = conclude-sound (kindOf (r .relation)) (kind-of (r .relation)) (valueSide (r .left)) (valueSide (r .right)) (side-plain (r .left)) (side-plain (r .right))
 
-thirteen : (t : Typed) → Sound t → t ≡ Refused 13 → ⊥
+thirteen : (t : Typed) → Sound t → t ≡ Refused 13 0 → ⊥
 thirteen (Rule w) h e = let z : _≡_ {A = ℕ} 0 1 = cc in omega arith
-thirteen (Refused n) (inl h) e = let z : n ≡ 13 = cc in omega arith
-thirteen (Refused n) (inr h) e = let z : n ≡ 13 = cc in omega arith
+thirteen (Refused n r) (inl h, k) e = let z : n ≡ 13 = cc in omega arith
+thirteen (Refused n r) (inr h, k) e = let z : n ≡ 13 = cc in omega arith
 
 -- 13 exactly if no lawful tree spells the text
-pub refused-13 : (s : List ℕ) → answer s ≡ Refused 13 → (r : G.Rule) → G.Lawful r → s ≡ G.spell r → ⊥
+pub refused-13 : (s : List ℕ) → answer s ≡ Refused 13 0 → (r : G.Rule) → G.Lawful r → s ≡ G.spell r → ⊥
 refused-13 s e r l p = thirteen (valueRule r) (value-sound r) (sym (answered r l) ∙ ap answer (sym p) ∙ e)

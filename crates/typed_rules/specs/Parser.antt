@@ -138,9 +138,9 @@ unfoldable pub parse : List ℕ → Parsed Rule
 parse s = bind (sideOf s) (λ a r. relationOf a r)
 
 abbrev pub judged : Parsed Rule → Typed
-judged fail = Refused 13
+judged fail = Refused 13 0
 judged (got r s) = valueRule r
 
 -- what a text reads as: 13 if it is too long or spells no rule, else the value of its rule
 unfoldable pub answer : List ℕ → Typed
-answer s = pickTyped (leb (length s) 120) (judged (parse s)) (Refused 13)
+answer s = pickTyped (leb (length s) 120) (judged (parse s)) (Refused 13 0)

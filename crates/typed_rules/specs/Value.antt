@@ -121,11 +121,11 @@ written k f g = record { kind = k; a = f .a -ℤ g .a; b = f .b -ℤ g .b; c = g
 
 -- a and b at most 32,767 and c at most 1,000,000,000 either way, else 15
 unfoldable pub final : Written → Typed
-final w = pickTyped (inside 32767 (w .a) && (inside 32767 (w .b) && inside limit (w .c))) (Rule w) (Refused 15)
+final w = pickTyped (inside 32767 (w .a) && (inside 32767 (w .b) && inside limit (w .c))) (Rule w) (Refused 15 0)
 
 abbrev pub then : (Form → Typed) → Value → Typed
 then op (Linear f) = op f
-then op (Beyond n) = Refused n
+then op (Beyond n) = Refused n 0
 
 unfoldable pub conclude : ℕ → Value → Value → Typed
 conclude k l r = then (λ f. then (λ g. final (written k f g)) r) l

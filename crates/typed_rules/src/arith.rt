@@ -217,7 +217,7 @@ fn last(w: Written) -> Typed
     if in_range(w) {
         Typed::Rule(w)
     } else {
-        Typed::Refused(15)
+        Typed::Refused(15, 0)
     }
 }
 
@@ -239,9 +239,9 @@ pub fn conclude(kind: usize, v: Value, w: Value) -> Typed
     ensures { λ r. ⌜ r ≡ concludeOf kind v w ⌝ }
 {
     match v {
-        Value::Beyond(n) => Typed::Refused(n),
+        Value::Beyond(n) => Typed::Refused(n, 0),
         Value::Linear(f) => match w {
-            Value::Beyond(n) => Typed::Refused(n),
+            Value::Beyond(n) => Typed::Refused(n, 0),
             Value::Linear(g) => finished(kind, f, g),
         },
     }

@@ -47,19 +47,19 @@ pub struct Written {
     pub c: i64,
 }
 
-// What a text reads as.
+// What a text reads as: the rule, or the number of the refusal and record 0.
 pub enum Typed {
     Rule(Written),
-    Refused(usize),
+    Refused(usize, usize),
 }
 
-// What a text reads as: the rule, or the number of the refusal.
+// What a text reads as.
 pub fn read_rule(text: &[u8]) -> Typed
     ensures { λ r. ⌜ r ≡ answer (now (text .entry)) ⌝ }
 {
     if text.len() <= 120 {
         read_text(text)
     } else {
-        Typed::Refused(13)
+        Typed::Refused(13, 0)
     }
 }
