@@ -140,12 +140,14 @@ pub struct Reader<'a> {
     pub at: u16,
 }
 
+// A reader at a record.
 pub fn stand<'a>(book: &'a [u8], at: u16) -> Reader<'a>
     ensures { λ r. ⌜ (r .book ≡ book .entry) × (r .at ≡ at) ⌝ }
 {
     Reader { book, at }
 }
 
+// What the record holds that a reader stands at.
 pub fn current<'a>(r: Reader<'a>) -> Decoded
     ensures { λ d. ⌜ d ≡ decodedOf v1 (recordAt v1 (now (r .entry .book)) (r .entry .at)) ⌝ }
 {

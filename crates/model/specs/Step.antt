@@ -1,5 +1,5 @@
 -- The step: what the walk holds after one more constraint h. S is the system so far, n its length, and so h's index. At most three passes over S are made,
--- and none where nothing is broken.
+-- none where nothing is broken, and one where gains come to have a top.
 use mathlib.Core.List.{List, [], _∷_, _++_}
 use mathlib.Core.Bool.{Bool, true, false, not, _&&_}
 use Prim.Native.Nat.{ℕ, suc, _+_, _-_}

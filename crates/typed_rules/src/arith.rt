@@ -155,6 +155,7 @@ fn turned(f: Form) -> Form
     }
 }
 
+// The operations on values. A refusal goes through: the left one's first, then the right one's, then the operation's own.
 pub fn negated(v: Value) -> Value
     requires { ⌜ Small v ⌝ }
     ensures { λ r. ⌜ Valued (negatedOf v) r ⌝ }
