@@ -96,11 +96,11 @@ module _ (s : List ℕ) (o : Functional) (es : List Entry) (e : readOf v1 s ≡ 
   rule-lawful k h = subst Lawful (rule-is k h) (lawful-of (ruleFor s records k) (rule-small k h))
 
   -- a run of numbers with the floors in front and the rules laid out after them
-  module _ (l₀ : List ℤ) (room₀ : length l₀ ≡ 771) where
+  module _ (l₀ : List ℤ) (room₀ : 3 * (length es + 2) ≤ length l₀) where
     abbrev l : List ℤ
     l = putEntry (putEntry l₀ 0 (floorX zeroFloors)) 1 (floorY zeroFloors)
 
-    room : 771 ≤ length l
+    room : 3 * (length es + 2) ≤ length l
     room = omega (arith, put-length (putEntry l₀ 0 (floorX zeroFloors)) 1 (floorY zeroFloors), put-length l₀ 0 (floorX zeroFloors))
 
     first : entry l 0 ≡ floorX zeroFloors
@@ -113,16 +113,13 @@ module _ (s : List ℕ) (o : Functional) (es : List Entry) (e : readOf v1 s ≡ 
     abbrev pub full : List ℤ
     full = laidOut (ruleFor s records) (length es) l₀
 
-    full-room : 3 * (length es + 2) ≤ length l
-    full-room = omega (arith, few, room)
-
     pub laying : Laying records (length es) l₀
-    laying = record { enough = records-room; room = omega (arith, few) }
+    laying = record { enough = records-room; room = room₀ }
 
     rules-laid : entries full 2 (length es) ≡ rulesOf es
     rules-laid =
         subst (λ (n : ℕ). entries full 2 n ≡ rulesOf es) (length-rules es)
-        (entries-are full none 2 (rulesOf es) (λ k h. laid-at (ruleFor s records) (length es) l full-room k (less k h) ∙ rule-is k (less k h)))
+        (entries-are full none 2 (rulesOf es) (λ k h. laid-at (ruleFor s records) (length es) l room k (less k h) ∙ rule-is k (less k h)))
       where
         less : (k : ℕ) → k < length (rulesOf es) → k < length es
         less k h = omega (arith, length-rules es)
@@ -131,7 +128,7 @@ module _ (s : List ℕ) (o : Functional) (es : List Entry) (e : readOf v1 s ≡ 
     small-entry zero h = subst SmallConstraint (sym (laid-floor (ruleFor s records) (length es) l 0 (omega arith) ∙ first)) (small-of (floorX zeroFloors) (record { a = omega arith; b = omega arith; c = omega arith }))
     small-entry (suc zero) h = subst SmallConstraint (sym (laid-floor (ruleFor s records) (length es) l 1 (omega arith) ∙ second)) (small-of (floorY zeroFloors) (record { a = omega arith; b = omega arith; c = omega arith }))
     small-entry (suc (suc k)) h =
-        subst SmallConstraint (sym (ap (entry full) (plus k) ∙ laid-at (ruleFor s records) (length es) l full-room k (omega arith))) (small-of (ruleFor s records k) (rule-small k (omega arith)))
+        subst SmallConstraint (sym (ap (entry full) (plus k) ∙ laid-at (ruleFor s records) (length es) l room k (omega arith))) (small-of (ruleFor s records k) (rule-small k (omega arith)))
       where
         plus : (k : ℕ) → suc (suc k) ≡ k + 2
         plus k = omega arith
@@ -143,7 +140,7 @@ module _ (s : List ℕ) (o : Functional) (es : List Entry) (e : readOf v1 s ≡ 
           objective = record { p-small = record { small = lawful-objective v1 s e .p }; q-small = record { small = lawful-objective v1 s e .q } };
           tie = leastXThenY-small;
           floors-small = zeroFloors-small;
-          entries = record { room = omega (arith, laid-length (ruleFor s records) (length es) l, few, room); small = small-entry };
+          entries = record { room = omega (arith, laid-length (ruleFor s records) (length es) l, room); small = small-entry };
           floors-count = omega arith;
           first = laid-floor (ruleFor s records) (length es) l 0 (omega arith) ∙ first;
           second = laid-floor (ruleFor s records) (length es) l 1 (omega arith) ∙ second;

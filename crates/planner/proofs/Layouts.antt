@@ -10,7 +10,9 @@ use lib.Seq.{getD-set-same, getD-set-other}
 use lib.IntN.{ℤ, pos}
 use Rattle.lp.specs.declared.Constraint.{Constraint}
 use Rattle.planner.specs.Entries.{entry, entries}
-use Rattle.planner.specs.Layout.{putEntry, laid}
+use Rattle.lp.specs.Program.{floorX, floorY}
+use Rattle.lp.specs.Document.{zeroFloors}
+use Rattle.planner.specs.Layout.{putEntry, laid, laidOut}
 
 pub record Filled (f : ℕ → Constraint) (n : ℕ) (l₀ l : List ℤ) (i : ℕ) : Type 0 where
   pub state : l ≡ laid f i l₀
@@ -22,6 +24,10 @@ put-length l k c = simp length-set
 pub laid-length : (f : ℕ → Constraint) (n : ℕ) (l : List ℤ) → length (laid f n l) ≡ length l
 laid-length f zero l = refl
 laid-length f (suc n) l = put-length (laid f n l) (n + 2) (f n) ∙ laid-length f n l
+
+pub laid-out-length : (f : ℕ → Constraint) (n : ℕ) (l : List ℤ) → length (laidOut f n l) ≡ length l
+laid-out-length f n l =
+    laid-length f n (putEntry (putEntry l 0 (floorX zeroFloors)) 1 (floorY zeroFloors)) ∙ put-length (putEntry l 0 (floorX zeroFloors)) 1 (floorY zeroFloors) ∙ put-length l 0 (floorX zeroFloors)
 
 pub filled-start : (f : ℕ → Constraint) (n : ℕ) (l : List ℤ) → Filled f n l l 0
 filled-start f n l = record { state = refl; within = omega arith }

@@ -1,7 +1,7 @@
 -- The plan of an accepted book, from the chain that was read off it: what each call asks, and what the answer is.
 use mathlib.Core.Path.{_≡_, refl, sym, _∙_, ap, subst}
 use mathlib.Core.List.{List}
-use Prim.Native.Nat.{ℕ, _+_, _-_, _≤_}
+use Prim.Native.Nat.{ℕ, _+_, _-_, _≤_, _*_}
 use native.Mathlib.Omega.{arith}
 use lib.ListN.{length}
 use lib.IntN.{ℤ}
@@ -43,12 +43,20 @@ module _ (s : List ℕ) (chain : Chain) (h : Chained s chain) where
         chain = ap (λ (c : Chain). chainWith (c .objective) (c .n) (c .records)) (h .chain);
       }
 
-  pub chain-laying : (l : List ℤ) → length l ≡ 771 → Laying (chain .records) (chain .n) l
+  -- the longest chain has room in 771 numbers
+  pub longest-room : 3 * (chain .n + 2) ≤ 771
+  longest-room = omega (arith, chain-few)
+
+  entries-room : (l : List ℤ) → 3 * (chain .n + 2) ≤ length l → 3 * (length (h .entries) + 2) ≤ length l
+  unfolding chainOf
+  entries-room l room = subst (λ (c : Chain). 3 * (c .n + 2) ≤ length l) (h .chain) room
+
+  pub chain-laying : (l : List ℤ) → 3 * (chain .n + 2) ≤ length l → Laying (chain .records) (chain .n) l
   unfolding chainOf
   chain-laying l room =
-      subst (λ (c : Chain). Laying (c .records) (c .n) l) (sym (h .chain)) (laying s (h .objective) (h .entries) (h .accepts) l room)
+      subst (λ (c : Chain). Laying (c .records) (c .n) l) (sym (h .chain)) (laying s (h .objective) (h .entries) (h .accepts) l (entries-room l room))
 
-  module _ (l : List ℤ) (room : length l ≡ 771) (full : List ℤ) (laid : full ≡ laidOut (ruleFor s (chain .records)) (chain .n) l) (t : Tie) (et : t ≡ leastXThenY) (floors : Floors) (ef : floors ≡ zeroFloors) where
+  module _ (l : List ℤ) (room : 3 * (chain .n + 2) ≤ length l) (full : List ℤ) (laid : full ≡ laidOut (ruleFor s (chain .records)) (chain .n) l) (t : Tie) (et : t ≡ leastXThenY) (floors : Floors) (ef : floors ≡ zeroFloors) where
     -- the same, with everything the code handed over named
     at-chain : (Q : Functional → Tie → Floors → List ℤ → ℕ → Type 0) → ((c : Chain) → c ≡ chainOf (accepted (h .objective) (h .entries)) → Q (c .objective) leastXThenY zeroFloors (laidOut (ruleFor s (c .records)) (c .n) l) (c .n + 2)) → Q (chain .objective) t floors full (chain .n + 2)
     at-chain Q f =
@@ -60,14 +68,14 @@ module _ (s : List ℕ) (chain : Chain) (h : Chained s chain) where
     unfolding chainOf
     chain-walking =
         at-chain (λ o t floors m n. Walking o t floors m n)
-        (λ c e. subst (λ (c : Chain). Walking (c .objective) leastXThenY zeroFloors (laidOut (ruleFor s (c .records)) (c .n) l) (c .n + 2)) (sym e) (walking s (h .objective) (h .entries) (h .accepts) l room))
+        (λ c e. subst (λ (c : Chain). Walking (c .objective) leastXThenY zeroFloors (laidOut (ruleFor s (c .records)) (c .n) l) (c .n + 2)) (sym e) (walking s (h .objective) (h .entries) (h .accepts) l (entries-room l room)))
 
     -- the rules that it is given are the chain's
     pub chain-rules : entries full 2 (chain .n + 2 - 2) ≡ rulesOf (h .entries)
     unfolding chainOf
     chain-rules =
         at-chain (λ o t floors m n. entries m 2 (n - 2) ≡ rulesOf (h .entries))
-        (λ c e. subst (λ (c : Chain). entries (laidOut (ruleFor s (c .records)) (c .n) l) 2 (c .n + 2 - 2) ≡ rulesOf (h .entries)) (sym e) (rules-given s (h .objective) (h .entries) (h .accepts) l room))
+        (λ c e. subst (λ (c : Chain). entries (laidOut (ruleFor s (c .records)) (c .n) l) 2 (c .n + 2 - 2) ≡ rulesOf (h .entries)) (sym e) (rules-given s (h .objective) (h .entries) (h .accepts) l (entries-room l room)))
 
     pub chain-finished : (p : Plan) → p ≡ verdictOf (chain .objective) (walk t floors (chain .objective) (entries full 2 (chain .n + 2 - 2))) → (w : Certificate) → w ≡ rising (coded (chain .records) (p .witness)) → Answers s (Planned (record { outcome = p .outcome; moves = p .moves; opened = p .opened; place = p .place; witness = w }))
     unfolding chainOf
@@ -81,7 +89,7 @@ module _ (s : List ℕ) (chain : Chain) (h : Chained s chain) where
         said =
             at-chain (λ o t floors m n. verdictOf o (walk t floors o (entries m 2 (n - 2))) ≡ verdictOf (h .objective) (walk leastXThenY zeroFloors (h .objective) (rulesOf (h .entries))))
             (λ c e. subst (λ (c : Chain). verdictOf (c .objective) (walk leastXThenY zeroFloors (c .objective) (entries (laidOut (ruleFor s (c .records)) (c .n) l) 2 (c .n + 2 - 2))) ≡ verdictOf (h .objective) (walk leastXThenY zeroFloors (h .objective) (rulesOf (h .entries)))) (sym e)
-            (ap (λ rs. verdictOf (h .objective) (walk leastXThenY zeroFloors (h .objective) rs)) (rules-given s (h .objective) (h .entries) (h .accepts) l room)))
+            (ap (λ rs. verdictOf (h .objective) (walk leastXThenY zeroFloors (h .objective) rs)) (rules-given s (h .objective) (h .entries) (h .accepts) l (entries-room l room))))
 
 -- ---- which books are planned
 

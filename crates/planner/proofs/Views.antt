@@ -2,7 +2,7 @@
 use mathlib.Core.Path.{_≡_, refl, sym, _∙_, ap, ap₂}
 use mathlib.Core.List.{List, _∷_}
 use mathlib.Core.Bool.{true, false}
-use Prim.Native.Nat.{ℕ, zero, suc, min, _+_, _-_, _≤_}
+use Prim.Native.Nat.{ℕ, zero, suc, min, _+_, _-_, _≤_, _*_}
 use native.Mathlib.Omega.{arith}
 use lib.ListN.{length, take}
 use lib.IntN.{ℤ}
@@ -74,7 +74,7 @@ entries-take l i (suc k) (suc n) =
 
 -- ---- an accepted book
 
-module _ (s : List ℕ) (chain : Chain) (h : Chained s chain) (l : List ℤ) (room : length l ≡ 771) (full : List ℤ) (laid : full ≡ laidOut (ruleFor s (chain .records)) (chain .n) l) (t : Tie) (et : t ≡ leastXThenY) (floors : Floors) (ef : floors ≡ zeroFloors) (k m : ℕ) (em : m ≡ min k (chain .n)) where
+module _ (s : List ℕ) (chain : Chain) (h : Chained s chain) (l : List ℤ) (room : 3 * (chain .n + 2) ≤ length l) (full : List ℤ) (laid : full ≡ laidOut (ruleFor s (chain .records)) (chain .n) l) (t : Tie) (et : t ≡ leastXThenY) (floors : Floors) (ef : floors ≡ zeroFloors) (k m : ℕ) (em : m ≡ min k (chain .n)) where
   pub prefix-walking : Walking (chain .objective) t floors full (m + 2)
   prefix-walking = shorter-walking (chain-walking s chain h l room full laid t et floors ef) (omega arith) (omega arith)
 

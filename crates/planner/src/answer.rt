@@ -9,7 +9,7 @@ use report::Plan;
 use witness::witness;
 ghost use mathlib.Core.Path.{_≡_};
 ghost use Rattle.lp.specs.Document.{leastXThenY, zeroFloors};
-ghost use Rattle.planner.specs.Planning.{Answers, chainWith, Chained};
+ghost use Rattle.planner.specs.Planning.{Answers, chainWith, Chained, Running};
 
 // Document 01's tie: least x, then least y.
 pub fn least_x_then_y() -> Tie
@@ -27,14 +27,19 @@ pub fn zero_floors() -> Floors
     Floors { lx: 0, ly: 0 }
 }
 
-// The plan of an accepted book. The run has room for two floors and 255 rules.
-pub fn planned(book: &[u8], records: &[u16], n: usize, objective: Functional) -> Plan
-    requires { ⌜ Chained (now book) (chainWith objective n (now records)) ⌝ }
+// The plan of an accepted book, its entries laid out in a run that has room for them.
+fn plan_in(
+    book: &[u8],
+    records: &[u16],
+    n: usize,
+    objective: Functional,
+    entries: &mut [i64],
+) -> Plan
+    requires { ⌜ Running (now book) (chainWith objective n (now records)) (now entries) ⌝ }
     ensures { λ r. ⌜ Answers (now (book .entry)) (Answer.Planned r) ⌝ }
 {
-    let mut entries = [0i64; 771];
-    lay_out(book, records, n, &mut entries);
-    let plan = plan_entries(objective, least_x_then_y(), zero_floors(), &entries, n + 2);
+    lay_out(book, records, n, &mut *entries);
+    let plan = plan_entries(objective, least_x_then_y(), zero_floors(), entries, n + 2);
     let outcome = plan.outcome;
     let certificate = plan.witness;
     Plan {
@@ -43,6 +48,20 @@ pub fn planned(book: &[u8], records: &[u16], n: usize, objective: Functional) ->
         opened: plan.opened,
         place: plan.place,
         witness: witness(records, certificate),
+    }
+}
+
+// The plan of an accepted book. A run for two floors and 255 rules is long to clear, so short chains have a short one.
+pub fn planned(book: &[u8], records: &[u16], n: usize, objective: Functional) -> Plan
+    requires { ⌜ Chained (now book) (chainWith objective n (now records)) ⌝ }
+    ensures { λ r. ⌜ Answers (now (book .entry)) (Answer.Planned r) ⌝ }
+{
+    if n <= 30 {
+        let mut entries = [0i64; 96];
+        plan_in(book, records, n, objective, &mut entries)
+    } else {
+        let mut entries = [0i64; 771];
+        plan_in(book, records, n, objective, &mut entries)
     }
 }
 
