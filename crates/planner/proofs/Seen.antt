@@ -25,6 +25,7 @@ use Rattle.report.specs.declared.Plan.{Plan}
 use Rattle.theory.proofs.Ties.{least-x-then-y-good}
 use Rattle.theory.proofs.Theorems.{FirstPoint}
 use Rattle.theory.proofs.Starts.{none-exactly, at-first, unbounded-start, restarts-at-most}
+use Rattle.planner.proofs.Chains.{length-rules, few}
 use Rattle.planner.proofs.Demands.{planned}
 use Rattle.planner.specs.declared.StartView.{StartView}
 use Rattle.planner.specs.Planning.{rulesOf, Answers}
@@ -52,6 +53,10 @@ module _ (s : List ℕ) (k : ℕ) (v : StartView) (h : Views s k v) (o : Functio
 
   pub restarts-few : v .restarts ≤ k
   restarts-few = omega (arith, restarts-seen, restarts-at-most leastXThenY least-x-then-y-good zeroFloors o rules, length-take k (rulesOf es))
+
+  -- nor above a book's greatest number of rules
+  pub restarts-within : v .restarts ≤ 255
+  restarts-within = omega (arith, restarts-seen, restarts-at-most leastXThenY least-x-then-y-good zeroFloors o rules, length-take k (rulesOf es), length-rules es, few s o es e)
 
   -- no pair is held exactly where the prefix allows none
   not-held : (x : Start) (n : ℕ) → viewed x n .held ≡ false → x ≡ none
