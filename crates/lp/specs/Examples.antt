@@ -65,7 +65,8 @@ pub record Slack : Type 0 where
 abbrev slackRow : Constraint → Point → Amount → Slack
 slackRow r v a = record { rule = r; at = v; left = a }
 
--- spare; spare in lowest terms; tight; broken; a rule of kind 2 turned round, of which 9/5 is left; the same of a pair that is not reduced
+-- spare; spare in lowest terms; tight; broken; a rule of kind 2 turned round, of which 9/5 is left; the same of a pair that is not reduced; and the terms at their
+-- limits, which no pair where two lawful rules meet comes near: broken and spare, some 6.4·10¹⁸ over D
 abbrev pub slacks : List Slack
 slacks =
     slackRow (atMost (pos 1) (pos 0) (pos 4)) (point (pos 7) (pos 7) (pos 5)) (amount (pos 13) (pos 5))
@@ -74,4 +75,6 @@ slacks =
     ∷ slackRow (atMost (pos 1) (pos 1) (pos 2)) (point (pos 7) (pos 7) (pos 5)) (amount (negsuc 3) (pos 5))
     ∷ slackRow (atLeast (pos 1) (pos 1) (pos 1)) (point (pos 7) (pos 7) (pos 5)) (amount (pos 9) (pos 5))
     ∷ slackRow (atLeast (pos 1) (pos 1) (pos 1)) (point (pos 14) (pos 14) (pos 10)) (amount (pos 9) (pos 5))
+    ∷ slackRow (atMost (pos 32767) (pos 32767) (negsuc 999999999)) (point (pos 65533999999999) (pos 65534000000000) (pos 2147352577)) (amount (negsuc 6442057732999967232) (pos 2147352577))
+    ∷ slackRow (atMost (negsuc 32766) (negsuc 32766) (pos 1000000000)) (point (pos 65533999999999) (pos 65534000000000) (pos 2147352577)) (amount (pos 6442057732999967233) (pos 2147352577))
     ∷ []
