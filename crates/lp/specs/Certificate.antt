@@ -11,6 +11,10 @@ use Rattle.lp.specs.declared.Certificate.{Certificate}
 use Rattle.lp.specs.Program.{constraint}
 use Rattle.lp.specs.Outcome.{every}
 
+abbrev pub certificate : ℕ → ℤ → ℕ → ℤ → ℕ → ℤ → Certificate
+certificate i u j v k w =
+    record { first = i; «first_weight» = u; second = j; «second_weight» = v; third = k; «third_weight» = w }
+
 -- an entry of a system, by index, and its weight
 pub record Weighted : Type 0 where
   pub entry : ℕ

@@ -27,7 +27,7 @@ leastXThenY = record { first = functional (negsuc 0) (pos 0); second = functiona
 abbrev pub zeroFloors : Floors
 zeroFloors = record { lx = pos 0; ly = pos 0 }
 
--- a, b, p, q: −32,767 to 32,767. c: −1,000,000,000 to 1,000,000,000
+-- a and b: −32,767 to 32,767. c: −1,000,000,000 to 1,000,000,000
 pub record Lawful (r : Constraint) : Type 0 where
   pub a-range : natAbs (r .a) ≤ 32767
   pub b-range : natAbs (r .b) ≤ 32767

@@ -1,11 +1,13 @@
--- The textbook's meaning: what infeasible, unbounded and optimal are, over all points of any size.
-use mathlib.Core.List.{List}
-use lib.IntN.{ℤ, _*ℤ_}
+-- The textbook's meaning: what infeasible, unbounded and optimal are, over all points of any size; and document 01's words for its tie and its directions.
+use mathlib.Core.Path.{_≡_}
+use mathlib.Core.List.{List, List·Memᴰ}
+use lib.IntN.{ℤ, pos, _*ℤ_}
 use Rattle.ints.specs.Order.{_≤ᶻ_, _<ᶻ_}
 use Rattle.lp.specs.declared.Constraint.{Constraint}
 use Rattle.lp.specs.declared.Functional.{Functional}
 use Rattle.lp.specs.declared.Point.{Point}
-use Rattle.lp.specs.Program.{Feasible, gain}
+use Rattle.lp.specs.declared.Ray.{Ray}
+use Rattle.lp.specs.Program.{Feasible, gain, along, rise}
 
 abbrev pub Infeasible : List Constraint → Type 0
 Infeasible S = (v : Point) → Feasible S v → ⊥
@@ -29,3 +31,15 @@ pub record Unbounded (S : List Constraint) (f : Functional) : Type 0 where
 pub record Bounded (S : List Constraint) (f : Functional) : Type 0 where
   pub possible : Possible S
   pub top : Top S f
+
+-- document 01: least x, then least y. Of v and w, v is the one to take
+pub record NoLater (v w : Point) : Type 0 where
+  pub least-x : v .x *ℤ w .d ≤ᶻ w .x *ℤ v .d
+  pub then-least-y : v .x *ℤ w .d ≡ w .x *ℤ v .d → v .y *ℤ w .d ≤ᶻ w .y *ℤ v .d
+
+-- document 01: a lawful direction. That dx and dy are not both 0 follows, since it gains
+pub record LawfulDirection (rules : List Constraint) (f : Functional) (d : Ray) : Type 0 where
+  pub dx-not-negative : pos 0 ≤ᶻ d .dx
+  pub dy-not-negative : pos 0 ≤ᶻ d .dy
+  pub never-leaves : (r : Constraint) → List·Memᴰ r rules → rise r d ≤ᶻ pos 0
+  pub gains : pos 0 <ᶻ along f d

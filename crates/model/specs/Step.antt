@@ -16,7 +16,7 @@ use Rattle.lp.specs.declared.Outcome.{Outcome}
 use Rattle.lp.specs.declared.Outcome.the-variants.{Infeasible, Unbounded, Optimal}
 use Rattle.lp.specs.Program.{point, ray, along, rise, system}
 use Rattle.lp.specs.Outcome.{above, det, keeps, reduce, reduceRay, tieOrder, gainOrder}
-use Rattle.lp.specs.Certificate.{isZero}
+use Rattle.lp.specs.Certificate.{certificate, isZero}
 use Rattle.lp.specs.Prefixes.{one-if}
 use Rattle.lp.specs.Start.{Start, none, at}
 use Rattle.model.specs.declared.Found.{Found}
@@ -38,10 +38,6 @@ use Rattle.model.specs.Scan.{facing, direction, tightest, firstBroken}
 
 -- ---- certificates
 
-abbrev pub certificate : ℕ → ℤ → ℕ → ℤ → ℕ → ℤ → Certificate
-certificate i u j v k w =
-    record { first = i; «first_weight» = u; second = j; «second_weight» = v; third = k; «third_weight» = w }
-
 -- 0 ≤ c with c below 0 needs no other entry
 abbrev pub alone : ℕ → Certificate
 alone n = certificate n (pos 1) 0 (pos 0) 0 (pos 0)
@@ -61,7 +57,7 @@ abbrev pub checked : Bool → ℕ → Constraint → ℕ → Constraint → Poin
 checked side n h j k p broken.Nowhere = Moved (reduce p)
 checked side n h j k p (broken.At i m) = Failed (conflict side n h j k i m)
 
--- Nothing cannot happen where the tie falls along every ray
+-- `found.Nothing` never comes where the tie falls along every ray
 abbrev pub resettled : List Constraint → Bool → ℕ → Constraint → Found → Restart
 resettled S side n h found.Nothing = Failed (alone n)
 resettled S side n h (found.At j k p) = checked side n h j k p (firstBroken p 0 S)

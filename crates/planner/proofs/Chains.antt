@@ -28,7 +28,7 @@ use Rattle.planner.specs.Layout.{putEntry, laidOut, ruleFor, Laying}
 use Rattle.planner.specs.Planning.{plannedRule, rulesOf}
 use Rattle.planner.proofs.Layouts.{put-length, put-same, put-other, laid-length, laid-floor, laid-at, entries-are}
 
-abbrev none : Constraint
+abbrev pub none : Constraint
 none = constraint (pos 0) (pos 0) (pos 0)
 
 -- what the code makes of a lawful rule is what is planned
@@ -79,13 +79,17 @@ module _ (s : List ℕ) (o : Functional) (es : List Entry) (e : readOf v1 s ≡ 
   record-at : (k : ℕ) → k < length es → getD records k 0 ≡ getD (map indexIn es) k 0
   record-at k h = List·getD-append (map indexIn es) (replicate (255 - length (map indexIn es)) 0) 0 k (omega (arith, length-index es))
 
-  -- the rule that the code puts at a place is the chain's
+  -- the rule at a place of the chain is its record's
+  pub rule-planned : (k : ℕ) → k < length es → getD (rulesOf es) k none ≡ plannedRule (ruleOf v1 (recordAt v1 s (getD (map indexIn es) k 0)))
+  rule-planned k h =
+      ap (λ (l : List Entry). getD (rulesOf l) k none) (accepted-entries v1 s e) ∙ rule-of-map s (map indexIn es) k (omega (arith, length-index es))
+
+  -- and the one that the code puts there
   rule-is : (k : ℕ) → k < length es → ruleFor s records k ≡ getD (rulesOf es) k none
   rule-is k h =
       ap (λ (i : ℕ). constraintOf (ruleOf v1 (recordAt v1 s i))) (record-at k h)
       ∙ code-is-planned (ruleOf v1 (recordAt v1 s (getD (map indexIn es) k 0))) (entry-lawful v1 s e k h)
-      ∙ sym (rule-of-map s (map indexIn es) k (omega (arith, length-index es)))
-      ∙ ap (λ (l : List Entry). getD (rulesOf l) k none) (sym (accepted-entries v1 s e))
+      ∙ sym (rule-planned k h)
 
   pub rule-small : (k : ℕ) → k < length es → LawfulConstraint (ruleFor s records k)
   rule-small k h =

@@ -29,7 +29,7 @@ use Rattle.planner.proofs.Ordered.{Used, Apart}
 
 -- ---- the entries that a certificate names
 
-abbrev entry : ℕ → ℤ → Weighted
+abbrev pub entry : ℕ → ℤ → Weighted
 entry e w = record { entry = e; weight = w }
 
 named-here : (e : ℕ) (w : ℤ) (l : List Weighted) → Used w → List·Memᴰ (entry e w) (weighted e w ++ l)
@@ -46,6 +46,32 @@ named-later : (x : Weighted) (e : ℕ) (w : ℤ) (l : List Weighted) → List·M
 named-later x e (pos zero) l i = i
 named-later x e (pos (suc n)) l i = List·Memᴰ·tail i
 named-later x e (negsuc n) l i = List·Memᴰ·tail i
+
+-- something of each place of a certificate that is in use
+pub record Slots (P : ℕ → ℤ → Type 0) (k : Certificate) : Type 0 where
+  pub first : Used (k .«first_weight») → P (k .first) (k .«first_weight»)
+  pub second : Used (k .«second_weight») → P (k .second) (k .«second_weight»)
+  pub third : Used (k .«third_weight») → P (k .third) (k .«third_weight»)
+
+-- all but the first of what a certificate names
+abbrev later : Certificate → List Weighted
+later k = weighted (k .second) (k .«second_weight») ++ weighted (k .third) (k .«third_weight»)
+
+second-in : (k : Certificate) → Used (k .«second_weight») → List·Memᴰ (entry (k .second) (k .«second_weight»)) (later k)
+second-in k u = named-here (k .second) (k .«second_weight») (weighted (k .third) (k .«third_weight»)) u
+
+third-in : (k : Certificate) → Used (k .«third_weight») → List·Memᴰ (entry (k .third) (k .«third_weight»)) (later k)
+third-in k u =
+    named-later (entry (k .third) (k .«third_weight»)) (k .second) (k .«second_weight») (weighted (k .third) (k .«third_weight»)) (named-last (k .third) (k .«third_weight») u)
+
+-- each place in use is named
+pub slots-named : (k : Certificate) → Slots (λ e w. List·Memᴰ (entry e w) (named k)) k
+slots-named k =
+    record {
+      first = λ u. named-here (k .first) (k .«first_weight») (later k) u;
+      second = λ u. named-later (entry (k .second) (k .«second_weight»)) (k .first) (k .«first_weight») (later k) (second-in k u);
+      third = λ u. named-later (entry (k .third) (k .«third_weight»)) (k .first) (k .«first_weight») (later k) (third-in k u);
+    }
 
 -- one in use is apart from all that are named after it, and those from each other
 others : (e : ℕ) (w : ℤ) (l : List Weighted) → Used w → T (distinct (weighted e w ++ l)) → T (every (λ u. not (eqb e (u .entry))) l)
@@ -108,7 +134,7 @@ module _ (S : List Constraint) (l : List Weighted) (t : T (certifies S l)) where
 
 -- ---- codes
 
-code-used : (records : List ℕ) (e : ℕ) (w : ℤ) → Used w → codeOf records e w ≡ codeAt records e
+pub code-used : (records : List ℕ) (e : ℕ) (w : ℤ) → Used w → codeOf records e w ≡ codeAt records e
 code-used records e w u = go (isZero w) u
   where
     go : (b : Bool) → T (not b) → elim b [ true ↦ 0 | false ↦ codeAt records e ] ≡ codeAt records e
@@ -141,9 +167,6 @@ module _ (s : List ℕ) (o : Functional) (es : List Entry) (e : readOf v1 s ≡ 
     abbrev S : List Constraint
     S = system zeroFloors (take k (rulesOf es))
 
-    abbrev second : List Weighted
-    second = weighted (c .second) (c .«second_weight») ++ weighted (c .third) (c .«third_weight»)
-
     -- a named entry is one of the system
     inside : (i : ℕ) (w : ℤ) → List·Memᴰ (entry i w) (named c) → i < length es + 2
     inside i w m =
@@ -153,36 +176,23 @@ module _ (s : List ℕ) (o : Functional) (es : List Entry) (e : readOf v1 s ≡ 
     two-codes i j v w m n u u′ d q =
         d (code-one i j (inside i v m) (inside j w n) (sym (code-used (recordsOf es) i v u) ∙ q ∙ code-used (recordsOf es) j w u′))
 
-    first-in : Used (c .«first_weight») → List·Memᴰ (entry (c .first) (c .«first_weight»)) (named c)
-    first-in u = named-here (c .first) (c .«first_weight») second u
-
-    second-in : Used (c .«second_weight») → List·Memᴰ (entry (c .second) (c .«second_weight»)) second
-    second-in u = named-here (c .second) (c .«second_weight») (weighted (c .third) (c .«third_weight»)) u
-
-    third-in : Used (c .«third_weight») → List·Memᴰ (entry (c .third) (c .«third_weight»)) second
-    third-in u =
-        named-later (entry (c .third) (c .«third_weight»)) (c .second) (c .«second_weight») (weighted (c .third) (c .«third_weight»)) (named-last (c .third) (c .«third_weight») u)
-
-    inner : (i : ℕ) (w : ℤ) → List·Memᴰ (entry i w) second → List·Memᴰ (entry i w) (named c)
-    inner i w m = named-later (entry i w) (c .first) (c .«first_weight») second m
-
     -- the first is apart from the others
-    first-from : Used (c .«first_weight») → (i : ℕ) (w : ℤ) → List·Memᴰ (entry i w) second → c .first ≡ i → ⊥
+    first-from : Used (c .«first_weight») → (i : ℕ) (w : ℤ) → List·Memᴰ (entry i w) (later c) → c .first ≡ i → ⊥
     first-from u i w m =
-        unequal (c .first) i (every-at (λ x. not (eqb (c .first) (x .entry))) second (others (c .first) (c .«first_weight») second u (all-apart S (named c) valid)) (entry i w) m)
+        unequal (c .first) i (every-at (λ x. not (eqb (c .first) (x .entry))) (later c) (others (c .first) (c .«first_weight») (later c) u (all-apart S (named c) valid)) (entry i w) m)
 
     second-from : Used (c .«second_weight») → Used (c .«third_weight») → c .second ≡ c .third → ⊥
     second-from u v =
         unequal (c .second) (c .third)
         (every-at (λ x. not (eqb (c .second) (x .entry))) (weighted (c .third) (c .«third_weight»))
-        (others (c .second) (c .«second_weight») (weighted (c .third) (c .«third_weight»)) u (rest (c .first) (c .«first_weight») second (all-apart S (named c) valid))) (entry (c .third) (c .«third_weight»)) (named-last (c .third) (c .«third_weight») v))
+        (others (c .second) (c .«second_weight») (weighted (c .third) (c .«third_weight»)) u (rest (c .first) (c .«first_weight») (later c) (all-apart S (named c) valid))) (entry (c .third) (c .«third_weight»)) (named-last (c .third) (c .«third_weight») v))
 
     -- a valid certificate names some entry, and no two by the same code
     pub coded-apart : Apart (coded (recordsOf es) c)
     coded-apart =
         record {
-          some = λ x y z. omega (arith, some-named S (named c) valid, length-append (weighted (c .first) (c .«first_weight»)) second, length-append (weighted (c .second) (c .«second_weight»)) (weighted (c .third) (c .«third_weight»)), not-named (c .first) (c .«first_weight») x, not-named (c .second) (c .«second_weight») y, not-named (c .third) (c .«third_weight») z);
-          first-second = λ u v. two-codes (c .first) (c .second) (c .«first_weight») (c .«second_weight») (first-in u) (inner (c .second) (c .«second_weight») (second-in v)) u v (first-from u (c .second) (c .«second_weight») (second-in v));
-          first-third = λ u v. two-codes (c .first) (c .third) (c .«first_weight») (c .«third_weight») (first-in u) (inner (c .third) (c .«third_weight») (third-in v)) u v (first-from u (c .third) (c .«third_weight») (third-in v));
-          second-third = λ u v. two-codes (c .second) (c .third) (c .«second_weight») (c .«third_weight») (inner (c .second) (c .«second_weight») (second-in u)) (inner (c .third) (c .«third_weight») (third-in v)) u v (second-from u v);
+          some = λ x y z. omega (arith, some-named S (named c) valid, length-append (weighted (c .first) (c .«first_weight»)) (later c), length-append (weighted (c .second) (c .«second_weight»)) (weighted (c .third) (c .«third_weight»)), not-named (c .first) (c .«first_weight») x, not-named (c .second) (c .«second_weight») y, not-named (c .third) (c .«third_weight») z);
+          first-second = λ u v. two-codes (c .first) (c .second) (c .«first_weight») (c .«second_weight») (slots-named c .first u) (slots-named c .second v) u v (first-from u (c .second) (c .«second_weight») (second-in c v));
+          first-third = λ u v. two-codes (c .first) (c .third) (c .«first_weight») (c .«third_weight») (slots-named c .first u) (slots-named c .third v) u v (first-from u (c .third) (c .«third_weight») (third-in c v));
+          second-third = λ u v. two-codes (c .second) (c .third) (c .«second_weight») (c .«third_weight») (slots-named c .second u) (slots-named c .third v) u v (second-from u v);
         }

@@ -5,14 +5,15 @@ use mathlib.Core.List.{List}
 use mathlib.Core.Logic.{_↔_}
 use Prim.Native.Nat.{ℕ, _+_, _≤_}
 use lib.ListN.{length, take}
+use lib.IntN.{_*ℤ_}
 use Rattle.lp.specs.declared.Constraint.{Constraint}
 use Rattle.lp.specs.declared.Functional.{Functional}
 use Rattle.lp.specs.declared.Point.{Point}
 use Rattle.lp.specs.declared.Ray.{Ray}
 use Rattle.lp.specs.declared.Outcome.{Outcome}
 use Rattle.lp.specs.declared.Outcome.the-variants as outcome
-use Rattle.lp.specs.Program.{system}
-use Rattle.lp.specs.Textbook.{Infeasible, Unbounded, Bounded}
+use Rattle.lp.specs.Program.{Feasible, system, gain}
+use Rattle.lp.specs.Textbook.{Infeasible, Unbounded, Bounded, NoLater, LawfulDirection}
 use Rattle.lp.specs.Certificate.{named}
 use Rattle.lp.specs.Document.{leastXThenY, zeroFloors, AlikeInRules}
 use Rattle.book.specs.Layout.{v1}
@@ -24,10 +25,13 @@ use Rattle.theory.proofs.Ties.{least-x-then-y-good}
 use Rattle.theory.proofs.Farkas.{certificate-excludes}
 use Rattle.theory.proofs.Meaning.{outcome-order-free}
 use Rattle.theory.proofs.Theorems.{infeasible-exactly, unbounded-exactly, optimal-exactly, BestPoint, optimum-best, FirstPoint, start-first, FlattestRay, ray-flattest, Placed, place-least, moves-at-most, open-at-most}
+use Rattle.theory.proofs.Words.{first-in-words, lawful-in-words}
 use Rattle.witness.specs.Witness.{coded}
 use Rattle.planner.proofs.Chains.{length-rules}
 use Rattle.planner.proofs.Ordered.{InOrder, NoneTwice, rising-in-order, rising-none-twice}
 use Rattle.planner.proofs.Codes.{coded-apart, one-to-three}
+use Rattle.planner.proofs.Adding.{witness-adds-up}
+use Rattle.planner.specs.Adding.{AddsUp}
 use Rattle.planner.specs.Planning.{rulesOf, recordsOf, Proves, Witnessed, PlannedAs, AnsweredBy, Answers}
 
 -- an accepted book is planned, never refused
@@ -83,11 +87,22 @@ module _ (s : List ℕ) (a : Answer) (promise : Answers s a) (o : Functional) (e
   pub best-pair : (v : Point) → p .outcome ≡ outcome.Optimal v → BestPoint leastXThenY least-x-then-y-good zeroFloors o (rulesOf es) v
   best-pair v f = optimum-best leastXThenY least-x-then-y-good zeroFloors o (rulesOf es) v (sym (planned .outcome-defined) ∙ f)
 
+  -- of the allowed pairs with the greatest gain, the one with least x, then least y
+  pub best-least : (v : Point) → p .outcome ≡ outcome.Optimal v → (w : Point) → Feasible chain w → gain o w *ℤ v .d ≡ gain o v *ℤ w .d → NoLater v w
+  best-least v f w h same = first-in-words v w (best-pair v f .tie-first w h same)
+
   pub start-pair : (u : Point) (d : Ray) → p .outcome ≡ outcome.Unbounded u d → FirstPoint leastXThenY least-x-then-y-good zeroFloors o (rulesOf es) u
   start-pair u d f = start-first leastXThenY least-x-then-y-good zeroFloors o (rulesOf es) u d (sym (planned .outcome-defined) ∙ f)
 
+  -- the allowed pair with least x, then least y
+  pub start-least : (u : Point) (d : Ray) → p .outcome ≡ outcome.Unbounded u d → (w : Point) → Feasible chain w → NoLater u w
+  start-least u d f w h = first-in-words u w (start-pair u d f .first w h)
+
   pub direction-given : (u : Point) (d : Ray) → p .outcome ≡ outcome.Unbounded u d → FlattestRay leastXThenY least-x-then-y-good zeroFloors o (rulesOf es) d
   direction-given u d f = ray-flattest leastXThenY least-x-then-y-good zeroFloors o (rulesOf es) u d (sym (planned .outcome-defined) ∙ f)
+
+  pub direction-lawful : (u : Point) (d : Ray) → p .outcome ≡ outcome.Unbounded u d → LawfulDirection (rulesOf es) o d
+  direction-lawful u d f = lawful-in-words (rulesOf es) o d (direction-given u d f .lawful-ray)
 
   -- the place is the least k whose first k rules allow no pair
   pub place-given : p .outcome ≡ outcome.Infeasible → Placed leastXThenY least-x-then-y-good zeroFloors o (rulesOf es) (p .place)
@@ -97,6 +112,10 @@ module _ (s : List ℕ) (a : Answer) (promise : Answers s a) (o : Functional) (e
   -- an "impossible" names rules that can be added up, and they exclude every pair
   pub witness-given : p .outcome ≡ outcome.Infeasible → Proves es (p .place) (p .witness)
   witness-given f = subst (Witnessed es (p .place) (p .witness)) f (planned .witnessed)
+
+  -- looked up in the book and multiplied by their weights, the entries that it names add up to 0, 0 and a limit below 0
+  pub witness-sums : p .outcome ≡ outcome.Infeasible → AddsUp s es (p .place) (p .witness)
+  witness-sums f = witness-adds-up s o es e (p .place) (p .witness) (witness-given f)
 
   -- its entries in the printed order: floors first, then records rising
   pub witness-rises : p .outcome ≡ outcome.Infeasible → InOrder (p .witness)

@@ -7,8 +7,7 @@ use native.Mathlib.Omega.{arith}
 use lib.Dec.{T, ltb, ltb→lt, nltb→le, not-T}
 use lib.IntN.{ℤ}
 use Rattle.lp.specs.declared.Certificate.{Certificate}
-use Rattle.lp.specs.Certificate.{isZero}
-use Rattle.model.specs.Step.{certificate}
+use Rattle.lp.specs.Certificate.{certificate, isZero}
 use Rattle.witness.specs.Witness.{goesBefore, orderFirst, orderLast, rising}
 
 -- the second entry does not go before the first, nor the third before the second
@@ -78,6 +77,32 @@ rising-in-order k =
       last-two = last-stays (orderLast (orderFirst k)) (greatest-last (orderFirst k) (first-in-order k) .0) (greatest-last (orderFirst k) (first-in-order k) .1);
     }
 
+-- ---- what neither exchange changes, putting in order does not
+
+abbrev pub firstExchanged : Certificate → Certificate
+firstExchanged k = certificate (k .second) (k .«second_weight») (k .first) (k .«first_weight») (k .third) (k .«third_weight»)
+
+abbrev pub lastExchanged : Certificate → Certificate
+lastExchanged k = certificate (k .first) (k .«first_weight») (k .third) (k .«third_weight») (k .second) (k .«second_weight»)
+
+module _ (Q : Certificate → Type 0) (first : (k : Certificate) → Q k → Q (firstExchanged k)) (last : (k : Certificate) → Q k → Q (lastExchanged k)) where
+  first-keeps : (k : Certificate) → Q k → Q (orderFirst k)
+  first-keeps k h = go (goesBefore (k .second) (k .«second_weight») (k .first) (k .«first_weight»))
+    where
+      go : (b : Bool) → Q (elim b [ true ↦ firstExchanged k | false ↦ k ])
+      go true = first k h
+      go false = h
+
+  last-keeps : (k : Certificate) → Q k → Q (orderLast k)
+  last-keeps k h = go (goesBefore (k .third) (k .«third_weight») (k .second) (k .«second_weight»))
+    where
+      go : (b : Bool) → Q (elim b [ true ↦ lastExchanged k | false ↦ k ])
+      go true = last k h
+      go false = h
+
+  pub rising-keeps : (k : Certificate) → Q k → Q (rising k)
+  rising-keeps k h = first-keeps (orderLast (orderFirst k)) (last-keeps (orderFirst k) (first-keeps k h))
+
 -- ---- no entry twice
 
 -- an entry is named where its weight is not zero
@@ -97,31 +122,23 @@ pub record Apart (k : Certificate) : Type 0 where
   pub first-third : Used (k .«first_weight») → Used (k .«third_weight») → k .first ≡ k .third → ⊥
   pub second-third : Used (k .«second_weight») → Used (k .«third_weight») → k .second ≡ k .third → ⊥
 
-first-apart : (k : Certificate) → Apart k → Apart (orderFirst k)
-first-apart k h = go (goesBefore (k .second) (k .«second_weight») (k .first) (k .«first_weight»))
-  where
-    go : (b : Bool) → Apart (elim b [ true ↦ certificate (k .second) (k .«second_weight») (k .first) (k .«first_weight») (k .third) (k .«third_weight») | false ↦ k ])
-    go true =
-        record {
-          some = λ a b c. h .some b a c;
-          first-second = λ u v q. h .first-second v u (sym q);
-          first-third = h .second-third;
-          second-third = h .first-third;
-        }
-    go false = h
+first-apart : (k : Certificate) → Apart k → Apart (firstExchanged k)
+first-apart k h =
+    record {
+      some = λ a b c. h .some b a c;
+      first-second = λ u v q. h .first-second v u (sym q);
+      first-third = h .second-third;
+      second-third = h .first-third;
+    }
 
-last-apart : (k : Certificate) → Apart k → Apart (orderLast k)
-last-apart k h = go (goesBefore (k .third) (k .«third_weight») (k .second) (k .«second_weight»))
-  where
-    go : (b : Bool) → Apart (elim b [ true ↦ certificate (k .first) (k .«first_weight») (k .third) (k .«third_weight») (k .second) (k .«second_weight») | false ↦ k ])
-    go true =
-        record {
-          some = λ a b c. h .some a c b;
-          first-second = h .first-third;
-          first-third = h .first-second;
-          second-third = λ u v q. h .second-third v u (sym q);
-        }
-    go false = h
+last-apart : (k : Certificate) → Apart k → Apart (lastExchanged k)
+last-apart k h =
+    record {
+      some = λ a b c. h .some a c b;
+      first-second = h .first-third;
+      first-third = h .first-second;
+      second-third = λ u v q. h .second-third v u (sym q);
+    }
 
 -- an entry in use has one in use ahead of it, whose code is no greater
 ahead : (z : Bool) (e : ℕ) (z′ : Bool) (e′ : ℕ) → T (not (before z′ e′ z e)) → T (not z′) → T (not z) × (e ≤ e′)
@@ -155,4 +172,4 @@ none-twice k r h =
 
 pub rising-none-twice : (k : Certificate) → Apart k → NoneTwice (rising k)
 rising-none-twice k h =
-    none-twice (rising k) (rising-in-order k) (first-apart (orderLast (orderFirst k)) (last-apart (orderFirst k) (first-apart k h)))
+    none-twice (rising k) (rising-in-order k) (rising-keeps Apart first-apart last-apart k h)

@@ -13,8 +13,8 @@ use Rattle.lp.specs.declared.Functional.{Functional}
 use Rattle.lp.specs.declared.Point.{Point}
 use Rattle.lp.specs.declared.Ray.{Ray}
 use Rattle.lp.specs.declared.Outcome.the-variants as outcome
-use Rattle.lp.specs.Program.{system}
-use Rattle.lp.specs.Textbook.{Infeasible}
+use Rattle.lp.specs.Program.{Feasible, system}
+use Rattle.lp.specs.Textbook.{Infeasible, NoLater}
 use Rattle.lp.specs.Start.{Start, none, at, startOf, restarts}
 use Rattle.lp.specs.Document.{leastXThenY, zeroFloors}
 use Rattle.book.specs.Layout.{v1}
@@ -24,6 +24,7 @@ use Rattle.report.specs.declared.Answer.the-variants.{Planned}
 use Rattle.report.specs.declared.Plan.{Plan}
 use Rattle.theory.proofs.Ties.{least-x-then-y-good}
 use Rattle.theory.proofs.Theorems.{FirstPoint}
+use Rattle.theory.proofs.Words.{first-in-words}
 use Rattle.theory.proofs.Starts.{none-exactly, at-first, unbounded-start, restarts-at-most}
 use Rattle.planner.proofs.Chains.{length-rules, few}
 use Rattle.planner.proofs.Demands.{planned}
@@ -78,6 +79,10 @@ module _ (s : List ℕ) (k : ℕ) (v : StartView) (h : Views s k v) (o : Functio
   held-first q =
       subst (FirstPoint leastXThenY least-x-then-y-good zeroFloors o rules) (sym (ap (λ (x : StartView). x .point) accepted-seen))
       (at-first leastXThenY least-x-then-y-good zeroFloors o rules (startView rules .point) (held-at (startOf leastXThenY zeroFloors rules) (restarts leastXThenY zeroFloors rules) (sym (ap (λ (x : StartView). x .held) accepted-seen) ∙ q)))
+
+  -- least x, then least y
+  pub held-least : v .held ≡ true → (w : Point) → Feasible (system zeroFloors rules) w → NoLater (v .point) w
+  held-least q w f = first-in-words (v .point) w (held-first q .first w f)
 
   -- beyond the chain: the whole chain, where an unlimited plan prints the same pair
   module _ (beyond : length (rulesOf es) ≤ k) where

@@ -13,7 +13,7 @@ use Rattle.lp.specs.declared.Ray.{Ray}
 use Rattle.lp.specs.declared.Certificate.{Certificate}
 use Rattle.lp.specs.Program.{along}
 use Rattle.lp.specs.Outcome.{above, keeps, tieOrder, gainOrder}
-use Rattle.lp.specs.Certificate.{isZero}
+use Rattle.lp.specs.Certificate.{certificate, isZero}
 use Rattle.lp.specs.Prefixes.{one-if}
 use Rattle.model.specs.declared.Found.{Found}
 use Rattle.model.specs.declared.Found.the-variants as found
@@ -27,9 +27,9 @@ use Rattle.model.specs.declared.State.{State}
 use Rattle.model.specs.declared.State.the-variants.{Ended, Going}
 use Rattle.model.specs.declared.Walk.{Walk}
 use Rattle.model.specs.Scan.{facing, direction, tightest}
-use Rattle.model.specs.Step.{certificate, alone, resettled, restart, narrow, improved, breaks, going, settled, recounted, stepped, step}
+use Rattle.model.specs.Step.{alone, resettled, restart, narrow, improved, breaks, going, settled, recounted, stepped, step}
 use Rattle.model.specs.Bounds.{SmallPoint, SmallRay, SmallCone, SmallBest, SmallState}
-use Rattle.planner.specs.Start.{startOf}
+use Rattle.planner.specs.Start.{keptOrRestarted}
 
 -- ---- the order of points
 
@@ -89,7 +89,7 @@ module _ (t : Tie) (f : Functional) (S : List Constraint) (n : ℕ) (h : Constra
       shown : w ≡ record { state = Ended p c; moves = w .moves; opened = w .opened; restarts = w .restarts }
       shown = λ i. record { state = e i; moves = w .moves; opened = w .opened; restarts = w .restarts }
 
-  module _ {s : Point} {cone : Cone} {b : Best} (e : w .state ≡ Going s cone b) {kept : Bool} (ek : kept ≡ keeps h s) {r : Restart} (er : r ≡ startOf t S n h s kept) {broken : Bool} (eb : broken ≡ breaks h b) {m : ℕ} (em : m ≡ w .moves + one-if broken) {k : ℕ} (ec : k ≡ w .restarts + one-if (not kept)) where
+  module _ {s : Point} {cone : Cone} {b : Best} (e : w .state ≡ Going s cone b) {kept : Bool} (ek : kept ≡ keeps h s) {r : Restart} (er : r ≡ keptOrRestarted t S n h s kept) {broken : Bool} (eb : broken ≡ breaks h b) {m : ℕ} (em : m ≡ w .moves + one-if broken) {k : ℕ} (ec : k ≡ w .restarts + one-if (not kept)) where
     moves-is : m ≡ w .moves + one-if (breaks h b)
     moves-is = em ∙ ap (λ k. w .moves + one-if k) eb
 
@@ -97,7 +97,7 @@ module _ (t : Tie) (f : Functional) (S : List Constraint) (n : ℕ) (h : Constra
     restarts-is = ec ∙ ap (λ u. w .restarts + one-if (not u)) ek
 
     settles : {q : Restart} → r ≡ q → settled t f S n h cone b (w .moves) (w .opened) (recounted (w .restarts) h s) q ≡ step t f S n h w
-    settles q = ap (settled t f S n h cone b (w .moves) (w .opened) (recounted (w .restarts) h s)) (sym q ∙ er ∙ ap (startOf t S n h s) ek) ∙ sym (ap (stepped t f S n h (w .moves) (w .opened) (w .restarts)) e)
+    settles q = ap (settled t f S n h cone b (w .moves) (w .opened) (recounted (w .restarts) h s)) (sym q ∙ er ∙ ap (keptOrRestarted t S n h s) ek) ∙ sym (ap (stepped t f S n h (w .moves) (w .opened) (w .restarts)) e)
 
     pub step-moved : {p : Point} → r ≡ Moved p → {wedge : Cone} → wedge ≡ narrow h cone → {next : Best} → next ≡ improved (gainOrder f t) f S h wedge b → {v : Walk} → v ≡ going p wedge next m (w .opened) k → v ≡ step t f S n h w
     step-moved {p} q ew en ev =

@@ -1,5 +1,5 @@
 -- The entries of a system as numbers (Entries), what a pass holds (Held), the start point's part of a step (Start), the entries of a book laid out (Layout), the
--- verdict (Verdict), what a book is planned as (Planning), its panel (Panel), what is seen of its walk (View), and what the planner's private functions ask of the numbers that they are handed (Sizes).
+-- verdict (Verdict), what a book is planned as (Planning), what a partner adds up (Adding), its panel (Panel), what is seen of its walk (View), and what the planner's private functions ask of the numbers that they are handed (Sizes).
 pub mod Entries
 pub mod Held
 pub mod Start
@@ -7,5 +7,6 @@ pub mod Layout
 pub mod Verdict
 pub mod Sizes
 pub mod Planning
+pub mod Adding
 pub mod Panel
 pub mod View

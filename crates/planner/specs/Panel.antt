@@ -48,7 +48,7 @@ unfoldable pub panelOf : Reading → Panel
 panelOf (refused n r) = panelWith n r []
 panelOf (accepted o es) = panelWith 0 0 (rowsFor es (outcome leastXThenY zeroFloors o (rulesOf es)))
 
--- the promise of `panel`
+-- the promise of `slacks`
 pub record Panels (s : List ℕ) (p : Panel) : Type 0 where
   pub panel : p ≡ panelOf (readOf v1 s)
 

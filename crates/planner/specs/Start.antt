@@ -10,5 +10,5 @@ use Rattle.model.specs.declared.Restart.the-variants.{Moved}
 use Rattle.model.specs.Step.{restart}
 
 -- kept says whether it keeps h
-abbrev pub startOf : Tie → List Constraint → ℕ → Constraint → Point → Bool → Restart
-startOf t S n h s kept = elim kept [ true ↦ Moved s | false ↦ restart t S n h ]
+abbrev pub keptOrRestarted : Tie → List Constraint → ℕ → Constraint → Point → Bool → Restart
+keptOrRestarted t S n h s kept = elim kept [ true ↦ Moved s | false ↦ restart t S n h ]

@@ -1,4 +1,4 @@
-// The plan of a book: its chain is read once, its entries laid out in one run of numbers, walked, and answered.
+// The plan of a book: its chain is followed once, its entries laid out in one run of numbers, walked, and answered.
 use crate::layout::lay_out;
 use crate::verdict::plan_entries;
 use lp::Floors;

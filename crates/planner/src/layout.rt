@@ -19,7 +19,7 @@ fn put_entry(entries: &mut [i64], k: usize, c: Constraint)
     entries[at + 2] = limit;
 }
 
-// The first n rules of the chain, read once, after the floors.
+// The first n rules of the chain, after the floors.
 fn lay_rules(book: &[u8], records: &[u16], n: usize, entries: &mut [i64])
     requires { ⌜ Laying (now records) n (now entries) ⌝ }
     ensures { λ r. ⌜ now (entries .exit) ≡ laid (ruleFor (now (book .entry)) (now (records .entry))) n (now (entries .entry)) ⌝ }

@@ -19,7 +19,7 @@ ghost use mathlib.Core.Path.{_≡_};
 ghost use Rattle.model.specs.Step.{alone as aloneOf, lineWeight, conflict as conflictOf, resettled as resettledOf, restart as restartOf};
 ghost use Rattle.planner.specs.Entries.{entries as entriesOf};
 ghost use Rattle.planner.specs.Sizes.{Lines, Conflicting, Resettling, Restarting};
-ghost use Rattle.planner.specs.Start.{startOf};
+ghost use Rattle.planner.specs.Start.{keptOrRestarted};
 
 // 0 is at most c, with c below 0: the rule at index n needs no other entry.
 fn alone(n: usize) -> Certificate
@@ -96,7 +96,7 @@ fn restart(tie: Tie, entries: &[i64], n: usize, h: Constraint) -> Restart
 // The start point stays where it keeps the new constraint; no entry is looked at then.
 pub fn start(tie: Tie, entries: &[i64], n: usize, h: Constraint, s: Point, kept: bool) -> Restart
     requires { ⌜ Restarting tie (now entries) n h ⌝ }
-    ensures { λ r. ⌜ r ≡ startOf tie (entriesOf (now (entries .entry)) 0 n) n h s kept ⌝ }
+    ensures { λ r. ⌜ r ≡ keptOrRestarted tie (entriesOf (now (entries .entry)) 0 n) n h s kept ⌝ }
 {
     if kept {
         Restart::Moved(s)

@@ -125,29 +125,34 @@ module _ (S : List Constraint) (l : List Weighted) where
   abbrev shaped : Bool
   shaped = ltb 0 (length l) && leb (length l) 3 && distinct l
 
-  pub certificate-refutes : T (certifies S l) → Refutes S l
-  certificate-refutes t =
-      record {
-        sound = λ w i. record { positive = <ℤ-≤ℤ-trans {b = pos 1} (ltZ-yes tt) (leZ-yes (and-left (leZ (pos 1) (w .weight)) (leZ (w .weight) greatestWeight) (every-at (λ w. leZ (pos 1) (w .weight) && leZ (w .weight) greatestWeight) l weights w i))); entered = ltb→lt (w .entry) (length S) (every-at (λ w. ltb (w .entry) (length S)) l entries w i) };
-        cancels-a = is-zero (total partA S l) (and-right (shaped && entered && sized) (isZero (total partA S l)) to-a);
-        cancels-b = is-zero (total partB S l) (and-right (shaped && entered && sized && isZero (total partA S l)) (isZero (total partB S l)) to-b);
-        falls = ltZ-yes (and-right (shaped && entered && sized && isZero (total partA S l) && isZero (total partB S l)) (ltZ (total partC S l) (pos 0)) t);
-      }
-    where
-      to-b : T (shaped && entered && sized && isZero (total partA S l) && isZero (total partB S l))
-      to-b = and-left (shaped && entered && sized && isZero (total partA S l) && isZero (total partB S l)) (ltZ (total partC S l) (pos 0)) t
+  module _ (t : T (certifies S l)) where
+    to-b : T (shaped && entered && sized && isZero (total partA S l) && isZero (total partB S l))
+    to-b = and-left (shaped && entered && sized && isZero (total partA S l) && isZero (total partB S l)) (ltZ (total partC S l) (pos 0)) t
 
-      to-a : T (shaped && entered && sized && isZero (total partA S l))
-      to-a = and-left (shaped && entered && sized && isZero (total partA S l)) (isZero (total partB S l)) to-b
+    to-a : T (shaped && entered && sized && isZero (total partA S l))
+    to-a = and-left (shaped && entered && sized && isZero (total partA S l)) (isZero (total partB S l)) to-b
 
-      to-weights : T (shaped && entered && sized)
-      to-weights = and-left (shaped && entered && sized) (isZero (total partA S l)) to-a
+    to-weights : T (shaped && entered && sized)
+    to-weights = and-left (shaped && entered && sized) (isZero (total partA S l)) to-a
 
-      weights : T sized
-      weights = and-right (shaped && entered) sized to-weights
+    entries : T entered
+    entries = and-right shaped entered (and-left (shaped && entered) sized to-weights)
 
-      entries : T entered
-      entries = and-right shaped entered (and-left (shaped && entered) sized to-weights)
+    -- weights are from 1 to document 01's greatest
+    pub certificate-weights : (w : Weighted) → List·Memᴰ w l → (pos 1 ≤ᶻ w .weight) × (w .weight ≤ᶻ greatestWeight)
+    certificate-weights w i = (leZ-yes (and-left (leZ (pos 1) (w .weight)) (leZ (w .weight) greatestWeight) both), leZ-yes (and-right (leZ (pos 1) (w .weight)) (leZ (w .weight) greatestWeight) both))
+      where
+        both : T (leZ (pos 1) (w .weight) && leZ (w .weight) greatestWeight)
+        both = every-at (λ w. leZ (pos 1) (w .weight) && leZ (w .weight) greatestWeight) l (and-right (shaped && entered) sized to-weights) w i
+
+    pub certificate-refutes : Refutes S l
+    certificate-refutes =
+        record {
+          sound = λ w i. record { positive = <ℤ-≤ℤ-trans {b = pos 1} (ltZ-yes tt) (certificate-weights w i .0); entered = ltb→lt (w .entry) (length S) (every-at (λ w. ltb (w .entry) (length S)) l entries w i) };
+          cancels-a = is-zero (total partA S l) (and-right (shaped && entered && sized) (isZero (total partA S l)) to-a);
+          cancels-b = is-zero (total partB S l) (and-right (shaped && entered && sized && isZero (total partA S l)) (isZero (total partB S l)) to-b);
+          falls = ltZ-yes (and-right (shaped && entered && sized && isZero (total partA S l) && isZero (total partB S l)) (ltZ (total partC S l) (pos 0)) t);
+        }
 
   -- a valid certificate excludes every point, whatever its size
   pub certificate-excludes : T (certifies S l) → Infeasible S

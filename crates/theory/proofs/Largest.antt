@@ -23,7 +23,7 @@ use Rattle.model.specs.Bounds.{SmallConstraint, SmallSystem, SmallFloors}
 use Rattle.model.proofs.Bounds.{floorX-small, floorY-small}
 use Rattle.theory.proofs.Solver.{equal, C, slackᵖ, meetᵖ}
 use Rattle.theory.proofs.Lists.{for-members}
-use Rattle.theory.proofs.Reduction.{Multiple, slack-multiple, reduced-multiple}
+use Rattle.theory.proofs.Reduction.{Multiple, multiple-slack, reduced-multiple}
 use Rattle.theory.proofs.Vertex.{Vertex}
 use Rattle.theory.proofs.Ties.{GoodTie}
 use Rattle.theory.proofs.Meaning.{Means, outcome-means}
@@ -54,7 +54,7 @@ member-small (s ∷ S) h = for-members SmallConstraint s S (h .0) (member-small 
 
 module _ (S : List Constraint) (small : SmallSystem S) (v : Point) (x : Vertex S v) (r : Constraint) (i : List·Memᴰ r S) where
   pub vertex-slack : WithinLargest (slack r v)
-  vertex-slack = subst (λ w. WithinLargest (slack r w)) (sym (x .lowest)) (within-factor (m .positive) (subst WithinLargest (sym (slack-multiple _ _ _ m r)) whole))
+  vertex-slack = subst (λ w. WithinLargest (slack r w)) (sym (x .lowest)) (within-factor (m .positive) (subst WithinLargest (sym (multiple-slack _ _ _ m r)) whole))
     where
       corner : Point
       corner = meet (x .one) (x .other)

@@ -25,6 +25,7 @@ pub mod Place
 pub mod Meaning
 pub mod Tops
 pub mod Theorems
+pub mod Words
 pub mod Slack
 pub mod Largest
 pub mod Starts

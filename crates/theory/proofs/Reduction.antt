@@ -34,12 +34,12 @@ module _ (k : ℤ) (w v : Point) (m : Multiple k w v) where
   whole : scaled k w ≡ v
   whole = point-path (m .on-x) (m .on-y) (m .on-d)
 
-  pub slack-multiple : (r : Constraint) → k *ℤ slack r w ≡ slack r v
-  slack-multiple r =
+  pub multiple-slack : (r : Constraint) → k *ℤ slack r w ≡ slack r v
+  multiple-slack r =
       equal (Z ∷ C ∷ P ∷ []) (λ k r w. k ⊗ slackᵖ r w ≐ r .c ⊗ (k ⊗ w .d) ⊖ (r .a ⊗ (k ⊗ w .x) ⊕ r .b ⊗ (k ⊗ w .y))) refl k r w ∙ ap (slack r) whole
 
   pub keeps-lowest : (r : Constraint) → Keeps r v → Keeps r w
-  keeps-lowest r h = nn-cancel (m .positive) (subst (λ z. pos 0 ≤ᶻ z) (sym (slack-multiple r)) h)
+  keeps-lowest r h = nn-cancel (m .positive) (subst (λ z. pos 0 ≤ᶻ z) (sym (multiple-slack r)) h)
 
   pub at-most-lowest : (Up : Ray → Type 0) → Upward Up → (z : Point) → AtMost Up z v → AtMost Up z w
   at-most-lowest Up O z h = O .cancel k (between z w) (m .positive) (subst Up (sym (ray-path on-dx on-dy)) h)

@@ -48,7 +48,7 @@ fn told(seen: StartView) -> usize
 }
 
 // The start pair after a book's first `prefix` rules: X, Y and D stand at the start of a buffer of at least three numbers, zeros where no pair is allowed, and the
-// count is handed back. A refused book leaves the buffer as it is, and so does a smaller buffer; of a refused book 65,536 times its number and its record are handed back.
+// count is handed back. A refused book leaves the buffer as it is, and so does a smaller buffer; of a refused book 65,536 times its number plus its record is handed back.
 #[no_mangle]
 pub extern "C" fn vishalneq_start_after(book: &[u8], prefix: usize, out: &mut [i64]) -> usize
     ensures { λ r. ⌜ StartWritten (now (book .entry)) prefix (now (out .entry)) (now (out .exit)) r ⌝ }
