@@ -44,8 +44,8 @@ use Rattle.model.specs.declared.State.{State}
 use Rattle.model.specs.declared.State.the-variants.{Ended, Going}
 use Rattle.model.specs.declared.Walk.{Walk}
 use Rattle.model.specs.Scan.{facing, direction, tighter, tightest, firstBroken}
-use Rattle.model.specs.Step.{alone, lineWeight, conflict, checked, resettled, restart, narrowed, narrow, gaining, foundPoint, tightestPoint, reopened, improved, isOpen, breaks, going, settled, stepped, step, opening, begin, walkFrom, walk}
-use Rattle.model.specs.Bounds.{SmallConstraint, SmallSystem, SmallTie, SmallFloors, SmallPoint, SmallRay, SmallCertificate, SmallFound, SmallBroken, SmallRestart, SmallCone, SmallGain, SmallBest, SmallState, SmallWalk}
+use Rattle.model.specs.Step.{alone, lineWeight, conflict, checked, resettled, restart, narrowed, narrow, gaining, foundPoint, tightestPoint, reopened, improved, isOpen, breaks, going, settled, stepped, step, opening, begin, walkFrom, walk, said, saidRay}
+use Rattle.model.specs.Bounds.{SmallConstraint, SmallSystem, SmallTie, SmallFloors, SmallPoint, SmallRay, SmallCertificate, SmallFound, SmallBroken, SmallRestart, SmallCone, SmallGain, SmallBest, SmallState, SmallOutcome, SmallWalk}
 
 -- ---- lawful rules, and the floors
 
@@ -230,6 +230,15 @@ gaining-small f (Wedge lo hi) sc = go (ltZ (pos 0) (along f lo)) (ltZ (pos 0) (a
     go true u = sc .0
     go false true = sc .1
     go false false = tt
+
+pub said-small : (f : Functional) (x : State) → SmallState x → SmallOutcome (said f x)
+said-small f (Ended p k) h = tt
+said-small f (Going s cone best.Open) h = go (gaining f cone) (gaining-small f cone (h .1))
+  where
+    go : (g : Gain) → SmallGain g → SmallOutcome (saidRay s g)
+    go (gain.Along d) k = (h .0, reduceRay-small k)
+    go gain.Nowhere k = h .0
+said-small f (Going s cone (best.At v)) h = h .2
 
 -- ---- the walk
 

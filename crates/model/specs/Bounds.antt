@@ -12,6 +12,8 @@ use Rattle.lp.specs.declared.Tie.{Tie}
 use Rattle.lp.specs.declared.Point.{Point}
 use Rattle.lp.specs.declared.Ray.{Ray}
 use Rattle.lp.specs.declared.Certificate.{Certificate}
+use Rattle.lp.specs.declared.Outcome.{Outcome}
+use Rattle.lp.specs.declared.Outcome.the-variants as outcome
 use Rattle.model.specs.declared.Found.{Found}
 use Rattle.model.specs.declared.Found.the-variants as found
 use Rattle.model.specs.declared.Broken.{Broken}
@@ -97,6 +99,12 @@ SmallBest (best.At v) = SmallPoint v
 abbrev pub SmallState : State → Type 0
 SmallState (Ended p k) = SmallCertificate k
 SmallState (Going s cone b) = SmallPoint s × SmallCone cone × SmallBest b
+
+-- what is said of it
+abbrev pub SmallOutcome : Outcome → Type 0
+SmallOutcome outcome.Infeasible = Unit {0}
+SmallOutcome (outcome.Unbounded s d) = SmallPoint s × SmallRay d
+SmallOutcome (outcome.Optimal v) = SmallPoint v
 
 -- after n rules: moves and restarts never exceed n, nor open n + 1
 pub record SmallWalk (n : ℕ) (w : Walk) : Type 0 where

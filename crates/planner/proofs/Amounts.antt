@@ -31,15 +31,9 @@ use Rattle.report.specs.declared.Answer.the-variants.{Planned}
 use Rattle.report.specs.declared.Plan.{Plan}
 use Rattle.report.specs.declared.panel.Row.{Row}
 use Rattle.report.specs.declared.panel.Panel.{Panel}
-use Rattle.model.specs.declared.Best.{Best}
-use Rattle.model.specs.declared.Best.the-variants as best
-use Rattle.model.specs.declared.Gain.{Gain}
-use Rattle.model.specs.declared.Gain.the-variants as gain
-use Rattle.model.specs.declared.State.{State}
-use Rattle.model.specs.declared.State.the-variants.{Ended, Going}
-use Rattle.model.specs.Step.{walk, said, saidRay, gaining}
-use Rattle.model.specs.Bounds.{SmallConstraint, SmallSystem, SmallPoint, SmallState}
-use Rattle.model.proofs.Bounds.{lawful-small, slack-small, zeroFloors-small, walk-small}
+use Rattle.model.specs.Step.{walk}
+use Rattle.model.specs.Bounds.{SmallConstraint, SmallSystem, SmallOutcome}
+use Rattle.model.proofs.Bounds.{lawful-small, slack-small, zeroFloors-small, said-small, walk-small}
 use Rattle.theory.proofs.Ties.{least-x-then-y-good}
 use Rattle.theory.proofs.Theorems.{walk-is-defined}
 use Rattle.planner.specs.Sizes.{Fraction, Measured}
@@ -150,28 +144,15 @@ small-system : (rs : List Constraint) → ((k : ℕ) → k < length rs → Small
 small-system [] f = tt
 small-system (r ∷ rs) f = (f 0 (omega arith), small-system rs (λ k h. f (suc k) (omega arith)))
 
-abbrev SmallOutcome : Outcome → Type 0
-SmallOutcome outcome.Infeasible = Unit {0}
-SmallOutcome (outcome.Unbounded s d) = Unit {0}
-SmallOutcome (outcome.Optimal v) = SmallPoint v
-
-said-small : (o : Functional) (x : State) → SmallState x → SmallOutcome (said o x)
-said-small o (Ended p k) h = tt
-said-small o (Going s cone best.Open) h = go (gaining o cone)
-  where
-    go : (g : Gain) → SmallOutcome (saidRay s g)
-    go (gain.Along d) = tt
-    go gain.Nowhere = h .0
-said-small o (Going s cone (best.At v)) h = h .2
-
 module _ (s : List ℕ) (o : Functional) (es : List Entry) (e : readOf v1 s ≡ accepted o es) where
   pub rules-small : SmallSystem (rulesOf es)
   rules-small =
       small-system (rulesOf es) (λ k h. lawful-small (rule-lawful s o es e k (omega (arith, length-map es (λ x. plannedRule (x .rule))))))
 
-  best-small : (v : Point) → outcome leastXThenY zeroFloors o (rulesOf es) ≡ outcome.Optimal v → SmallPoint v
-  best-small v q =
-      subst SmallOutcome (walk-is-defined leastXThenY least-x-then-y-good zeroFloors o (rulesOf es) .outcome-defined ∙ q)
+  -- every number of the outcome is within document 01's bounds
+  pub outcome-small : SmallOutcome (outcome leastXThenY zeroFloors o (rulesOf es))
+  outcome-small =
+      subst SmallOutcome (walk-is-defined leastXThenY least-x-then-y-good zeroFloors o (rulesOf es) .outcome-defined)
       (said-small o (walk leastXThenY zeroFloors o (rulesOf es) .state)
       (walk-small leastXThenY zeroFloors zeroFloors-small o (rulesOf es) rules-small .state-small))
 
@@ -209,7 +190,7 @@ module _ (s : List ℕ) (chain : Chain) (v : Point) (h : panel.Best s chain v) w
   best-filling =
       record {
         few = chain-few s chain (h .chained);
-        point = best-small s (h .chained .objective) (h .chained .entries) (h .chained .accepts) v (h .best);
+        point = subst SmallOutcome (h .best) (outcome-small s (h .chained .objective) (h .chained .entries) (h .chained .accepts));
         small = subst (λ (c : Chain). (k : ℕ) → k < c .n → SmallConstraint (ruleFor s (c .records) k)) (sym (h .chained .chain)) (λ k less. small-of (ruleFor s (padded (map indexIn (h .chained .entries))) k) (rule-small s (h .chained .objective) (h .chained .entries) (h .chained .accepts) k less));
       }
 

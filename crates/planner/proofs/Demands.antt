@@ -21,6 +21,7 @@ use Rattle.book.specs.Reading.{refused, accepted, Entry, readOf}
 use Rattle.report.specs.declared.Answer.{Answer}
 use Rattle.report.specs.declared.Answer.the-variants.{Refused, Planned}
 use Rattle.report.specs.declared.Plan.{Plan}
+use Rattle.model.specs.Bounds.{SmallOutcome}
 use Rattle.theory.proofs.Ties.{least-x-then-y-good}
 use Rattle.theory.proofs.Farkas.{certificate-excludes}
 use Rattle.theory.proofs.Meaning.{outcome-order-free}
@@ -28,6 +29,7 @@ use Rattle.theory.proofs.Theorems.{infeasible-exactly, unbounded-exactly, optim
 use Rattle.theory.proofs.Words.{first-in-words, lawful-in-words}
 use Rattle.witness.specs.Witness.{coded}
 use Rattle.planner.proofs.Chains.{length-rules}
+use Rattle.planner.proofs.Amounts.{outcome-small}
 use Rattle.planner.proofs.Ordered.{InOrder, NoneTwice, rising-in-order, rising-none-twice}
 use Rattle.planner.proofs.Codes.{coded-apart, one-to-three}
 use Rattle.planner.proofs.Adding.{witness-adds-up}
@@ -103,6 +105,10 @@ module _ (s : List ℕ) (a : Answer) (promise : Answers s a) (o : Functional) (e
 
   pub direction-lawful : (u : Point) (d : Ray) → p .outcome ≡ outcome.Unbounded u d → LawfulDirection (rulesOf es) o d
   direction-lawful u d f = lawful-in-words (rulesOf es) o d (direction-given u d f .lawful-ray)
+
+  -- X and Y at most 65,534,000,000,000, D from 1 to 2,147,352,578; dx and dy at most 32,767
+  pub numbers-bounded : SmallOutcome (p .outcome)
+  numbers-bounded = subst SmallOutcome (sym (planned .outcome-defined)) (outcome-small s o es e)
 
   -- the place is the least k whose first k rules allow no pair
   pub place-given : p .outcome ≡ outcome.Infeasible → Placed leastXThenY least-x-then-y-good zeroFloors o (rulesOf es) (p .place)
