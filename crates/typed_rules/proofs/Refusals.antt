@@ -1,6 +1,7 @@
--- The refusals of a tree's value are 14 and 15, so 13 means that no lawful tree spells the text; and an accepted rule is within its limits.
-use mathlib.Core.Path.{_≡_, refl, ap, sym, _∙_}
-use mathlib.Core.Logic.{_⊎_, inl, inr}
+-- The refusals of a tree's value are 14 and 15, and an accepted rule is within its limits. So a text is accepted or refused 14 or 15 exactly if some lawful tree
+-- spells it, and refused 13 exactly if none does.
+use mathlib.Core.Path.{_≡_, refl, ap, sym, _∙_, subst}
+use mathlib.Core.Logic.{_⊎_, inl, inr, _↔_}
 use mathlib.Core.Bool.{Bool, true, false, _&&_}
 use mathlib.Core.List.{List}
 use Prim.Native.Nat.{ℕ, _≤_}
@@ -18,7 +19,7 @@ use Rattle.typed_rules.specs.Grammar as G
 use Rattle.typed_rules.specs.Grammar.{number, rate-x, rate-y, minus, group, factor, times, term, plus, less, at-most, at-least}
 use Rattle.typed_rules.specs.Value.{inside, limit, form, either, checked, decimal, numeral, constant, multiplied, mulForms, addForms, subForms, negated, sum, difference, product, combine, valueFactor, valueTerm, valueSide, kindOf, pickTyped, written, final, conclude, valueRule}
 use Rattle.typed_rules.specs.Parser.{answer}
-use Rattle.typed_rules.proofs.Language.{answered}
+use Rattle.typed_rules.proofs.Language.{answered, Reads, Refuses, language}
 
 abbrev pub Fault : ℕ → Type 0
 Fault n = (n ≡ 14) ⊎ (n ≡ 15)
@@ -139,6 +140,24 @@ thirteen (Rule w) h e = let z : _≡_ {A = ℕ} 0 1 = cc in omega arith
 thirteen (Refused n r) (inl h, k) e = let z : n ≡ 13 = cc in omega arith
 thirteen (Refused n r) (inr h, k) e = let z : n ≡ 13 = cc in omega arith
 
+-- ---- the language, in both directions
+
+-- what a lawful tree spells is accepted, or refused 14 or 15
+spelt-sound : (s : List ℕ) (r : G.Rule) → G.Lawful r → s ≡ G.spell r → Sound (answer s)
+spelt-sound s r l p = subst Sound (sym (ap answer p ∙ answered r l)) (value-sound r)
+
+-- accepted, or refused 14 or 15, exactly if some lawful tree spells the text
+pub read-exactly : (s : List ℕ) → Sound (answer s) ↔ ((r : G.Rule) × G.Lawful r × (s ≡ G.spell r))
+read-exactly s = ((λ h. tree h (language s)), (λ t. spelt-sound s (t .0) (t .1) (t .2)))
+  where
+    tree : Sound (answer s) → Reads s ⊎ Refuses s → (r : G.Rule) × G.Lawful r × (s ≡ G.spell r)
+    tree h (inl r) = (r .tree, r .lawful, r .text)
+    tree h (inr n) = absurd (thirteen (answer s) h (n .answer))
+
 -- 13 exactly if no lawful tree spells the text
-pub refused-13 : (s : List ℕ) → answer s ≡ Refused 13 0 → (r : G.Rule) → G.Lawful r → s ≡ G.spell r → ⊥
-refused-13 s e r l p = thirteen (valueRule r) (value-sound r) (sym (answered r l) ∙ ap answer (sym p) ∙ e)
+pub refused-13-exactly : (s : List ℕ) → (answer s ≡ Refused 13 0) ↔ ((r : G.Rule) → G.Lawful r → s ≡ G.spell r → ⊥)
+refused-13-exactly s = ((λ e r l p. thirteen (answer s) (spelt-sound s r l p) e), (λ none. refused none (language s)))
+  where
+    refused : ((r : G.Rule) → G.Lawful r → s ≡ G.spell r → ⊥) → Reads s ⊎ Refuses s → answer s ≡ Refused 13 0
+    refused none (inl r) = absurd (none (r .tree) (r .lawful) (r .text))
+    refused none (inr n) = n .answer
