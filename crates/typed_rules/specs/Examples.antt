@@ -29,6 +29,7 @@ examples =
     ∷ row "x-y-y>=0" (rule 2 (pos 1) (minus 2) (pos 0))
     ∷ row "0*-x*y<=1" (rule 1 (pos 0) (pos 0) (pos 1))
     ∷ row "x-2*y<=1" (rule 1 (pos 1) (minus 2) (pos 1))
+    ∷ row "x--y<=1" (rule 1 (pos 1) (pos 1) (pos 1))
     -- spaces before, between and after items, and not inside one
     ∷ row "  x  +  1  <=  1  " (rule 1 (pos 1) (pos 0) (pos 0))
     ∷ row "x< =1" (Refused 13 0)
@@ -50,8 +51,16 @@ examples =
     -- the limits of the final numbers and of the language
     ∷ row "32767*x<=0" (rule 1 (pos 32767) (pos 0) (pos 0))
     ∷ row "32768*x<=0" (Refused 15 0)
+    ∷ row "-32767*x<=0" (rule 1 (minus 32767) (pos 0) (pos 0))
+    ∷ row "-32768*x<=0" (Refused 15 0)
+    ∷ row "32767*y<=0" (rule 1 (pos 0) (pos 32767) (pos 0))
+    ∷ row "32768*y<=0" (Refused 15 0)
+    ∷ row "x-1000000000<=0" (rule 1 (pos 1) (pos 0) (pos 1000000000))
+    ∷ row "x-1000000000<=1" (Refused 15 0)
     ∷ row "((((((((x))))))))<=1" (rule 1 (pos 1) (pos 0) (pos 1))
     ∷ row "(((((((((x)))))))))<=1" (Refused 13 0)
     ∷ row "0000000001<=x" (rule 1 (minus 1) (pos 0) (minus 1))
     ∷ row "00000000001<=x" (Refused 13 0)
+    ∷ row "x+x+x+x+x+x+x+x+x+x+x+x+x+x+x+x+x+x+x+x+x+x+x+x+x+x+x+x+x+x+x+x+x+x+x+x+x+x+x+x+x+x+x+x+x+x+x+x+x+x+x+x+x+x+x+x+x+x<=000" (rule 1 (pos 58) (pos 0) (pos 0))
+    ∷ row "x+x+x+x+x+x+x+x+x+x+x+x+x+x+x+x+x+x+x+x+x+x+x+x+x+x+x+x+x+x+x+x+x+x+x+x+x+x+x+x+x+x+x+x+x+x+x+x+x+x+x+x+x+x+x+x+x+x<=0000" (Refused 13 0)
     ∷ []
