@@ -61,6 +61,7 @@ examples =
     ∷ row "(((((((((x)))))))))<=1" (Refused 13 0)
     ∷ row "0000000001<=x" (rule 1 (minus 1) (pos 0) (minus 1))
     ∷ row "00000000001<=x" (Refused 13 0)
-    ∷ row "x+x+x+x+x+x+x+x+x+x+x+x+x+x+x+x+x+x+x+x+x+x+x+x+x+x+x+x+x+x+x+x+x+x+x+x+x+x+x+x+x+x+x+x+x+x+x+x+x+x+x+x+x+x+x+x+x+x<=000" (rule 1 (pos 58) (pos 0) (pos 0))
-    ∷ row "x+x+x+x+x+x+x+x+x+x+x+x+x+x+x+x+x+x+x+x+x+x+x+x+x+x+x+x+x+x+x+x+x+x+x+x+x+x+x+x+x+x+x+x+x+x+x+x+x+x+x+x+x+x+x+x+x+x<=0000" (Refused 13 0)
+    -- 120 and 121 bytes
+    ∷ row "x<=                                                         1                                                           " (rule 1 (pos 1) (pos 0) (pos 1))
+    ∷ row "x<=                                                         1                                                            " (Refused 13 0)
     ∷ []
