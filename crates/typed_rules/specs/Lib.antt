@@ -1,6 +1,7 @@
--- What a reader must believe of typed rules: the language as trees and the texts that they spell (Grammar), the value of a tree (Value), and the parser that
--- the code equals (Parser), whose answer is shown in proofs/ to be the value of the one tree that spells the text. Texts with what they read as, spelt out
--- (Text, Examples). Contracts: what the readers promise.
+-- What a reader must believe of typed rules: the language as trees and the texts that they spell (Grammar), and the value of a tree (Value). What the code
+-- equals need not be believed: the parser (Parser), of which proofs/ show that it answers with the value of the one lawful tree that spells the text, or 13 where
+-- there is none; numbers that stop growing beyond the limit (Limits); what the private functions promise (Contracts). Texts with what they read as, spelt out (Text,
+-- Examples).
 pub mod Grammar
 pub mod Value
 pub mod Parser
