@@ -15,9 +15,13 @@ use Rattle.ints.proofs.Bits.{read}
 use Rattle.typed_rules.specs.declared.Form.{Form}
 use Rattle.typed_rules.specs.declared.Value.{Value}
 use Rattle.typed_rules.specs.declared.Value.the-variants.{Linear, Beyond}
+use Rattle.typed_rules.specs.declared.Pair.{Pair}
+use Rattle.typed_rules.specs.declared.Pair.the-variants.{Forms, First}
 use Rattle.typed_rules.specs.declared.Written.{Written}
-use Rattle.typed_rules.specs.Value.{inside, limit, form, checked, numeral, negForm, combine}
-use Rattle.typed_rules.specs.Contracts.{SmallForm, SmallForms, Small, Smalls, Valued}
+use Rattle.typed_rules.specs.declared.Typed.{Typed}
+use Rattle.typed_rules.specs.declared.Typed.the-variants.{Refused}
+use Rattle.typed_rules.specs.Value.{inside, limit, form, checked, numeral, negForm, combine, written, final, conclude}
+use Rattle.typed_rules.specs.Contracts.{SmallForm, SmallForms, Small, pairOf, SmallIn, Paired, Valued}
 
 -- ---- numbers
 
@@ -116,18 +120,35 @@ numeral-yes n z h e =
 pub small-form : {v : Value} {f : Form} → Small v → v ≡ Linear f → SmallForm f
 small-form {v} {f} h e = subst Small e h
 
-pub small-forms : {v w : Value} {f g : Form} → Smalls v w → v ≡ Linear f → w ≡ Linear g → SmallForms f g
-small-forms h e k = record { left = small-form (h .left) e; right = small-form (h .right) k }
+-- two operands, as a pair
 
-module _ (op : Form → Form → Value) (v w : Value) where
-  pub left-refused : {n : ℕ} → v ≡ Beyond n → Valued (combine op v w) (Beyond n)
-  left-refused e = record { same = rw e; small = tt }
+abbrev pub joined : {X : Type 0} → (Form → Form → X) → (ℕ → X) → Pair → X
+joined op stop (Forms f g) = op f g
+joined op stop (First n) = stop n
 
-  pub right-refused : {f : Form} {n : ℕ} → v ≡ Linear f → w ≡ Beyond n → Valued (combine op v w) (Beyond n)
-  right-refused e k = record { same = rw (e, k); small = tt }
+combine-pair : (op : Form → Form → Value) (v w : Value) → combine op v w ≡ joined op Beyond (pairOf v w)
+combine-pair op (Linear f) (Linear g) = refl
+combine-pair op (Linear f) (Beyond n) = refl
+combine-pair op (Beyond n) w = refl
 
-  pub both-forms : {f g : Form} {r : Value} → v ≡ Linear f → w ≡ Linear g → Valued (op f g) r → Valued (combine op v w) r
-  both-forms e k h = record { same = rw (e, k) (h .same); small = h .small }
+conclude-pair : (k : ℕ) (v w : Value) → conclude k v w ≡ joined (λ f g. final (written k f g)) (λ n. Refused n 0) (pairOf v w)
+unfolding conclude
+conclude-pair k (Linear f) (Linear g) = refl
+conclude-pair k (Linear f) (Beyond n) = refl
+conclude-pair k (Beyond n) w = refl
+
+module _ {v w : Value} {p : Pair} (x : Paired v w p) where
+  pub small-forms : {f g : Form} → p ≡ Forms f g → SmallForms f g
+  small-forms e = subst SmallIn e (x .small)
+
+  pub combined : (op : Form → Form → Value) {q : Pair} {r : Value} → p ≡ q → Valued (joined op Beyond q) r → Valued (combine op v w) r
+  combined op e h = same-value (sym (combine-pair op v w ∙ ap (joined op Beyond) (sym (x .same) ∙ e))) h
+
+  pub concluded : (k : ℕ) {q : Pair} {r : Typed} → p ≡ q → r ≡ joined (λ f g. final (written k f g)) (λ n. Refused n 0) q → r ≡ conclude k v w
+  concluded k e h = h ∙ sym (conclude-pair k v w ∙ ap (joined (λ f g. final (written k f g)) (λ n. Refused n 0)) (sym (x .same) ∙ e))
+
+pub refused : {n : ℕ} → Valued (Beyond n) (Beyond n)
+refused = record { same = refl; small = tt }
 
 pub turned-small : {f g : Form} → SmallForm f → g ≡ negForm f → SmallForm g
 turned-small {f} h e =

@@ -9,6 +9,8 @@ use Rattle.ints.specs.Within.{Within}
 use Rattle.typed_rules.specs.declared.Form.{Form}
 use Rattle.typed_rules.specs.declared.Value.{Value}
 use Rattle.typed_rules.specs.declared.Value.the-variants.{Linear, Beyond}
+use Rattle.typed_rules.specs.declared.Pair.{Pair}
+use Rattle.typed_rules.specs.declared.Pair.the-variants.{Forms, First}
 use Rattle.typed_rules.specs.declared.Lexed.{Lexed}
 use Rattle.typed_rules.specs.declared.Digits.{Digits}
 use Rattle.typed_rules.specs.declared.Step.{Step}
@@ -47,6 +49,20 @@ pub record SmallFour (p q s t : ℤ) : Type 0 where
   pub q-small : Within limit q
   pub s-small : Within limit s
   pub t-small : Within limit t
+
+-- the forms of two values, or the refusal of the first that has one
+abbrev pub pairOf : Value → Value → Pair
+pairOf (Linear f) (Linear g) = Forms f g
+pairOf (Linear f) (Beyond n) = First n
+pairOf (Beyond n) w = First n
+
+abbrev pub SmallIn : Pair → Type 0
+SmallIn (Forms f g) = SmallForms f g
+SmallIn (First n) = Unit {0}
+
+pub record Paired (v w : Value) (p : Pair) : Type 0 where
+  pub same : p ≡ pairOf v w
+  pub small : SmallIn p
 
 -- a value as said, and small
 pub record Valued (expected result : Value) : Type 0 where

@@ -1,15 +1,15 @@
 // Values: forms a·x + b·y + c whose numbers are at most 1,000,000,000 either way, or a refusal. Sums and products of such numbers stay within 64 bits.
 use crate::Form;
+use crate::Pair;
 use crate::Typed;
 use crate::Value;
 use crate::Written;
 ghost use mathlib.Core.Path.{_≡_};
 ghost use mathlib.Core.Bool.{_&&_};
-ghost use lib.Dec.{leb};
-ghost use lib.IntN.{pos, natAbs, _+ℤ_, _-ℤ_, _*ℤ_};
+ghost use lib.IntN.{pos, _+ℤ_, _-ℤ_, _*ℤ_};
 ghost use Rattle.ints.specs.Within.{Within};
 ghost use Rattle.typed_rules.specs.Value.{inside as insideOf, checked as checkedOf, numeral as numeralOf, addForms, subForms, mulForms, constant as constantOf, multiplied as multipliedOf, negForm, negated as negatedOf, sum as sumOf, difference as differenceOf, product as productOf, final as finalOf, written as writtenOf, conclude as concludeOf};
-ghost use Rattle.typed_rules.specs.Contracts.{SmallForm, SmallForms, Small, Smalls, SmallPair, SmallFour, Valued};
+ghost use Rattle.typed_rules.specs.Contracts.{SmallForm, SmallForms, Small, Smalls, SmallPair, SmallFour, Paired, Valued};
 
 fn inside(n: usize, z: i64) -> bool
     ensures { λ r. ⌜ r ≡ insideOf n z ⌝ }
@@ -107,16 +107,10 @@ fn subtracted(f: Form, g: Form) -> Value
     })
 }
 
-fn is_zero(z: i64) -> bool
-    ensures { λ r. ⌜ r ≡ leb (natAbs z) 0 ⌝ }
-{
-    inside(0, z)
-}
-
 fn constant(f: Form) -> bool
     ensures { λ r. ⌜ r ≡ constantOf f ⌝ }
 {
-    is_zero(f.a) && is_zero(f.b)
+    inside(0, f.a) && inside(0, f.b)
 }
 
 fn scaled(f: Form, g: Form) -> Value
@@ -155,7 +149,20 @@ fn turned(f: Form) -> Form
     }
 }
 
-// The operations on values. A refusal goes through: the left one's first, then the right one's, then the operation's own.
+// A refusal goes through an operation: the left one's first, then the right one's, then the operation's own.
+fn paired(v: Value, w: Value) -> Pair
+    requires { ⌜ Smalls v w ⌝ }
+    ensures { λ r. ⌜ Paired v w r ⌝ }
+{
+    match v {
+        Value::Beyond(n) => Pair::First(n),
+        Value::Linear(f) => match w {
+            Value::Beyond(n) => Pair::First(n),
+            Value::Linear(g) => Pair::Forms(f, g),
+        },
+    }
+}
+
 pub fn negated(v: Value) -> Value
     requires { ⌜ Small v ⌝ }
     ensures { λ r. ⌜ Valued (negatedOf v) r ⌝ }
@@ -170,12 +177,9 @@ pub fn sum(v: Value, w: Value) -> Value
     requires { ⌜ Smalls v w ⌝ }
     ensures { λ r. ⌜ Valued (sumOf v w) r ⌝ }
 {
-    match v {
-        Value::Beyond(n) => Value::Beyond(n),
-        Value::Linear(f) => match w {
-            Value::Beyond(n) => Value::Beyond(n),
-            Value::Linear(g) => added(f, g),
-        },
+    match paired(v, w) {
+        Pair::Forms(f, g) => added(f, g),
+        Pair::First(n) => Value::Beyond(n),
     }
 }
 
@@ -183,12 +187,9 @@ pub fn difference(v: Value, w: Value) -> Value
     requires { ⌜ Smalls v w ⌝ }
     ensures { λ r. ⌜ Valued (differenceOf v w) r ⌝ }
 {
-    match v {
-        Value::Beyond(n) => Value::Beyond(n),
-        Value::Linear(f) => match w {
-            Value::Beyond(n) => Value::Beyond(n),
-            Value::Linear(g) => subtracted(f, g),
-        },
+    match paired(v, w) {
+        Pair::Forms(f, g) => subtracted(f, g),
+        Pair::First(n) => Value::Beyond(n),
     }
 }
 
@@ -196,12 +197,9 @@ pub fn product(v: Value, w: Value) -> Value
     requires { ⌜ Smalls v w ⌝ }
     ensures { λ r. ⌜ Valued (productOf v w) r ⌝ }
 {
-    match v {
-        Value::Beyond(n) => Value::Beyond(n),
-        Value::Linear(f) => match w {
-            Value::Beyond(n) => Value::Beyond(n),
-            Value::Linear(g) => multiplied(f, g),
-        },
+    match paired(v, w) {
+        Pair::Forms(f, g) => multiplied(f, g),
+        Pair::First(n) => Value::Beyond(n),
     }
 }
 
@@ -239,11 +237,8 @@ pub fn conclude(kind: usize, v: Value, w: Value) -> Typed
     requires { ⌜ Smalls v w ⌝ }
     ensures { λ r. ⌜ r ≡ concludeOf kind v w ⌝ }
 {
-    match v {
-        Value::Beyond(n) => Typed::Refused(n, 0),
-        Value::Linear(f) => match w {
-            Value::Beyond(n) => Typed::Refused(n, 0),
-            Value::Linear(g) => finished(kind, f, g),
-        },
+    match paired(v, w) {
+        Pair::Forms(f, g) => finished(kind, f, g),
+        Pair::First(n) => Typed::Refused(n, 0),
     }
 }

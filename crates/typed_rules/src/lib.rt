@@ -20,6 +20,12 @@ pub enum Value {
     Beyond(usize),
 }
 
+// The operands of an operation: two forms, or the refusal that comes first.
+pub enum Pair {
+    Forms(Form, Form),
+    First(usize),
+}
+
 // The first byte that is no space, or 0 at the end; where it stands, and where the text goes on after it.
 pub struct Lexed {
     pub byte: u8,

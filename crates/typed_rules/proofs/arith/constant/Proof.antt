@@ -11,5 +11,5 @@ unfolding constant
 constant-spec =
     tie.close
     (tie.spec (λ c κs. search needs) (λ c κs. search needs)
-    (λ c. and-last (sym (inside-read 0 (c .before .before .before .before .before .args .f .a) (record { sfits = c .before .before .before .before .struct-told .given .0 .1 }) (c .before .before .before .is-zero .ensures)) ∙ c .before .before .if1 .taken) (inside-read 0 (c .before .before .before .before .before .args .f .b) (record { sfits = c .before .struct-told2 .given .1 .0 .1 }) (c .is-zero2 .ensures)))
-    (λ c. and-first (inside 0 (c .before .before .before .args .f .b)) (inside-read 0 (c .before .before .before .args .f .a) (record { sfits = c .before .before .struct-told .given .0 .1 }) (c .before .is-zero .ensures)) (c .if1 .left)))
+    (λ c. and-last (sym (inside-read 0 (c .before .before .before .before .before .args .f .a) (record { sfits = c .before .before .before .before .struct-told .given .0 .1 }) (c .before .before .before .inside .ensures)) ∙ c .before .before .if1 .taken) (inside-read 0 (c .before .before .before .before .before .args .f .b) (record { sfits = c .before .struct-told2 .given .1 .0 .1 }) (c .inside2 .ensures)))
+    (λ c. and-first (inside 0 (c .before .before .before .args .f .b)) (inside-read 0 (c .before .before .before .args .f .a) (record { sfits = c .before .before .struct-told .given .0 .1 }) (c .before .inside .ensures)) (c .if1 .left)))
