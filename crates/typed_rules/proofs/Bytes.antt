@@ -14,6 +14,7 @@ use Rattle.typed_rules.specs.Value.{limit, decimal, numeral}
 use Rattle.typed_rules.specs.Parser.{first, tail, digit, skip, run, past, pickNumber}
 use Rattle.typed_rules.specs.Limits.{grown, capped}
 use Rattle.typed_rules.specs.Contracts.{Skips, Lexes, Runs}
+use Rattle.typed_rules.proofs.Spaces.{skip-nil}
 
 pub here : (s : List ℕ) (i : ℕ) → i < length s → drop i s ≡ getD s i 0 ∷ drop (i + 1) s
 here s i h = drop-cons s i 0 h ∙ ap (λ (k : ℕ). getD s i 0 ∷ drop k s) (sym (add-one i))
@@ -58,14 +59,10 @@ skip-stop s at i h e k =
       high = k .high;
     }
 
-nothing-left : skip [] ≡ []
-unfolding skip
-nothing-left = refl
-
 pub skip-end : (s : List ℕ) (at i : ℕ) → length s ≤ i → Skipping s at i → Skips s at i
 skip-end s at i h k =
     record {
-      same = drop-of-length-le s h ∙ sym nothing-left ∙ sym (ap skip (drop-of-length-le s h)) ∙ k .same;
+      same = drop-of-length-le s h ∙ sym skip-nil ∙ sym (ap skip (drop-of-length-le s h)) ∙ k .same;
       low = k .low;
       high = k .high;
     }
@@ -191,12 +188,11 @@ run-end s at number i h k =
     stopped s at number i (ap run (drop-of-length-le s h) ∙ run-none)
     (ap past (drop-of-length-le s h) ∙ past-none ∙ sym (drop-of-length-le s h)) k
 
--- a digit is at least 48
-pub digit-low : (b : ℕ) → digit b ≡ true → 48 ≤ b
-digit-low b e = go (leb 48 b) refl e
+pub digit-range : (b : ℕ) → digit b ≡ true → (48 ≤ b) × (b ≤ 57)
+digit-range b e = go (leb 48 b) refl e
   where
-    go : (t : Bool) → leb 48 b ≡ t → t && leb b 57 ≡ true → 48 ≤ b
-    go true h e = leb-true 48 b h
+    go : (t : Bool) → leb 48 b ≡ t → t && leb b 57 ≡ true → (48 ≤ b) × (b ≤ 57)
+    go true h e = (leb-true 48 b h, leb-true b 57 e)
     go false h e = absurd (let z : _≡_ {A = ℕ} 0 1 = cc in omega arith)
 
 -- where the first byte is a digit, there is a digit

@@ -14,7 +14,7 @@ use Rattle.typed_rules.proofs.Bytes.{run-digit, past-digit, run-other, 
 use Rattle.typed_rules.proofs.Steps.{factor-digit, factor-x, factor-y, factor-minus, factor-group, factors-end, terms-end}
 use Rattle.typed_rules.proofs.Whole.{rule, right-got, relation-most, relation-least}
 use Rattle.typed_rules.proofs.Chain.{Chain, Begins, Joins, terms, sides, one-factor, one-term, by-star, by-plus, by-minus}
-use Rattle.typed_rules.proofs.Spaces.{lead-pad, skip-pad, skip-nil, lead-nil, first-end, skip-in, next-in, lead-in, length-pad, first-pad, in-pad, not-next}
+use Rattle.typed_rules.proofs.Spaces.{lead-pad, skip-pad, skip-nil, lead-nil, first-spaces, skip-in, next-in, lead-in, length-pad, first-pad, in-pad, not-next}
 
 -- ---- lengths
 
@@ -106,7 +106,7 @@ group-complete k d i a j q r e =
 -- ---- chains
 
 -- a whole read as far as its own last item, with fuel left for the rest
-pub record Runs {A B : Type 0} (c : Chain A B) (k d : ℕ) (s : List ℕ) (b : B) (r : List ℕ) : Type 0 where
+pub record ReadUpTo {A B : Type 0} (c : Chain A B) (k d : ℕ) (s : List ℕ) (b : B) (r : List ℕ) : Type 0 where
   pub fuel : ℕ
   pub same : c .whole-by k d s ≡ c .more (suc fuel) d b r
   pub enough : 3 * length r ≤ fuel
@@ -115,7 +115,7 @@ pub record Runs {A B : Type 0} (c : Chain A B) (k d : ℕ) (s : List ℕ) (b : B
 abbrev Takes : {A B : Type 0} → Chain A B → ℕ → List ℕ → A → List ℕ → Type 0
 Takes c d s a r = (m : ℕ) → 3 * length s + c .extra < m → c .item-by m d s ≡ got a r
 
-first-run : {A B : Type 0} {c : Chain A B} (o : Begins c) (k d : ℕ) (s : List ℕ) (a : A) (r : List ℕ) → 3 * length s + suc (c .extra) < k → length r ≤ length s → Takes c d s a r → Runs c k d s (c .one a) r
+first-run : {A B : Type 0} {c : Chain A B} (o : Begins c) (k d : ℕ) (s : List ℕ) (a : A) (r : List ℕ) → 3 * length s + suc (c .extra) < k → length r ≤ length s → Takes c d s a r → ReadUpTo c k d s (c .one a) r
 first-run o zero d s a r e l h = absurd (omega (arith, e))
 first-run o (suc zero) d s a r e l h = absurd (omega (arith, e))
 first-run {A} {c = c} o (suc (suc k)) d s a r e l h =
@@ -125,10 +125,10 @@ first-run {A} {c = c} o (suc (suc k)) d s a r e l h =
       enough = omega (arith, e, l);
     }
 
-next-run : {A B : Type 0} {c : Chain A B} {byte : ℕ} {join : B → ℕ → A → B} {op : Value → Value → Value} (j : Joins c byte join op) (k d : ℕ) (s : List ℕ) (b : B) (i : ℕ) (a : A) (q r : List ℕ) → Runs c k d s b (pad i (byte ∷ q)) → Takes c d q a r → length r ≤ length q → Runs c k d s (join b i a) r
+next-run : {A B : Type 0} {c : Chain A B} {byte : ℕ} {join : B → ℕ → A → B} {op : Value → Value → Value} (j : Joins c byte join op) (k d : ℕ) (s : List ℕ) (b : B) (i : ℕ) (a : A) (q r : List ℕ) → ReadUpTo c k d s b (pad i (byte ∷ q)) → Takes c d q a r → length r ≤ length q → ReadUpTo c k d s (join b i a) r
 next-run {A} {c = c} {byte = byte} {join = join} j k d s b i a q r x h l = go (x .fuel) (x .same) (x .enough)
   where
-    go : (m : ℕ) → c .whole-by k d s ≡ c .more (suc m) d b (pad i (byte ∷ q)) → 3 * length (pad i (byte ∷ q)) ≤ m → Runs c k d s (join b i a) r
+    go : (m : ℕ) → c .whole-by k d s ≡ c .more (suc m) d b (pad i (byte ∷ q)) → 3 * length (pad i (byte ∷ q)) ≤ m → ReadUpTo c k d s (join b i a) r
     go zero e g = absurd (omega (arith, g, length-pad i (byte ∷ q)))
     go (suc m) e g =
         record {
@@ -140,10 +140,10 @@ next-run {A} {c = c} {byte = byte} {join = join} j k d s b i a q r x h l = go (x
         }
 
 -- with what may follow, reading stops there
-term-stops : (k d : ℕ) (s : List ℕ) (t : Term) (r : List ℕ) → AfterTerm r → Runs terms k d s t r → termBy k d s ≡ got t r
+term-stops : (k d : ℕ) (s : List ℕ) (t : Term) (r : List ℕ) → AfterTerm r → ReadUpTo terms k d s t r → termBy k d s ≡ got t r
 term-stops k d s t r a x = x .same ∙ factors-end (x .fuel) d r t (a .no-star)
 
-side-stops : (k d : ℕ) (s : List ℕ) (a : Side) (r : List ℕ) → AfterSide r → Runs sides k d s a r → sideBy k d s ≡ got a r
+side-stops : (k d : ℕ) (s : List ℕ) (a : Side) (r : List ℕ) → AfterSide r → ReadUpTo sides k d s a r → sideBy k d s ≡ got a r
 side-stops k d s a r z x = x .same ∙ terms-end (x .fuel) d r a (z .no-plus) (z .no-minus)
 
 mutual
@@ -166,14 +166,14 @@ mutual
       (side-stops k d (spellSide s (pad j (41 ∷ r))) s (pad j (41 ∷ r)) (after-side j 41 r refl refl refl refl refl)
       (side-run s k d (pad j (41 ∷ r)) l (after-term j 41 r refl refl refl) (omega (arith, h, length-pad i (40 ∷ spellSide s (pad j (41 ∷ r)))))))
 
-  pub term-run : (t : Term) (k d : ℕ) (r : List ℕ) → LawfulTerm t d → digit (first r) ≡ false → 3 * length (spellTerm t r) + 1 < k → Runs terms k d (spellTerm t r) t r
+  pub term-run : (t : Term) (k d : ℕ) (r : List ℕ) → LawfulTerm t d → digit (first r) ≡ false → 3 * length (spellTerm t r) + 1 < k → ReadUpTo terms k d (spellTerm t r) t r
   term-run (factor f) k d r l e h = first-run one-factor k d (spellFactor f r) f r h (long-factor f r) (λ m g. factor-complete f m d r l e (omega (arith, g)))
   term-run (times t i f) k d r l e h =
       next-run by-star k d (spellTerm t (pad i (42 ∷ spellFactor f r))) t i f (spellFactor f r) r
       (term-run t k d (pad i (42 ∷ spellFactor f r)) (l .0) (first-pad i 42 (spellFactor f r) refl) h)
       (λ m g. factor-complete f m d r (l .1) e (omega (arith, g))) (long-factor f r)
 
-  pub side-run : (a : Side) (k d : ℕ) (r : List ℕ) → LawfulSide a d → AfterTerm r → 3 * length (spellSide a r) + 2 < k → Runs sides k d (spellSide a r) a r
+  pub side-run : (a : Side) (k d : ℕ) (r : List ℕ) → LawfulSide a d → AfterTerm r → 3 * length (spellSide a r) + 2 < k → ReadUpTo sides k d (spellSide a r) a r
   side-run (term t) k d r l z h =
       first-run one-term k d (spellTerm t r) t r h (long-term t r)
       (λ m g. term-stops m d (spellTerm t r) t r z (term-run t m d r l (z .no-digit) g))
@@ -203,7 +203,7 @@ lead-left n = lead-pad n [] lead-nil
 end-after : (n : ℕ) → AfterSide (pad n [])
 end-after n =
     record {
-      term = record { no-digit = first-end n; no-star = ap (λ (q : List ℕ). eqb (first q) 42) (none-left n) };
+      term = record { no-digit = first-spaces n; no-star = ap (λ (q : List ℕ). eqb (first q) 42) (none-left n) };
       no-plus = ap (λ (q : List ℕ). eqb (first q) 43) (none-left n);
       no-minus = ap (λ (q : List ℕ). eqb (first q) 45) (none-left n);
     }

@@ -3,6 +3,7 @@
 -- spells the text (Sound), every lawful tree is handed back (Spaces, Complete), and the answer is exact (Language), 13 for nothing else (Refusals); spaces say nothing
 -- (Bare). Texts and a tree that the checker computes (Examples).
 pub mod Values
+pub mod Spaces
 pub mod Bytes
 pub mod Steps
 pub mod Chain
@@ -11,7 +12,6 @@ pub mod Places
 pub mod Following
 pub mod Reading
 pub mod Whole
-pub mod Spaces
 pub mod Sound
 pub mod Complete
 pub mod Language

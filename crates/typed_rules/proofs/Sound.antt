@@ -1,8 +1,8 @@
 -- Soundness: what the parser hands back is a lawful tree, and the text is what the tree spells.
 use mathlib.Core.Path.{_≡_, refl, ap, _∙_}
-use mathlib.Core.Bool.{Bool, true, false, _&&_}
+use mathlib.Core.Bool.{Bool, true, false}
 use mathlib.Core.List.{List, [], _∷_, _++_}
-use Prim.Native.Nat.{ℕ, zero, suc, _+_, _*_, _≤_, _<_}
+use Prim.Native.Nat.{ℕ, zero, suc, _+_, _*_, _<_}
 use native.Mathlib.Omega.{arith}
 use lib.Dec.{leb, eqb}
 use lib.ListN.{length}
@@ -10,7 +10,7 @@ use borrow.Author.Tests.{leb-true, eqb-true}
 use Rattle.typed_rules.specs.declared.Value.{Value}
 use Rattle.typed_rules.specs.Grammar.{Factor, Term, Side, Relation, Rule, number, rate-x, rate-y, minus, group, at-most, at-least, pad, spellFactor, spellTerm, spellSide, spellRelation, spell, Digits, none, more, LawfulFactor, LawfulTerm, LawfulSide}
 use Rattle.typed_rules.specs.Parser.{Parsed, fail, got, bind, pickParsed, pickNumber, pickList, first, tail, digit, lead, skip, run, past, next, beyond, inner, closed, numberAt, factorBy, termBy, moreFactors, sideBy, moreTerms, sideOf, ended, rightOf, relationOf, parse}
-use Rattle.typed_rules.proofs.Bytes.{run-some}
+use Rattle.typed_rules.proofs.Bytes.{digit-range, run-some}
 use Rattle.typed_rules.proofs.Chain.{Chain, Begins, Joins, one-factor, one-term, by-star, by-plus, by-minus}
 use Rattle.typed_rules.proofs.Whole.{rule}
 
@@ -45,13 +45,6 @@ ran (b ∷ s) = go (digit b) (ran s)
     go true h = ap (λ (q : List ℕ). b ∷ q) h
     go false h = refl
 
-digit-range : (b : ℕ) → digit b ≡ true → (48 ≤ b) × (b ≤ 57)
-digit-range b e = go (leb 48 b) refl e
-  where
-    go : (t : Bool) → leb 48 b ≡ t → t && leb b 57 ≡ true → (48 ≤ b) × (b ≤ 57)
-    go true h e = (leb-true 48 b h, leb-true b 57 e)
-    go false h e = absurd (let z : _≡_ {A = ℕ} 0 1 = cc in omega arith)
-
 run-digits : (s : List ℕ) → Digits (run s)
 unfolding run
 run-digits [] = none
@@ -67,18 +60,18 @@ pub record Spelt {A : Type 0} (spelling : A → List ℕ → List ℕ) (lawful :
   pub text : s ≡ spelling a r
   pub law : lawful a
 
-abbrev pub Sound : {A : Type 0} → (A → List ℕ → List ℕ) → (A → Type 0) → List ℕ → Parsed A → Type 0
-Sound spelling lawful s fail = Unit {0}
-Sound spelling lawful s (got a r) = Spelt spelling lawful s a r
+abbrev pub SoundParse : {A : Type 0} → (A → List ℕ → List ℕ) → (A → Type 0) → List ℕ → Parsed A → Type 0
+SoundParse spelling lawful s fail = Unit {0}
+SoundParse spelling lawful s (got a r) = Spelt spelling lawful s a r
 
 abbrev pub SoundFactor : ℕ → List ℕ → Parsed Factor → Type 0
-SoundFactor d s p = Sound spellFactor (λ f. LawfulFactor f d) s p
+SoundFactor d s p = SoundParse spellFactor (λ f. LawfulFactor f d) s p
 
 abbrev pub SoundTerm : ℕ → List ℕ → Parsed Term → Type 0
-SoundTerm d s p = Sound spellTerm (λ t. LawfulTerm t d) s p
+SoundTerm d s p = SoundParse spellTerm (λ t. LawfulTerm t d) s p
 
 abbrev pub SoundSide : ℕ → List ℕ → Parsed Side → Type 0
-SoundSide d s p = Sound spellSide (λ a. LawfulSide a d) s p
+SoundSide d s p = SoundParse spellSide (λ a. LawfulSide a d) s p
 
 number-sound : (d : ℕ) (s : List ℕ) → digit (next s) ≡ true → SoundFactor d s (numberAt (lead s) (skip s))
 unfolding spellFactor LawfulFactor
@@ -131,10 +124,10 @@ branch Q false l r f g = g refl
 -- ---- chains
 
 abbrev SoundItem : {A B : Type 0} → Chain A B → ℕ → List ℕ → Parsed A → Type 0
-SoundItem c d s p = Sound (c .spell-item) (λ a. c .LawfulItem a d) s p
+SoundItem c d s p = SoundParse (c .spell-item) (λ a. c .LawfulItem a d) s p
 
 abbrev SoundWhole : {A B : Type 0} → Chain A B → ℕ → List ℕ → Parsed B → Type 0
-SoundWhole c d s p = Sound (c .spell-whole) (λ b. c .LawfulWhole b d) s p
+SoundWhole c d s p = SoundParse (c .spell-whole) (λ b. c .LawfulWhole b d) s p
 
 -- a reader of what follows that is sound after every whole
 abbrev SoundMore : {A B : Type 0} → Chain A B → ℕ → (B → List ℕ → Parsed B) → Type 0

@@ -35,10 +35,10 @@ pub lead-nil : lead [] ≡ 0
 unfolding lead
 lead-nil = refl
 
-pub first-end : (n : ℕ) → digit (first (pad n [])) ≡ false
+pub first-spaces : (n : ℕ) → digit (first (pad n [])) ≡ false
 unfolding pad
-first-end zero = refl
-first-end (suc n) = refl
+first-spaces zero = refl
+first-spaces (suc n) = refl
 
 pub lead-in : (i b : ℕ) (r : List ℕ) → eqb b 32 ≡ false → lead (pad i (b ∷ r)) ≡ i
 lead-in i b r e = lead-pad i (b ∷ r) (lead-byte b r e)

@@ -65,7 +65,7 @@ fn wide(b: u8) -> usize
 }
 
 // A number with a digit more. What is beyond the limit stays.
-pub fn grow(n: usize, b: u8) -> usize
+fn grow(n: usize, b: u8) -> usize
     requires { ⌜ 48 ≤ b ⌝ }
     ensures { λ r. ⌜ r ≡ grown n b ⌝ }
 {

@@ -4,7 +4,7 @@ use mathlib.Core.Path.{sym, _∙_}
 use Prim.Native.Nat.{_-_}
 use lib.ListN.{length}
 use borrow.Author.Needs.{needs}
-use Rattle.typed_rules.proofs.Bytes.{Running, run-start, run-more, run-stop, run-end, digit-low}
+use Rattle.typed_rules.proofs.Bytes.{Running, run-start, run-more, run-stop, run-end, digit-range}
 use Rattle.typed_rules.proofs.tokens.digits.Statement.{statement}
 use Rattle.typed_rules.proofs.tokens.digits.Tie as tie
 
@@ -24,7 +24,7 @@ digit-requires : tie.Need-digit-requires Inv-loop μ-loop
 digit-requires c κs = search needs
 
 grow-requires : tie.Need-grow-requires Inv-loop μ-loop
-grow-requires c κs = digit-low _ (sym (c .before .digit .ensures) ∙ c .if1 .taken)
+grow-requires c κs = digit-range _ (sym (c .before .digit .ensures) ∙ c .if1 .taken) .0
 
 add-i : tie.Need-add-i Inv-loop μ-loop
 add-i c = omega arith
