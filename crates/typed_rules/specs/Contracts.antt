@@ -16,7 +16,7 @@ use Rattle.typed_rules.specs.declared.Digits.{Digits}
 use Rattle.typed_rules.specs.declared.Step.{Step}
 use Rattle.typed_rules.specs.declared.Step.the-variants.{Got, Fail}
 use Rattle.typed_rules.specs.declared.Typed.{Typed}
-use Rattle.typed_rules.specs.Grammar.{Term, Side, Relation}
+use Rattle.typed_rules.specs.Grammar.{Side, Relation}
 use Rattle.typed_rules.specs.Value.{limit, decimal, numeral, negated, valueFactor, valueTerm, valueSide, kindOf}
 use Rattle.typed_rules.specs.Parser.{Parsed, fail, got, skip, run, past, next, beyond, bind, pickParsed, numberAt, factorBy, termBy, moreFactors, sideBy, moreTerms, relationOf, rightOf, judged}
 
@@ -115,30 +115,35 @@ Moved text low Fail = Unit {0}
 abbrev pub Enough : List ℕ → ℕ → ℕ → ℕ → Type 0
 Enough text at more k = 3 * (length text - at) + more < k
 
-pub record ReadsFactor (text : List ℕ) (at depth : ℕ) (r : Step) : Type 0 where
-  pub same : (k : ℕ) → Enough text at 0 k → valued valueFactor (factorBy k depth (drop at text)) ≡ view text r
+-- a reader of a part: `by` is the parser's, which needs so much fuel more, and `worth` the value of its tree
+pub record ReadsPart {A : Type 0} (worth : A → Value) (by : ℕ → ℕ → List ℕ → Parsed A) (more : ℕ) (text : List ℕ) (at depth : ℕ) (r : Step) : Type 0 where
+  pub same : (k : ℕ) → Enough text at more k → valued worth (by k depth (drop at text)) ≡ view text r
   pub moved : Moved text (suc at) r
 
-pub record ReadsTerm (text : List ℕ) (at depth : ℕ) (r : Step) : Type 0 where
-  pub same : (k : ℕ) → Enough text at 1 k → valued valueTerm (termBy k depth (drop at text)) ≡ view text r
-  pub moved : Moved text (suc at) r
+abbrev pub ReadsFactor : List ℕ → ℕ → ℕ → Step → Type 0
+ReadsFactor text at depth r = ReadsPart valueFactor factorBy 0 text at depth r
 
-pub record ReadsSide (text : List ℕ) (at depth : ℕ) (r : Step) : Type 0 where
-  pub same : (k : ℕ) → Enough text at 2 k → valued valueSide (sideBy k depth (drop at text)) ≡ view text r
-  pub moved : Moved text (suc at) r
+abbrev pub ReadsTerm : List ℕ → ℕ → ℕ → Step → Type 0
+ReadsTerm text at depth r = ReadsPart valueTerm termBy 1 text at depth r
+
+abbrev pub ReadsSide : List ℕ → ℕ → ℕ → Step → Type 0
+ReadsSide text at depth r = ReadsPart valueSide sideBy 2 text at depth r
 
 -- after a term or side whose value is v
 pub record Follows (text : List ℕ) (at : ℕ) (v : Value) : Type 0 where
   pub high : at ≤ length text
   pub small : Small v
 
-pub record ReadsFactors (text : List ℕ) (at depth : ℕ) (v : Value) (r : Step) : Type 0 where
-  pub same : (k : ℕ) → Enough text at 0 k → (t : Term) → valueTerm t ≡ v → valued valueTerm (moreFactors k depth t (drop at text)) ≡ view text r
+-- a reader of what follows a part of the value v
+pub record ReadsOn {A : Type 0} (worth : A → Value) (by : ℕ → ℕ → A → List ℕ → Parsed A) (text : List ℕ) (at depth : ℕ) (v : Value) (r : Step) : Type 0 where
+  pub same : (k : ℕ) → Enough text at 0 k → (a : A) → worth a ≡ v → valued worth (by k depth a (drop at text)) ≡ view text r
   pub moved : Moved text at r
 
-pub record ReadsTerms (text : List ℕ) (at depth : ℕ) (v : Value) (r : Step) : Type 0 where
-  pub same : (k : ℕ) → Enough text at 0 k → (a : Side) → valueSide a ≡ v → valued valueSide (moreTerms k depth a (drop at text)) ≡ view text r
-  pub moved : Moved text at r
+abbrev pub ReadsFactors : List ℕ → ℕ → ℕ → Value → Step → Type 0
+ReadsFactors text at depth v r = ReadsOn valueTerm moreFactors text at depth v r
+
+abbrev pub ReadsTerms : List ℕ → ℕ → ℕ → Value → Step → Type 0
+ReadsTerms text at depth v r = ReadsOn valueSide moreTerms text at depth v r
 
 -- ---- parts of the readers
 

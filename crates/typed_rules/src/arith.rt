@@ -149,7 +149,7 @@ fn turned(f: Form) -> Form
     }
 }
 
-// A refusal goes through an operation: the left one's first, then the right one's, then the operation's own.
+// The forms of two operands, or the refusal that goes through before the operation's own: the left one's first, then the right one's.
 fn paired(v: Value, w: Value) -> Pair
     requires { ⌜ Smalls v w ⌝ }
     ensures { λ r. ⌜ Paired v w r ⌝ }

@@ -7,10 +7,10 @@ use native.Mathlib.Nat.{pos-of-ne-zero}
 use native.Mathlib.Omega.{arith}
 use lib.ListN.{length}
 use borrow.Author.Needs.{needs}
-use Rattle.typed_rules.proofs.Chain.{by-plus, by-minus}
+use Rattle.typed_rules.proofs.Chain.{one-factor, one-term, by-star, by-plus, by-minus}
 use Rattle.typed_rules.proofs.Places.{small-step, placed, call-same, call-next, call-first, call-more, call-both}
 use Rattle.typed_rules.proofs.Reading.{reads-number, reads-x, reads-y, reads-minus, reads-deep, reads-group, reads-other}
-use Rattle.typed_rules.proofs.Following.{reads-term, term-fails, reads-side, side-fails, reads-times, times-fails, factors-stop, reads-joined, joined-fails, terms-stop}
+use Rattle.typed_rules.proofs.Following.{reads-whole, whole-fails, reads-joined, joined-fails, factors-stop, terms-stop}
 use mathlib.Core.List.{List}
 use borrow.Fn.Kind.{PK}
 use borrow.Fn.Kinds.{In}
@@ -110,8 +110,8 @@ pub +factor+factors+side+term+terms-spec : {M : Type 1} → statement M
     (λ c κs. call-both (c .before .before .before .before .before .before .before .before .args .text .now) (suc (c .before .before .before .before .before .before .lex .result .next)) (c .before .before .before .before .before .before .before .before .pre .1 .small) (c .before .w .given .1) (c .before .before .before .factor .ensures .moved))
     (λ c κs. call-more (c .before .before .before .before .before .before .before .lex .ensures) (c .before .before .w .given .1) (c .before .before .before .before .factor .ensures .moved) (c .before .before .before .before .before .before .before .before .before .pre .0) (omega (arith, c .before .before .before .before .before .if1 .taken)) (c .product .ensures .small))
     (λ c. search needs)
-    (λ c. reads-times (c .before .before .before .before .before .before .before .before .lex .ensures) (c .before .before .before .before .before .before .if1 .taken) (c .before .before .before .w .given .1) (c .before .before .before .before .before .factor .ensures) (c .before .product .ensures .same) (c .factors .ensures))
-    (λ c. times-fails (c .before .before .before .before .before .lex .ensures) (c .before .before .before .if1 .taken) (c .enum-told .given .1) (c .before .before .factor .ensures))
+    (λ c. reads-joined by-star (c .before .before .before .before .before .before .before .before .lex .ensures) (c .before .before .before .before .before .before .if1 .taken) (c .before .before .before .w .given .1) (c .before .before .before .before .before .factor .ensures) (c .before .product .ensures .same) (c .factors .ensures))
+    (λ c. joined-fails by-star (c .before .before .before .before .before .lex .ensures) (c .before .before .before .if1 .taken) (c .enum-told .given .1) (c .before .before .factor .ensures))
     (λ c. factors-stop (c .before .before .lex .ensures) (c .if1 .left) (c .before .before .before .before .pre .1)))
     -- side: a term and what follows
     (λ t. side-lts.spec (term-below t, term.Post, terms-below t, terms.Post) (at side-kinds.ps μ-side side.Pre t) side.Post
@@ -119,16 +119,16 @@ pub +factor+factors+side+term+terms-spec : {M : Type 1} → statement M
     (λ c. search needs)
     (λ c κs. call-first (c .before .before .before .before .before .args .text .now) (c .before .before .before .before .before .args .at) 2 (c .before .v .given .1) (c .before .before .before .term .ensures .moved) (c .before .before .before .before .before .pre .0))
     (λ c. search needs)
-    (λ c. reads-side (c .before .before .v .given .1) (c .before .before .before .before .term .ensures) (c .terms .ensures))
-    (λ c. side-fails (c .enum-told .given .1) (c .before .before .term .ensures)))
+    (λ c. reads-whole one-term (c .before .before .v .given .1) (c .before .before .before .before .term .ensures) (c .terms .ensures))
+    (λ c. whole-fails one-term (c .enum-told .given .1) (c .before .before .term .ensures)))
     -- term: a factor and what follows
     (λ t. term-lts.spec (factor-below t, factor.Post, factors-below t, factors.Post) (at term-kinds.ps μ-term term.Pre t) term.Post
     (λ c κs. call-same (c .before .args .text .now) (c .before .args .at) 0 (c .before .pre .0) (c .before .pre .1))
     (λ c. search needs)
     (λ c κs. call-first (c .before .before .before .before .before .args .text .now) (c .before .before .before .before .before .args .at) 1 (c .before .v .given .1) (c .before .before .before .factor .ensures .moved) (c .before .before .before .before .before .pre .0))
     (λ c. search needs)
-    (λ c. reads-term (c .before .before .v .given .1) (c .before .before .before .before .factor .ensures) (c .factors .ensures))
-    (λ c. term-fails (c .enum-told .given .1) (c .before .before .factor .ensures)))
+    (λ c. reads-whole one-factor (c .before .before .v .given .1) (c .before .before .before .before .factor .ensures) (c .factors .ensures))
+    (λ c. whole-fails one-factor (c .enum-told .given .1) (c .before .before .factor .ensures)))
     -- terms: a plus, a minus and what follows, or the end
     (λ t. terms-lts.spec
     (lex-reads.Asked, lex-reads.Learnt, term-below t, term.Post, sum-reads.Asked, sum-reads.Learnt, terms-below t, terms.Post, difference-reads.Asked, difference-reads.Learnt)
