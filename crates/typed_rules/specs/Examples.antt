@@ -61,7 +61,7 @@ examples =
     ∷ row "(((((((((x)))))))))<=1" (Refused 13 0)
     ∷ row "0000000001<=x" (rule 1 (minus 1) (pos 0) (minus 1))
     ∷ row "00000000001<=x" (Refused 13 0)
-    -- 120 and 121 bytes
+    -- 120 and 121 bytes, most of them spaces: of a row that takes far more steps the checker would not say in what it is wrong
     ∷ row "x<=                                                         1                                                           " (rule 1 (pos 1) (pos 0) (pos 1))
     ∷ row "x<=                                                         1                                                            " (Refused 13 0)
     ∷ []
