@@ -21,8 +21,13 @@ pub struct Ray {
 }
 
 impl Constraint {
+    /// How far a point is from the line, times d. Its sign decides, and nothing is reduced.
+    pub fn slack(&self, v: Point) -> i64 {
+        self.c * v.d - (self.a * v.x + self.b * v.y)
+    }
+
     pub fn broken_by(&self, v: Point) -> bool {
-        self.a * v.x + self.b * v.y > self.c * v.d
+        self.slack(v) < 0
     }
 
     /// The same line with its other side.
