@@ -1,24 +1,31 @@
-//! Reads the chain once into a flat array, floors first.
+//! Reads the chain once into a flat run of entries, floors first.
 
 use crate::plane::Constraint;
 
-pub const ROOM: usize = 257;
+/// Room for the floors and 30 rules, and for the floors and 255.
+pub const SHORT: usize = 32;
+pub const LONG: usize = 257;
 
-pub struct Chain {
+pub struct Chain<'a> {
     pub p: i64,
     pub q: i64,
     pub count: usize,
-    pub entries: [Constraint; ROOM],
-    pub records: [u8; ROOM],
+    pub entries: &'a mut [Constraint],
+    pub records: [u8; LONG],
 }
 
-impl Chain {
-    pub fn empty() -> Self {
-        let mut entries = [Constraint { a: 0, b: 0, c: 0 }; ROOM];
+impl<'a> Chain<'a> {
+    /// No rules: the floors alone, in a run that was cleared.
+    pub fn empty(entries: &'a mut [Constraint]) -> Self {
         entries[0].a = -1;
         entries[1].b = -1;
-        Chain { p: 0, q: 0, count: 2, entries, records: [0; ROOM] }
+        Chain { p: 0, q: 0, count: 2, entries, records: [0; LONG] }
     }
+}
+
+/// The entries that a book's chain can have at most: the floors, and a rule for each record after the header.
+pub fn entries(book: &[u8]) -> usize {
+    book.len() / 12 + 1
 }
 
 /// Fills the chain, or answers the number of the cause and the record.

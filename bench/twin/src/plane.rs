@@ -21,6 +21,8 @@ pub struct Ray {
 }
 
 impl Constraint {
+    pub const NONE: Self = Constraint { a: 0, b: 0, c: 0 };
+
     /// How far a point is from the line, times d. Its sign decides, and nothing is reduced.
     pub fn slack(&self, v: Point) -> i64 {
         self.c * v.d - (self.a * v.x + self.b * v.y)
