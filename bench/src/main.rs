@@ -21,7 +21,7 @@ const ROUND: f64 = 0.003;
 
 fn main() -> ExitCode {
     println!("Measured on {}; {ROUNDS} rounds of each; microseconds a book.\n", date::today());
-    println!("| chain | rules | planner | twin | ratio, median | ratio, least |");
+    println!("| chain | rules | planner | twin | ratio, median | ratio, shortest rounds |");
     println!("|---|---|---|---|---|---|");
     let mut rows = chains::SORTS.into_iter().flat_map(|sort| LENGTHS.map(|n| (sort, n)));
     if let Err(message) = rows.try_for_each(|((name, books), n)| row(name, books, n)) {
