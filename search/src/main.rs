@@ -45,7 +45,7 @@ fn run(seed: u64) -> Result<(), String> {
     let damaged = timed("DAMAGED", 20_000, |n| damaged_books(&mut tally, seed ^ 1 << 62, n))?;
     let shuffled = timed("ORDERS", 1_000, |n| orders(seed ^ 1 << 63, n))?;
     let panels = timed("PANELS", 20_000, |n| panel::panels(seed ^ 1 << 60, n))?;
-    let starts = timed("STARTS", 20_000, |n| starts(seed ^ 1 << 61, n))?;
+    let starts = timed("STARTS", 20_000, |n| starts(seed ^ 1 << 59, n))?;
     println!(
         "search: all right: {stored} stored books, {short} of 0 to 12 rules, {long} of 0 to 255, {damaged} damaged ({tally}), \
          {shuffled} in ten orders, {panels} panels, {starts} start pairs; SEED={seed}"
