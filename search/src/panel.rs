@@ -3,8 +3,8 @@
 use crate::book::{to_hex, Rule, Source, MOST_RULES};
 use crate::damage::damage;
 use crate::exact::{divisor, outcome, Line, Outcome, Pair};
-use crate::families::{hundred_books, source};
-use crate::program::printed;
+use crate::families::source;
+use crate::program::{inputs, printed};
 use crate::random::Random;
 use crate::read::{read, Accepted, Entry};
 use crate::{planner, stored};
@@ -106,12 +106,11 @@ fn random_book(random: &mut Random, i: u64) -> (&'static str, Vec<u8>) {
     (name, book)
 }
 
-/// The panel program on the stored panels, the stored books and some random books.
+/// The panel program on the stored panels and on what the plan program is run on.
 pub fn program(path: &str, seed: u64) -> Result<u64, String> {
     let mut random = Random::new(seed);
     let mut all = books();
-    all.extend(stored::books().into_iter().map(|s| (s.name, s.book)));
-    all.extend(hundred_books(&mut random));
+    all.extend(inputs(&mut random));
     for (name, book) in &all {
         judge(name, book, printed(path, book, random.below(book.len() + 1)))?;
     }

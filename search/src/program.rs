@@ -1,4 +1,4 @@
-//! The plan program's own path: a book on its standard input, in pieces, and one line on its standard output.
+//! The programs' own path: a book on standard input, in pieces, and what is printed on standard output; the plan program's lines judged.
 
 use crate::families::hundred_books;
 use crate::prefixes::Depth;
@@ -8,14 +8,20 @@ use crate::stored;
 use std::io::Write;
 use std::process::{Command, Stdio};
 
-/// Runs the program on the stored books, on inputs that are too long and on some random books.
-pub fn program(path: &str, seed: u64) -> Result<u64, String> {
+/// What every program is run on: the stored books, inputs that are too long, and some random books.
+pub fn inputs(random: &mut Random) -> Vec<(&'static str, Vec<u8>)> {
     let mut books: Vec<(&str, Vec<u8>)> = stored::books().into_iter().map(|s| (s.name, s.book)).collect();
     let longest = books.iter().map(|(_, book)| book).find(|book| book.len() == 3072).unwrap().clone();
     let longer = |more| ("longer than a book", [&longest[..], &vec![0; more]].concat());
     books.extend([1, 12, 3072, 70_000, 1_000_000].map(longer));
+    books.extend(hundred_books(random));
+    books
+}
+
+/// Runs the plan program on all inputs.
+pub fn program(path: &str, seed: u64) -> Result<u64, String> {
     let mut random = Random::new(seed);
-    books.extend(hundred_books(&mut random));
+    let books = inputs(&mut random);
     for (name, book) in &books {
         try_line(name, book, Depth::Every, printed(path, book, random.below(book.len() + 1)))?;
     }
