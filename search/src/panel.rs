@@ -90,7 +90,7 @@ fn stored_panels() -> Result<(), String> {
     for ((name, book), &(_, _, _, panel)) in books().iter().zip(PANELS) {
         judge(name, book, planner::panel(book))?;
         if right(book) != panel {
-            return Err(format!("mismatch: {name}: stored {panel}, searched {}", right(book)));
+            return Err(format!("mismatch: {name}: stored {panel}, searched {}\nbook    {}", right(book), to_hex(book)));
         }
     }
     Ok(())
