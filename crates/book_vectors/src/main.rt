@@ -2,12 +2,11 @@
 // A case is a name and a book, each after its length, and then the length of the output: two bytes for a length, low byte first.
 use io::print_decimal;
 use io::print_hex;
-
-// What the output holds before it is filled.
 ghost use mathlib.Core.Path.{_≡_};
 ghost use Prim.Native.Nat.{_<_, _^_};
 ghost use lib.ListN.{length};
 
+// What the output holds before it is filled.
 const BEFORE: u8 = 0xA5;
 
 fn number(n: u64) {
