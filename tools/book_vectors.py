@@ -71,8 +71,7 @@ def case(name, book, rooms=(4096,)):
         CASES.append((name if len(rooms) == 1 else f"{name}, room {room}", book, room))
 
 
-def edges():
-    one = header(1, 1) + rule(0)
+def header_edges():
     case("no bytes", b"")
     case("11 bytes", header(0, 0)[:11])
     case("12 bytes", header(0, 0))
@@ -91,6 +90,9 @@ def edges():
         book = bytearray(header(0, 0))
         book[byte] = 128
         case(f"header byte {byte} set", bytes(book))
+
+
+def link_edges():
     case("first link above the count", header(2, 1) + rule(0))
     case("first link at the count", header(2, 2) + rule(0) + rule(0))
     case("later link above the count", header(1, 2) + rule(2) + rule(3, label=1))
@@ -98,18 +100,29 @@ def edges():
     case("link to itself", header(1, 1) + rule(1))
     case("link to a visited record", header(1, 3) + rule(2) + rule(3, label=1) + rule(2, label=2))
     case("link to the first of a cycle", header(3, 3) + rule(3) + rule(1, label=1) + rule(2, label=2))
+
+
+def kind_edges():
     for kind in (0, 1, 2, 3, 255):
         case(f"kind {kind}", header(1, 1) + rule(0, kind=kind))
+
+
+def slope_edges():
     for a in (-32768, -32767, 32767):
         case(f"a of {a}", header(1, 1) + rule(0, a=a))
         case(f"b of {a}", header(1, 1) + rule(0, b=a))
+
+
+def bound_edges():
     for c in (1000000000, 1000000001, -1000000000, -1000000001, 2147483647, -2147483648):
         case(f"c of {c}", header(1, 1) + rule(0, c=c))
+
+
+def lawful():
     case("label 65535", header(1, 1) + rule(0, label=65535))
     case("kind 2 turned round", header(1, 1) + rule(0, a=-3, b=4, c=-5, kind=2))
     case("a rule without slope", header(1, 1) + rule(0, a=0, b=0, c=-1))
     case("the whole case of document 01", bytes.fromhex("020101000100020000000000" "0001030001000B0009000000" "010101000200" "0A0008000000"))
-    return one
 
 
 def pairs():
@@ -212,7 +225,12 @@ def show(name, book, room):
 
 
 def main():
-    edges()
+    header_edges()
+    link_edges()
+    kind_edges()
+    slope_edges()
+    bound_edges()
+    lawful()
     pairs()
     labels()
     spare()
