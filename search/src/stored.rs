@@ -1,5 +1,5 @@
 //! Stored books with the line each must print, the witness as *: class examples, students' slips, edges, and every cause that turns a
-//! book back on both sides of its boundary.
+//! book back, but the repacker's 11, on both sides of its boundary.
 
 use crate::book::{from_hex, Rule, Source};
 
@@ -59,6 +59,9 @@ const BOOKS: &[Row] = &[
         "best 65533999967233 1999967233 2147287044 0 2",
     ),
     ("edge: objective of -32,767", (-32767, 32767), &[(1, 0, 1, 1)], "best 0 1 1 0 1"),
+    ("edge: q of -32,767", (32767, -32767), &[(1, 1, 0, 1)], "best 1 0 1 0 1"),
+    ("edge: c of -1,000,000,000", (-1, 0), &[(1, -1, 0, -1_000_000_000)], "best 1000000000 0 1 1 0"),
+    ("edge: c of -1,000,000,000, kind 2", (-1, -1), &[(2, 1, 1, -1_000_000_000)], "best 0 0 1 0 0"),
     ("4: p is -32,768", (-32768, 0), &[], "refused 4 0"),
     ("4: q is -32,768", (0, -32768), &[], "refused 4 0"),
     ("8: kind 0", (0, 0), &[(1, 0, 0, 0), (0, 0, 0, 0)], "refused 8 2"),
@@ -76,16 +79,24 @@ const BYTES: &[(&str, &str, &str)] = &[
     ("1: no bytes", "", "refused 1 0"),
     ("1: 11 bytes", "0001000000000000000000", "refused 1 0"),
     ("1: 13 bytes", "00010000000000000000000000", "refused 1 0"),
+    ("1: before 2", "00020000000000000000000000", "refused 1 0"),
     ("2: version 0", "000000000000000000000000", "refused 2 0"),
     ("2: version 2 before 3, 4 and 5", "000200800000070000000001", "refused 2 0"),
     ("3: count too large", "000100000000010000000000", "refused 3 0"),
     ("3: count too large by 256, before 4", "000100800000000100000000", "refused 3 0"),
+    ("3: count too small", "010100000000010000000000 000100000000070000000000 000100000000080000000000", "refused 3 0"),
     ("4: before 5", "000100800000000000000001", "refused 4 0"),
+    ("5: the first byte", "000100000000000001000000", "refused 5 0"),
+    ("5: the second byte", "000100000000000000010000", "refused 5 0"),
+    ("5: the third byte", "000100000000000000000100", "refused 5 0"),
     ("5: the last byte", "000100000000000000000001", "refused 5 0"),
+    ("5: before 6", "010100000000000000000080", "refused 5 0"),
     ("6: the first link", "010100000000000000000000", "refused 6 0"),
     ("6: a rule's link", "010100000000010000000000 020100000000000000000000", "refused 6 1"),
     ("7: a record leads to itself", "010100000000010000000000 010100000000000000000000", "refused 7 1"),
     ("7: round", "020100000000020000000000 020100000000010000000000 010100000000000000000000", "refused 7 1"),
+    ("8: before the 6 of its link", "010100000000010000000000 090300000000070000000000", "refused 8 1"),
+    ("9: before the 7 of its link", "010100000000010000000000 010100800000070000000000", "refused 9 1"),
     ("10 before 7 in one record", "010100000000010000000000 01010000000000000000ff7f", "refused 10 1"),
     ("12: neighbours", "010100000000020000000000 020100000000070000000000 000100000000070000000000", "refused 12 2"),
     (
