@@ -1,4 +1,4 @@
-//! Prints the times of planners as a table, for three sorts of chains and three lengths, and the first one's as a ratio to the second's.
+//! Prints the times of planners as a table, for three sorts of chains and three lengths, and the first one's as a ratio to each other one's.
 //! The median of the ratios of neighbouring rounds is the verdict; the ratio of the shortest rounds is nearly free of what else the machine
 //! does.
 
@@ -15,10 +15,11 @@ const LENGTHS: [usize; 3] = [16, 64, 255];
 
 /// Planners by name, and the table of their times.
 pub fn table<const N: usize>(planners: [(&str, Planner); N]) -> ExitCode {
-    let names = planners.map(|(name, _)| name).join(" | ");
+    let names = planners.map(|(name, _)| name);
+    let ratios: String = names[1..].iter().map(|name| format!(" to {name}, median | shortest rounds |")).collect();
     println!("Measured on {}; {ROUNDS} rounds of each; microseconds a book.\n", date::today());
-    println!("| chain | rules | {names} | ratio, median | ratio, shortest rounds |");
-    println!("|---|---|{}---|---|", "---|".repeat(N));
+    println!("| chain | rules | {} |{ratios}", names.join(" | "));
+    println!("|---|---|{}", "---|".repeat(3 * N - 2));
     let planners = planners.map(|(_, plan)| plan);
     let mut rows = chains::SORTS.into_iter().flat_map(|sort| LENGTHS.map(|n| (sort, n)));
     if let Err(message) = rows.try_for_each(|((name, books), n)| row(name, books, n, planners)) {
@@ -35,9 +36,14 @@ fn row<const N: usize>(name: &str, books: Books, n: usize, planners: [Planner; N
         return Err(format!("the planners print different lines for a chain of {n} rules: {name}"));
     }
     let times = measure(planners, &books);
-    let ratios = times[0].iter().zip(&times[1]).map(|(one, two)| one / two).collect();
-    let shortest = least(&times[0]) / least(&times[1]);
+    let ratios: String = times[1..].iter().map(|other| ratio(&times[0], other)).collect();
     let medians = times.map(|list| format!("{:.2}", median(list))).join(" | ");
-    println!("| {name} | {n} | {medians} | {:.2} | {shortest:.2} |", median(ratios));
+    println!("| {name} | {n} | {medians} |{ratios}");
     Ok(())
+}
+
+/// The median of the ratios of neighbouring rounds, and the ratio of the shortest rounds.
+fn ratio(first: &[f64], other: &[f64]) -> String {
+    let ratios = first.iter().zip(other).map(|(one, two)| one / two).collect();
+    format!(" {:.2} | {:.2} |", median(ratios), least(first) / least(other))
 }

@@ -78,7 +78,7 @@ mod tests {
     fn another_line_is_noticed() {
         let silent: Planner = |_, _| 0;
         let books = [vec![0; 12]];
-        assert!(same_lines(&[twin::plan_line, twin::plan_line], &books));
+        assert!(same_lines(&[twin::plan_line, twin::tuned_line], &books));
         assert!(!same_lines(&[twin::plan_line, twin::plan_line, silent], &books));
     }
 }

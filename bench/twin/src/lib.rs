@@ -11,22 +11,28 @@ mod walk;
 use book::{Chain, LONG, SHORT};
 use plane::Constraint;
 
-/// Writes the book's line at the start of `out` and returns its length. A run for two floors and 255 rules is long to clear, so short
-/// books have a short one, as in the planner.
+/// Writes the book's line at the start of `out` and returns its length, as one would write it.
 #[inline(never)]
 pub fn plan_line(book: &[u8], out: &mut [u8]) -> usize {
+    plan_in::<false>(book, &mut [Constraint::NONE; LONG], out)
+}
+
+/// The same with the planner's shortcuts: a run for two floors and 255 rules is long to clear, so short books have a short one, and a point
+/// is divided in another order.
+#[inline(never)]
+pub fn tuned_line(book: &[u8], out: &mut [u8]) -> usize {
     if book::entries(book) <= SHORT {
-        plan_in(book, &mut [Constraint::NONE; SHORT], out)
+        plan_in::<true>(book, &mut [Constraint::NONE; SHORT], out)
     } else {
-        plan_in(book, &mut [Constraint::NONE; LONG], out)
+        plan_in::<true>(book, &mut [Constraint::NONE; LONG], out)
     }
 }
 
 /// Plans a book with its entries in a run that has room for them.
-fn plan_in(book: &[u8], entries: &mut [Constraint], out: &mut [u8]) -> usize {
+fn plan_in<const TUNED: bool>(book: &[u8], entries: &mut [Constraint], out: &mut [u8]) -> usize {
     let mut chain = Chain::empty(entries);
     match book::read(book, &mut chain) {
-        Ok(()) => line::answer(&walk::walk(&chain), &chain, out),
+        Ok(()) => line::answer(&walk::walk::<TUNED>(&chain), &chain, out),
         Err((number, record)) => line::refused(number, record, out),
     }
 }

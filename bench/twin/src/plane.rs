@@ -53,8 +53,10 @@ impl Constraint {
 }
 
 impl Point {
-    pub fn reduced(self) -> Self {
-        let g = gcd(gcd(self.x.unsigned_abs(), self.y.unsigned_abs()), self.d.unsigned_abs()) as i64;
+    /// In lowest terms. Tuned, x and d go first, whose first remainder is already small.
+    pub fn reduced<const TUNED: bool>(self) -> Self {
+        let (x, y, d) = (self.x.unsigned_abs(), self.y.unsigned_abs(), self.d.unsigned_abs());
+        let g = if TUNED { gcd(y, gcd(x, d)) } else { gcd(gcd(x, y), d) } as i64;
         Point { x: self.x / g, y: self.y / g, d: self.d / g }
     }
 }

@@ -29,7 +29,7 @@ struct Cone {
     empty: bool,
 }
 
-pub fn walk(chain: &Chain) -> Answer {
+pub fn walk<const TUNED: bool>(chain: &Chain) -> Answer {
     let (p, q) = (chain.p, chain.q);
     let origin = Point { x: 0, y: 0, d: 1 };
     let mut start = origin;
@@ -43,7 +43,7 @@ pub fn walk(chain: &Chain) -> Answer {
         let moved = ray.is_none() && h.broken_by(best);
         moves += usize::from(moved);
         if h.broken_by(start) {
-            match restart(earlier, h) {
+            match restart::<TUNED>(earlier, h) {
                 Ok(v) => start = v,
                 Err(witness) => return Answer { outcome: Outcome::Impossible { place: m - 1, witness }, moves, open },
             }
@@ -55,7 +55,7 @@ pub fn walk(chain: &Chain) -> Answer {
             open += usize::from(ray.is_some());
         }
         if moved || (was_open && ray.is_none()) {
-            best = tightest(earlier, upward(h, p, q)).0.reduced();
+            best = tightest(earlier, upward(h, p, q)).0.reduced::<TUNED>();
         }
     }
     let outcome = match ray {
@@ -66,14 +66,14 @@ pub fn walk(chain: &Chain) -> Answer {
 }
 
 /// The new start point on the line of h, or a certificate that there is none.
-fn restart(earlier: &[Constraint], h: Constraint) -> Result<Point, Witness> {
+fn restart<const TUNED: bool>(earlier: &[Constraint], h: Constraint) -> Result<Point, Witness> {
     let m = earlier.len();
     if h.a == 0 && h.b == 0 {
         return Err(Witness { entries: [m, 0, 0], weights: [1, 0, 0] });
     }
     let (v, j) = tightest(earlier, upward(h, 0, 0));
     match earlier.iter().position(|k| k.broken_by(v)) {
-        None => Ok(v.reduced()),
+        None => Ok(v.reduced::<TUNED>()),
         Some(k) => Err(certificate(earlier, h, j, k)),
     }
 }

@@ -9,7 +9,7 @@ use mir.Val.{SFits, toZ}
 use mir.Facts.{toZ-ofZ}
 use Rattle.ints.specs.Within.{Within}
 use Rattle.ints.specs.Gcd.{gcd, gcd2, gcd3}
-use Rattle.ints.proofs.Gcd.{gcd-zero, gcd-le-right, gcd-pos-right, gcd3-le, gcd3-pos}
+use Rattle.ints.proofs.Gcd.{gcd-zero, gcd-comm, gcd-assoc, gcd-le-right, gcd-pos-right, gcd3-le, gcd3-pos}
 use Rattle.ints.proofs.Machine.{within-fits, within-read, within-quot, weaken}
 use Rattle.ints.proofs.Divides.{natAbs-pos}
 use Rattle.lp.specs.declared.Point.{Point}
@@ -38,14 +38,15 @@ gcd-small m (suc n) h k = omega (arith, gcd-le-right m (suc n) (omega arith))
 
 -- ---- the divisor of a point, and of a ray
 
--- from the magnitudes that it is worked out from
-module _ {v : Point} (h : SmallPoint v) {mx my mxy md g : ℕ} where
-  pub point-divisor : mx ≡ natAbs (read (v .x)) → my ≡ natAbs (read (v .y)) → mxy ≡ gcd mx my → md ≡ natAbs (read (v .d)) → g ≡ gcd mxy md → g ≡ gcd3 (v .x) (v .y) (v .d)
-  point-divisor ex ey exy ed eg =
+-- from the magnitudes that it is worked out from, y's last
+module _ {v : Point} (h : SmallPoint v) {mx my md mxd g : ℕ} where
+  pub point-divisor : my ≡ natAbs (read (v .y)) → mx ≡ natAbs (read (v .x)) → md ≡ natAbs (read (v .d)) → mxd ≡ gcd mx md → g ≡ gcd my mxd → g ≡ gcd3 (v .x) (v .y) (v .d)
+  point-divisor ey ex ed exd eg =
       eg
-      ∙ ap₂ gcd
-      (exy ∙ ap₂ gcd (ex ∙ ap natAbs (within-unread (h .x-small) tt)) (ey ∙ ap natAbs (within-unread (h .y-small) tt)))
-      (ed ∙ ap natAbs (within-unread (h .d-small) tt))
+      ∙ ap₂ gcd (ey ∙ ap natAbs (within-unread (h .y-small) tt))
+      (exd ∙ ap₂ gcd (ex ∙ ap natAbs (within-unread (h .x-small) tt)) (ed ∙ ap natAbs (within-unread (h .d-small) tt)))
+      ∙ sym (gcd-assoc (natAbs (v .y)) (natAbs (v .x)) (natAbs (v .d)))
+      ∙ ap (λ m. gcd m (natAbs (v .d))) (gcd-comm (natAbs (v .y)) (natAbs (v .x)))
 
 module _ {d : Ray} (h : SmallRay d) {mx my g : ℕ} where
   pub ray-divisor : mx ≡ natAbs (read (d .dx)) → my ≡ natAbs (read (d .dy)) → g ≡ gcd mx my → g ≡ gcd2 (d .dx) (d .dy)

@@ -26,12 +26,12 @@ fn quotient(z: i64, g: u64) -> i64
     z / (g as i64)
 }
 
-// What divides a point's three numbers.
+// What divides a point's three numbers. The first remainder of x by d is already small, where x and y are both large.
 fn point_divisor(v: Point) -> u64
     requires { ⌜ SmallPoint v ⌝ }
     ensures { λ g. ⌜ g ≡ gcd3 (v .x) (v .y) (v .d) ⌝ }
 {
-    divisor(divisor(magnitude(v.x), magnitude(v.y)), magnitude(v.d))
+    divisor(magnitude(v.y), divisor(magnitude(v.x), magnitude(v.d)))
 }
 
 pub fn reduce(v: Point) -> Point

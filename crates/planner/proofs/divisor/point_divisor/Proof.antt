@@ -6,7 +6,7 @@ use Rattle.planner.proofs.divisor.point_divisor.Tie as tie
 
 returns : tie.Need-returns
 returns c =
-    point-divisor (c .before .before .before .before .before .before .before .before .pre) (c .before .before .before .before .before .before .magnitude .ensures) (c .before .before .before .before .magnitude2 .ensures) (c .before .before .before .divisor .ensures) (c .before .magnitude3 .ensures)
+    point-divisor (c .before .before .before .before .before .before .before .before .pre) (c .before .before .before .before .before .before .magnitude .ensures) (c .before .before .before .before .magnitude2 .ensures) (c .before .before .magnitude3 .ensures) (c .before .divisor .ensures)
     (c .divisor2 .ensures)
 
 pub point-divisor-spec : {M : Type 1} → statement M
