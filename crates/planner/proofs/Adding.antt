@@ -45,7 +45,7 @@ module _ (value : ℕ → ℤ) where
     one e (pos (suc n)) l = more (entry e (pos (suc n))) l
     one e (negsuc n) l = more (entry e (negsuc n)) l
 
-    pub sum-of-three : (k : Certificate) → sum (named k) ≡ three k
+    sum-of-three : (k : Certificate) → sum (named k) ≡ three k
     sum-of-three k =
         one (k .first) (k .«first_weight») (weighted (k .second) (k .«second_weight») ++ last)
         ∙ ap (λ z. k .«first_weight» *ℤ value (k .first) +ℤ z) (one (k .second) (k .«second_weight») last
@@ -67,7 +67,7 @@ module _ (value : ℕ → ℤ) where
       ring 3 (λ x y z. x ⊕ (z ⊕ (y ⊕ con (pos 0))) ≐ x ⊕ (y ⊕ (z ⊕ con (pos 0)))) refl (k .«first_weight» *ℤ value (k .first)) (k .«second_weight» *ℤ value (k .second)) (k .«third_weight» *ℤ value (k .third))
       ∙ e
 
-  pub rising-sum : (k : Certificate) → three (rising k) ≡ three k
+  rising-sum : (k : Certificate) → three (rising k) ≡ three k
   rising-sum k = rising-keeps (λ c. three c ≡ three k) (first-sum (three k)) (last-sum (three k)) k refl
 
 -- an entry under its code adds what it adds under its index
@@ -83,7 +83,7 @@ module _ (records : List ℕ) (value value′ : ℕ → ℤ) where
           let u : Used w = subst (λ b. T (not b)) (sym q) tt in
           ap (λ c. w *ℤ value′ c) (code-used records e w u) ∙ ap (λ z. w *ℤ z) (same u)
 
-  pub coded-sum : (k : Certificate) → Slots (λ e w. value′ (codeAt records e) ≡ value e) k → three value′ (coded records k) ≡ three value k
+  coded-sum : (k : Certificate) → Slots (λ e w. value′ (codeAt records e) ≡ value e) k → three value′ (coded records k) ≡ three value k
   coded-sum k same =
       ap₂ (λ x y. x +ℤ y) (same-product (k .first) (k .«first_weight») (same .first))
       (ap₂ (λ x y. x +ℤ y) (same-product (k .second) (k .«second_weight») (same .second))
