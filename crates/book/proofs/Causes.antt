@@ -217,6 +217,14 @@ module _ (L : Layout) (s : List ℕ) where
   pub count-small : headerFault L s ≡ 0 → countOf L s < L .records
   count-small e = walked-count (header-good e)
 
+  -- and it is as many as there are records after the header
+  pub count-is : headerFault L s ≡ 0 → countOf L s ≡ length s / width L - 1
+  count-is e = eq-of (countOf L s) (length s / width L - 1) (λ h. right (header-good e) (differs h))
+    where
+      right : {done : List ℕ} {at : ℕ} → Walked L s done at → WrongCount L s → ⊥
+      right (header a b c d f) = c
+      right (visit w i e z h m ka kb kc q) = right w
+
   -- what a book reads as is what the table says of it
   pub reading-meets : Meets L s (readOf L s)
   reading-meets =

@@ -1,5 +1,5 @@
 -- The table of labels: a bit that is set changes no other bit, so the table says of each label whether it stands in the list of those met.
-use Prim.Native.Nat.{ℕ, zero, suc, _+_, _-_, _*_, _/_, _%_, _^_, _<_}
+use Prim.Native.Nat.{ℕ, zero, suc, _+_, _-_, _*_, _/_, _%_, _^_, _≤_, _<_}
 use mathlib.Core.Path.{_≡_, refl, sym, ap, _∙_, subst, subst⁻¹}
 use mathlib.Core.Bool.{false}
 use mathlib.Core.List.{List, [], _∷_, _++_}
@@ -7,12 +7,12 @@ use native.Mathlib.Omega.{arith}
 use native.Mathlib.Decide.{ℕ-discrete, decLt}
 use native.Mathlib.Nat.{pow-suc, div-lt-iff-lt-mul, div-div-eq-div-mul, add-div-right, add-mul-div-right, zero-div, one-mul}
 use borrow.Author.Tests.{eq-eqb, ne-eqb, eqb-false}
-use lib.ListN.{length, getD, set, replicate, length-set, length-replicate}
+use lib.ListN.{length, getD, set, replicate, length-set, length-replicate, List·getD-eq-default}
 use lib.Seq.{getD-set-same, getD-set-other}
 use lib.Pow.{pow-pos, pow-add, shl-exact}
 use lib.Dec.{eqb, lit<}
 use Rattle.book.specs.Reading.{memb}
-use Rattle.book.specs.Labels.{isNoted, noting, Unnoted}
+use Rattle.book.specs.Labels.{isNoted, noting}
 use Rattle.book.proofs.Members.{memb-snoc, or-false, or-true}
 
 -- ---- a bit of a word
@@ -77,6 +77,14 @@ clear-bit t l e =
 
 -- ---- the table
 
+no-bit : (k : ℕ) → eqb (0 / 2 ^ k % 2) 1 ≡ false
+no-bit k = rw (zero-div (2 ^ k))
+
+-- a label beyond it was not met
+pub noted-out : (t : List ℕ) (l : ℕ) → length t ≤ l / 64 → isNoted t l ≡ false
+unfolding isNoted
+noted-out t l h = ap (λ w. eqb (w / 2 ^ (l % 64) % 2) 1) (List·getD-eq-default t 0 {n = l / 64} h) ∙ no-bit (l % 64)
+
 -- the labels noted are those met
 pub record Noted (t : List ℕ) (met : List ℕ) : Type 0 where
   pub size : length t ≡ 1024
@@ -88,9 +96,6 @@ zeros zero i = refl
 zeros (suc n) zero = refl
 zeros (suc n) (suc i) = zeros n i
 
-no-bit : (k : ℕ) → eqb (0 / 2 ^ k % 2) 1 ≡ false
-no-bit k = rw (zero-div (2 ^ k))
-
 pub noted-start : Noted (replicate 1024 0) []
 unfolding memb isNoted
 noted-start =
@@ -101,9 +106,6 @@ noted-start =
     }
 
 module _ {t met : List ℕ} (n : Noted t met) (l : ℕ) (h : l < 65536) (new : isNoted t l ≡ false) where
-  pub noted-new : Unnoted t l
-  noted-new = record { size = n .size; words = n .words; new = new }
-
   word : ℕ
   word = getD t (l / 64) 0
 

@@ -7,6 +7,7 @@ pub mod LabelSize
 pub mod Members
 pub mod LabelTable
 pub mod Walking
+pub mod Leading
 pub mod Decided
 pub mod Causes
 pub mod Packed

@@ -8,17 +8,17 @@ use native.Mathlib.Omega.{arith}
 use native.Mathlib.Nat.{le-of-suc-le-suc}
 use native.Mathlib.Decide.{ℕ-discrete}
 use borrow.Author.Tests.{lt-ltb, le-ltb, eq-eqb, ne-eqb}
-use lib.ListN.{length, getD, set, replicate, length-set, length-replicate, getD-replicate, length-append, length-map}
-use lib.Seq.{getD-set-same, getD-set-other, set-at}
+use lib.ListN.{length, getD, set, take, replicate, length-set, length-replicate, getD-replicate, length-append, length-map}
+use lib.Seq.{getD-set-same, getD-set-other, getD-take, set-at, take-set-lt}
 use Rattle.book.specs.Layout.{Layout, v1}
 use Rattle.book.specs.Record.{recordAt, linkOf, decodedOf, numberOf}
 use Rattle.book.specs.Reading.{refused, accepted, objectiveOf, countOf, entryAt, labelAt, memb, follow, walk}
 use Rattle.lp.specs.declared.Functional.{Functional}
 use Rattle.book.specs.declared.Chain.{Chain}
 use Rattle.book.specs.Answers.{padded, chainOf, indexIn}
-use Rattle.book.specs.Labels.{isNoted, noting, Unnoted}
+use Rattle.book.specs.Labels.{isNoted, noting}
 use Rattle.book.proofs.Members.{or-false, memb-snoc, map-snoc}
-use Rattle.book.proofs.LabelTable.{Noted, noted-start, noted-new, noted-step}
+use Rattle.book.proofs.LabelTable.{Noted, noted-start, noted-step}
 
 -- ---- a link of the walk: document 01's tests, one by one
 
@@ -123,19 +123,38 @@ module _ {m : ℕ} {done : List ℕ} {seen : List Bool} (marks : Marked m done s
 
 -- ---- the state of the walk in the code
 
--- the first `done` of the chain are visited, record `at` is the last of them and holds `link`, and what is left to walk comes to what the whole does
+-- the first `done` of the chain are visited, record `at` is the last of them and holds `link`, and what is left to walk comes to what the whole does. The marks of
+-- the records that the header counts say so; the table has one for each record that a book can have
 pub record Walking (s : List ℕ) (seen : List Bool) (labels records : List ℕ) (n at link : ℕ) : Type 0 where
   pub done : List ℕ
-  pub marked : Marked 255 done seen
+  pub few : countOf v1 s ≤ 255
+  pub size : length seen ≡ 256
+  pub marked : Marked (countOf v1 s) done (take (suc (countOf v1 s)) seen)
   pub met : Noted labels (map (labelAt v1 s) done)
   pub kept : records ≡ padded done
   pub count : n ≡ length done
   pub held : link ≡ linkOf v1 (recordAt v1 s at)
   pub rest : walk v1 s (suc (255 - length done)) done at ≡ walk v1 s 256 [] 0
 
-pub walking-start : (s : List ℕ) (link : ℕ) {seen : List Bool} {labels records : List ℕ} → seen ≡ true ∷ replicate 255 false → labels ≡ replicate 1024 0 → records ≡ replicate 255 0 → link ≡ linkOf v1 (recordAt v1 s 0) → Walking s seen labels records 0 0 link
-walking-start s link m t r e =
-    record { done = []; marked = subst⁻¹ (Marked 255 []) m (marked-start 255); met = subst⁻¹ (λ (l : List ℕ). Noted l []) t noted-start; kept = r; count = refl; held = e; rest = refl }
+fewer-marks : (m n : ℕ) → m ≤ n → take m (replicate n false) ≡ replicate m false
+fewer-marks zero n h = refl
+fewer-marks (suc m) zero h = absurd (let z : ⊥ = omega arith in z)
+fewer-marks (suc m) (suc n) h = ap (λ (l : List Bool). false ∷ l) (fewer-marks m n (le-of-suc-le-suc h))
+
+pub walking-start : (s : List ℕ) (link : ℕ) {seen : List Bool} {labels records : List ℕ} → countOf v1 s ≤ 255 → seen ≡ true ∷ replicate 255 false → labels ≡ replicate 1024 0 → records ≡ replicate 255 0 → link ≡ linkOf v1 (recordAt v1 s 0) → Walking s seen labels records 0 0 link
+walking-start s link f m t r e =
+    let m′ = ap (take (suc (countOf v1 s))) m ∙ ap (λ (l : List Bool). true ∷ l) (fewer-marks (countOf v1 s) 255 f) in
+    record {
+      done = [];
+      few = f;
+      size = ap (λ (l : List Bool). length l) m ∙ ap suc (length-replicate 255 false);
+      marked = subst⁻¹ (Marked (countOf v1 s) []) m′ (marked-start (countOf v1 s));
+      met = subst⁻¹ (λ (l : List ℕ). Noted l []) t noted-start;
+      kept = r;
+      count = refl;
+      held = e;
+      rest = refl;
+    }
 
 -- zeros give way to one more record
 padded-snoc : (l : List ℕ) (i : ℕ) → length l < 255 → set (padded l) (length l) i ≡ padded (l ++ (i ∷ []))
@@ -153,9 +172,9 @@ module _ {s : List ℕ} {seen : List Bool} {labels records : List ℕ} {n at lin
     pub walking-over : countOf v1 s < link → walk v1 s 256 [] 0 ≡ refused 6 at
     walking-over h = sym (w .rest) ∙ walk-over v1 s (255 - length (w .done)) (w .done) at link (w .held) z h
 
-    module _ (h : link ≤ countOf v1 s) (k : link ≤ 255) where
+    module _ (h : link ≤ countOf v1 s) where
       mark : getD seen link false ≡ memb link (w .done)
-      mark = w .marked .agrees link (omega arith) k
+      mark = sym (getD-take (suc (countOf v1 s)) seen link false (omega arith)) ∙ w .marked .agrees link (omega arith) h
 
       pub walking-again : getD seen link false ≡ true → walk v1 s 256 [] 0 ≡ refused 7 at
       walking-again m =
@@ -171,7 +190,6 @@ pub record Arrived (s : List ℕ) (seen : List Bool) (labels records : List ℕ)
   pub so-far : Walking s seen labels records n at link
   pub some : link ≡ 0 → ⊥
   pub within : link ≤ countOf v1 s
-  pub low : link ≤ 255
   pub new : getD seen link false ≡ false
   pub sound : numberOf (decodedOf v1 (recordAt v1 s link)) ≡ 0
   pub label-held : label ≡ labelAt v1 s link
@@ -183,7 +201,7 @@ module _ {s : List ℕ} {seen : List Bool} {labels records : List ℕ} {n at lin
   w = a .so-far
 
   unvisited : memb link (w .done) ≡ false
-  unvisited = sym (mark w (a .some) (a .within) (a .low)) ∙ a .new
+  unvisited = sym (mark w (a .some) (a .within)) ∙ a .new
 
   met-before : memb (labelAt v1 s link) (map (labelAt v1 s) (w .done)) ≡ isNoted labels label
   met-before = ap (λ l. memb l (map (labelAt v1 s) (w .done))) (sym (a .label-held)) ∙ sym (w .met .agrees label (a .label-fits))
@@ -193,25 +211,29 @@ module _ {s : List ℕ} {seen : List Bool} {labels records : List ℕ} {n at lin
       sym (w .rest)
       ∙ walk-repeat v1 s (255 - length (w .done)) (w .done) at link (w .held) (a .some) (a .within) unvisited (a .sound) (met-before ∙ q)
 
-  pub arrived-room : n < 255
-  arrived-room = rw (w .count) (marked-room (w .marked) link (omega (arith, a .some)) (a .low) unvisited)
+  pub arrived-room : n < countOf v1 s
+  arrived-room = rw (w .count) (marked-room (w .marked) link (omega (arith, a .some)) (a .within) unvisited)
 
   module _ (q : isNoted labels label ≡ false) where
-    pub arrived-unnoted : Unnoted labels label
-    arrived-unnoted = noted-new (w .met) label (a .label-fits) q
-
     listed : map (labelAt v1 s) (w .done) ++ (label ∷ []) ≡ map (labelAt v1 s) (w .done ++ (link ∷ []))
     listed =
         ap (λ l. map (labelAt v1 s) (w .done) ++ (l ∷ [])) (a .label-held)
         ∙ sym (map-snoc (labelAt v1 s) (w .done) link)
 
-    pub arrived-step : {table : List ℕ} → table ≡ noting labels label → Walking s (set seen link true) table (set records n link) (n + 1) link next
-    arrived-step e =
-        let room : length (w .done) < 255 = omega (arith, w .count, arrived-room) in
+    marks : Marked (countOf v1 s) (w .done ++ (link ∷ [])) (take (suc (countOf v1 s)) (set seen link true))
+    marks =
+        subst⁻¹ (Marked (countOf v1 s) (w .done ++ (link ∷ []))) (take-set-lt (suc (countOf v1 s)) seen link true (omega (arith, a .within)))
+        (marked-step (w .marked) link (omega (arith, a .some)) (a .within) unvisited)
+
+    pub arrived-step : {seen′ : List Bool} {table : List ℕ} → seen′ ≡ set seen link true → table ≡ noting labels label → Walking s seen′ table (set records n link) (n + 1) link next
+    arrived-step m e =
+        let room : length (w .done) < 255 = omega (arith, w .count, w .few, arrived-room) in
         let left : 255 - length (w .done) ≡ suc (255 - length (w .done ++ (link ∷ []))) = omega (arith, length-append (w .done) (link ∷ [])) in
         record {
           done = w .done ++ (link ∷ []);
-          marked = marked-step (w .marked) link (omega (arith, a .some)) (a .low) unvisited;
+          few = w .few;
+          size = ap (λ (l : List Bool). length l) m ∙ length-set seen link true ∙ w .size;
+          marked = subst⁻¹ (λ (l : List Bool). Marked (countOf v1 s) (w .done ++ (link ∷ [])) (take (suc (countOf v1 s)) l)) m marks;
           met = subst⁻¹ (λ (t : List ℕ). Noted t (map (labelAt v1 s) (w .done ++ (link ∷ [])))) e (subst (Noted (noting labels label)) listed (noted-step (w .met) label (a .label-fits) q));
           kept = (λ j. set (w .kept j) (w .count j) link) ∙ padded-snoc (w .done) link room;
           count = ap (λ m. m + 1) (w .count) ∙ sym (length-append (w .done) (link ∷ []));

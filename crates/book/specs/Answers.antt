@@ -10,10 +10,11 @@ use lib.Signed.{ltZ}
 use Rattle.lp.specs.declared.Constraint.{Constraint}
 use Rattle.book.specs.declared.Rule.{Rule}
 use Rattle.book.specs.declared.Chain.{Chain}
+use Rattle.book.specs.declared.Heading.{Heading}
 use Rattle.book.specs.declared.Repacked.{Repacked}
 use Rattle.book.specs.Layout.{v1}
-use Rattle.book.specs.Record.{recordAt, ruleOf}
-use Rattle.book.specs.Reading.{Reading, refused, accepted, Entry, readOf}
+use Rattle.book.specs.Record.{recordAt, ruleOf, linkOf}
+use Rattle.book.specs.Reading.{Reading, refused, accepted, Entry, readOf, headerFault, objectiveOf}
 use Rattle.book.specs.Repacking.{Packing, declined, packed, repackOf}
 
 abbrev pub indexIn : Entry → ℕ
@@ -29,6 +30,10 @@ chainOf (refused n r) =
     record { number = n; at = r; objective = record { p = pos 0; q = pos 0 }; n = 0; records = padded [] }
 chainOf (accepted o es) =
     record { number = 0; at = 0; objective = o; n = length es; records = padded (map indexIn es) }
+
+-- what a header says
+abbrev pub headingOf : List ℕ → Heading
+headingOf s = record { fault = headerFault v1 s; objective = objectiveOf v1 s; link = linkOf v1 (recordAt v1 s 0) }
 
 -- what repacking answers, and what the output then holds
 abbrev pub repackedOf : Packing → Repacked

@@ -1,9 +1,8 @@
 -- The code's table of the labels met on the chain: a bit for each of the 65,536 labels, 64 to a word.
-use Prim.Native.Nat.{ℕ, _+_, _/_, _%_, _^_, _<_}
-use mathlib.Core.Path.{_≡_}
-use mathlib.Core.Bool.{Bool, false}
+use Prim.Native.Nat.{ℕ, _+_, _/_, _%_, _^_}
+use mathlib.Core.Bool.{Bool}
 use mathlib.Core.List.{List}
-use lib.ListN.{length, getD, set}
+use lib.ListN.{getD, set}
 use lib.Dec.{eqb}
 
 -- whether a label's bit is set
@@ -13,9 +12,3 @@ isNoted t l = eqb (getD t (l / 64) 0 / 2 ^ (l % 64) % 2) 1
 -- the table with a label's bit set, where it was not
 unfoldable pub noting : List ℕ → ℕ → List ℕ
 noting t l = set t (l / 64) (getD t (l / 64) 0 + 2 ^ (l % 64))
-
--- a table of 1,024 words of 64 bits, and a label that is not noted there
-pub record Unnoted (t : List ℕ) (l : ℕ) : Type 0 where
-  pub size : length t ≡ 1024
-  pub words : (i : ℕ) → getD t i 0 < 2 ^ 64
-  pub new : isNoted t l ≡ false

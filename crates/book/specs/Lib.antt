@@ -6,6 +6,7 @@ pub mod Reading
 pub mod Repacking
 pub mod Answers
 pub mod Labels
+pub mod Judging
 pub mod Causes
 pub mod Spare
 pub mod Lawful

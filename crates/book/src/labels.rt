@@ -1,7 +1,8 @@
-// The labels met on the chain: a bit for each label, 64 to a word.
+// The labels met on the chain: a bit for each label, 64 to a word. A table that is too short notes nothing.
 ghost use mathlib.Core.Path.{_≡_};
-ghost use lib.ListN.{length, replicate};
-ghost use Rattle.book.specs.Labels.{isNoted, noting, Unnoted};
+ghost use mathlib.Core.Bool.{false};
+ghost use lib.ListN.{replicate};
+ghost use Rattle.book.specs.Labels.{isNoted, noting};
 
 // No label met.
 pub fn no_labels() -> [u64; 1024]
@@ -11,23 +12,28 @@ pub fn no_labels() -> [u64; 1024]
 }
 
 // Whether a label was met.
-pub fn noted(table: &[u64; 1024], label: u16) -> bool
-    requires { ⌜ length (now table) ≡ 1024 ⌝ }
+pub fn noted(table: &[u64], label: u16) -> bool
     ensures { λ r. ⌜ r ≡ isNoted (now (table .entry)) label ⌝ }
 {
     let place = (label / 64) as usize;
     let bit = (label % 64) as u64;
-    let word = table[place];
-    (word >> bit) % 2 == 1
+    if place < table.len() {
+        let word = table[place];
+        (word >> bit) % 2 == 1
+    } else {
+        false
+    }
 }
 
 // A label is met.
-pub fn note(table: &mut [u64; 1024], label: u16)
-    requires { ⌜ Unnoted (now table) label ⌝ }
+pub fn note(table: &mut [u64], label: u16)
+    requires { ⌜ isNoted (now table) label ≡ false ⌝ }
     ensures { λ r. ⌜ now (table .exit) ≡ noting (now (table .entry)) label ⌝ }
 {
     let place = (label / 64) as usize;
     let bit = (label % 64) as u64;
-    let word = table[place];
-    table[place] = word + (1u64 << bit);
+    if place < table.len() {
+        let word = table[place];
+        table[place] = word + (1u64 << bit);
+    }
 }

@@ -5,13 +5,22 @@ mod decode;
 mod header;
 mod labels;
 mod links;
+mod marks;
 mod pack;
 
+use decode::link_at;
+use decode::number_of;
+use header::count;
 use header::header_fault;
+use header::objective;
+use labels::note;
+use labels::noted;
 use links::refused;
 use links::walk;
 use lp::Constraint;
 use lp::Functional;
+use marks::mark;
+use marks::visited;
 use pack::header_bytes;
 use pack::next_of;
 use pack::put_rules;
@@ -19,7 +28,8 @@ use pack::store;
 ghost use mathlib.Core.Path.{_≡_};
 ghost use Rattle.book.specs.Layout.{v1};
 ghost use Rattle.book.specs.Record.{recordAt, decodedOf};
-ghost use Rattle.book.specs.Answers.{Reads, Repacks, RuleAt, constraintOf};
+ghost use Rattle.book.specs.Answers.{Reads, Repacks, RuleAt, constraintOf, headingOf};
+ghost use Rattle.book.specs.Judging.{Judges};
 
 // A rule as its record has it, kind 2 not turned round.
 pub struct Rule {
@@ -36,6 +46,19 @@ pub enum Decoded {
     Kind,
     Slope,
     Bound,
+}
+
+// What a link of the chain leads to: a sound rule that is new on it, with the rule's own link, or what turns the book back, with its number and record.
+pub enum Judged {
+    Sound(Rule, u16),
+    Refused(u8, u16),
+}
+
+// What a header says: the first of the causes 1 to 5, or 0, its objective, and its link to the chain.
+pub struct Heading {
+    pub fault: u8,
+    pub objective: Functional,
+    pub link: u16,
 }
 
 // What a book reads as. Turned back: the cause's number and the record that it names, and all else zero. Accepted: number and
@@ -65,6 +88,41 @@ pub fn read(book: &[u8]) -> Chain
     } else {
         refused(fault, 0)
     }
+}
+
+// What a book's header says.
+pub fn heading_of(book: &[u8]) -> Heading
+    ensures { λ r. ⌜ r ≡ headingOf (now (book .entry)) ⌝ }
+{
+    Heading {
+        fault: header_fault(book),
+        objective: objective(book),
+        link: link_at(book, 0),
+    }
+}
+
+// A link of the chain judged, which record `at` holds, by the records visited and the labels met before it. A sound rule is noted in both tables; else they stay
+// as they are.
+pub fn judge(book: &[u8], seen: &mut [bool], labels: &mut [u64], at: u16, link: u16) -> Judged
+    ensures { λ r. ⌜ Judges (now (book .entry)) (now (seen .entry)) (now (labels .entry)) at link r (now (seen .exit)) (now (labels .exit)) ⌝ }
+{
+    if link > count(book) {
+        return Judged::Refused(6, at);
+    }
+    if visited(&*seen, link) {
+        return Judged::Refused(7, at);
+    }
+    let decoded = visit(book, link);
+    let Decoded::Sound(rule, next) = decoded else {
+        return Judged::Refused(number_of(decoded), link);
+    };
+    let label = rule.label;
+    if noted(&*labels, label) {
+        return Judged::Refused(12, link);
+    }
+    mark(seen, link);
+    note(labels, label);
+    Judged::Sound(rule, next)
 }
 
 // The rule of a record, whether the record is on the chain or not.

@@ -1,33 +1,20 @@
-// The walk along the links, with the causes 6 to 10 and 12.
+// The walk along the links: each is judged, and the records are kept in order.
 use crate::Chain;
-use crate::Decoded;
+use crate::Judged;
 use crate::decode::link_at;
-use crate::decode::number_of;
-use crate::header::count;
 use crate::header::objective;
+use crate::judge;
 use crate::labels::no_labels;
-use crate::labels::note;
-use crate::labels::noted;
-use crate::visit;
+use crate::marks::only_header;
 use lp::Functional;
 ghost use mathlib.Core.Path.{_≡_};
-ghost use mathlib.Core.Bool.{true, false};
-ghost use mathlib.Core.List.{[], _∷_};
+ghost use mathlib.Core.List.{[]};
 ghost use lib.ListN.{replicate};
 ghost use Prim.Native.Nat.{_≤_};
 ghost use Rattle.book.specs.Layout.{v1};
 ghost use Rattle.book.specs.Reading.{countOf};
 ghost use Rattle.book.specs.Reading as spec;
 ghost use Rattle.book.specs.Answers.{chainOf};
-
-// The marks of the records visited: the header's alone.
-fn only_header() -> [bool; 256]
-    ensures { λ r. ⌜ r ≡ true ∷ replicate 255 false ⌝ }
-{
-    let mut seen = [false; 256];
-    seen[0] = true;
-    seen
-}
 
 // Record indices, all zero.
 fn no_records() -> [u16; 255]
@@ -67,7 +54,6 @@ pub fn walk(book: &[u8]) -> Chain
     requires { ⌜ countOf v1 (now book) ≤ 255 ⌝ }
     ensures { λ r. ⌜ r ≡ chainOf (spec.walk v1 (now (book .entry)) 256 [] 0) ⌝ }
 {
-    let last = count(book);
     let mut seen = only_header();
     let mut labels = no_labels();
     let mut records = no_records();
@@ -75,27 +61,15 @@ pub fn walk(book: &[u8]) -> Chain
     let mut at: u16 = 0;
     let mut link = link_at(book, 0);
     while link != 0 {
-        if link > last {
-            return refused(6, at);
+        match judge(book, &mut seen, &mut labels, at, link) {
+            Judged::Refused(number, record) => return refused(number, record),
+            Judged::Sound(_, next) => {
+                records[n] = link;
+                n += 1;
+                at = link;
+                link = next;
+            }
         }
-        let index = link as usize;
-        if seen[index] {
-            return refused(7, at);
-        }
-        let decoded = visit(book, link);
-        let Decoded::Sound(rule, next) = decoded else {
-            return refused(number_of(decoded), link);
-        };
-        let label = rule.label;
-        if noted(&labels, label) {
-            return refused(12, link);
-        }
-        note(&mut labels, label);
-        seen[index] = true;
-        records[n] = link;
-        n += 1;
-        at = link;
-        link = next;
     }
     accepted(objective(book), n, records)
 }

@@ -1,7 +1,8 @@
--- `book::labels::noted` meets its contract: the shift is a division by the bit's power of two.
+-- `book::labels::noted` meets its contract: the shift is a division by the bit's power of two, and a label beyond the table was not met.
 use borrow.Author.Needs.{needs}
-use mathlib.Core.Path.{refl}
+use mathlib.Core.Path.{refl, sym}
 use Rattle.book.specs.Labels.{isNoted}
+use Rattle.book.proofs.LabelTable.{noted-out}
 use Rattle.book.proofs.labels.noted.Statement.{statement}
 use Rattle.book.proofs.labels.noted.Tie as tie
 
@@ -9,6 +10,9 @@ returns : tie.Need-returns
 unfolding isNoted
 returns c = refl
 
+returns-2 : tie.Need-returns-2
+returns-2 c = sym (noted-out (c .before .args .table .now) (c .before .args .label) (c .if1 .left))
+
 pub noted-spec : {M : Type 1} → statement M
 noted-spec =
-    tie.close (tie.spec (λ c. search needs) (λ c. search needs) (λ c. search needs) (λ c. search needs) (λ c. search needs) returns)
+    tie.close (tie.spec (λ c. search needs) (λ c. search needs) (λ c. search needs) (λ c. search needs) (λ c. search needs) returns returns-2)
