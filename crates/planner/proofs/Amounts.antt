@@ -1,4 +1,4 @@
--- The panel: sizes of a slack, the loop that fills the rows, and the panel of what a book reads as.
+-- The panel: sizes of a slack, the loop that fills the rows, and the panel of an accepted book and of a run.
 use mathlib.Core.Path.{_≡_, refl, sym, _∙_, ap, ap₂, subst}
 use mathlib.Core.List.{List, [], _∷_, _++_, map, append-assoc}
 use Prim.Native.Nat.{ℕ, zero, suc, _+_, _-_, _≤_, _<_}
@@ -24,10 +24,11 @@ use Rattle.book.specs.declared.Chain.{Chain}
 use Rattle.book.specs.Layout.{v1}
 use Rattle.book.specs.Record.{recordAt, ruleOf}
 use Rattle.book.specs.Reading.{Reading, refused, accepted, Entry, readOf, entryAt}
-use Rattle.book.specs.Answers.{Reads, chainOf, padded, indexIn}
+use Rattle.book.specs.Answers.{chainOf, padded, indexIn}
 use Rattle.book.specs.Lawful.{LawfulRule}
 use Rattle.book.proofs.Bounds.{accepted-entries, entry-lawful}
-use Rattle.report.specs.declared.Answer.the-variants.{Planned}
+use Rattle.report.specs.declared.Answer.{Answer}
+use Rattle.report.specs.declared.Answer.the-variants.{Refused, Planned}
 use Rattle.report.specs.declared.Plan.{Plan}
 use Rattle.report.specs.declared.panel.Row.{Row}
 use Rattle.report.specs.declared.panel.Panel.{Panel}
@@ -36,14 +37,19 @@ use Rattle.model.specs.Bounds.{SmallConstraint, SmallSystem, SmallOutcome}
 use Rattle.model.proofs.Bounds.{lawful-small, slack-small, zeroFloors-small, said-small, walk-small}
 use Rattle.theory.proofs.Ties.{least-x-then-y-good}
 use Rattle.theory.proofs.Theorems.{walk-is-defined}
+use Rattle.planner.specs.declared.StartView.{StartView}
+use Rattle.planner.specs.declared.run.Findings.{Findings}
 use Rattle.planner.specs.Sizes.{Fraction, Measured}
 use Rattle.planner.specs.Layout.{ruleFor}
-use Rattle.planner.specs.Planning.{plannedRule, rulesOf, AnsweredBy, Answers, Chained}
+use Rattle.planner.specs.Planning.{plannedRule, rulesOf, AnsweredBy, chainWith, Chained, Recorded}
 use Rattle.planner.specs.Panel as panel
-use Rattle.planner.specs.Panel.{row, noRow, rowOf, rowFor, paddedRows, panelWith, rowsFor, panelOf, Panels, Filling}
+use Rattle.planner.specs.Panel.{row, noRow, rowOf, rowFor, paddedRows, panelWith, rowsFor, panelOf, Panels, Filling, Outcomes}
+use Rattle.planner.specs.View.{viewOf}
+use Rattle.planner.specs.Running.{Runs}
 use Rattle.planner.proofs.Sizes.{read, within-unread}
-use Rattle.planner.proofs.Chains.{code-is-planned, small-of, rule-small, rule-lawful, length-index}
-use Rattle.planner.proofs.Plans.{chain-few}
+use Rattle.planner.proofs.Chains.{code-is-planned, small-of, records-room, rule-small, rule-lawful, length-index}
+use Rattle.planner.proofs.Plans.{chain-count, chain-few}
+use Rattle.planner.proofs.Runs.{all-whole}
 
 -- ---- one slack
 
@@ -97,9 +103,9 @@ pub record Filled (f : ℕ → Row) (records : List ℕ) (n : ℕ) (rows : List 
   pub state : rows ≡ paddedRows (map f (take i records))
   pub within : i ≤ n
   pub few : n ≤ 255
-  pub all : length records ≡ 255
+  pub all : n ≤ length records
 
-pub filled-start : (f : ℕ → Row) (records : List ℕ) (n : ℕ) → n ≤ 255 → length records ≡ 255 → {z : Row} → z ≡ noRow → Filled f records n (replicate 255 z) 0
+pub filled-start : (f : ℕ → Row) (records : List ℕ) (n : ℕ) → n ≤ 255 → n ≤ length records → {z : Row} → z ≡ noRow → Filled f records n (replicate 255 z) 0
 filled-start f records n few all e =
     record { state = ap (replicate 255) e; within = omega arith; few = few; all = all }
 
@@ -172,53 +178,66 @@ module _ (s : List ℕ) (o : Functional) (es : List Entry) (e : readOf v1 s ≡ 
 
 -- ---- the panel of an accepted book
 
-module _ (s : List ℕ) (chain : Chain) (h : Chained s chain) where
-  abbrev result : Outcome
-  result = outcome leastXThenY zeroFloors (h .objective) (rulesOf (h .entries))
-
-  pub planned-outcome : (p : Plan) → Answers s (Planned p) → p .outcome ≡ result
-  planned-outcome p a = subst (λ (r : Reading). AnsweredBy r (Planned p)) (h .accepts) (a .answered) .outcome-defined
-
-  pub accepted-panel : (q : Outcome) → result ≡ q → {p : Panel} → p ≡ panelWith 0 0 (rowsFor (h .entries) q) → Panels s p
+module _ (s records : List ℕ) (n : ℕ) (q : Outcome) (h : Outcomes s records n q) where
+  pub accepted-panel : {x : Outcome} → q ≡ x → {p : Panel} → p ≡ panelWith 0 0 (rowsFor (h .recorded .chained .entries) x) → Panels s p
   unfolding panelOf
-  accepted-panel q e f =
-      record { panel = f ∙ ap (λ (x : Outcome). panelWith 0 0 (rowsFor (h .entries) x)) (sym e) ∙ ap panelOf (sym (h .accepts)) }
+  accepted-panel e f =
+      record { panel = f ∙ ap (λ (x : Outcome). panelWith 0 0 (rowsFor (h .recorded .chained .entries) x)) (sym (h .result ∙ e)) ∙ ap panelOf (sym (h .recorded .chained .accepts)) }
 
-module _ (s : List ℕ) (chain : Chain) (v : Point) (h : panel.Best s chain v) where
-  pub best-filling : Filling s (chain .records) (chain .n) v
+module _ (s records : List ℕ) (n : ℕ) (v : Point) (h : panel.Best s records n v) where
+  abbrev chain : Chain
+  chain = chainWith (h .recorded .objective) n records
+
+  abbrev held : Chained s chain
+  held = h .recorded .chained
+
+  pub best-few : n ≤ 255
+  best-few = chain-few s chain held
+
+  pub best-filling : Filling s records n v
   unfolding chainOf
   best-filling =
       record {
-        few = chain-few s chain (h .chained);
-        point = subst SmallOutcome (h .best) (outcome-small s (h .chained .objective) (h .chained .entries) (h .chained .accepts));
-        small = subst (λ (c : Chain). (k : ℕ) → k < c .n → SmallConstraint (ruleFor s (c .records) k)) (sym (h .chained .chain)) (λ k less. small-of (ruleFor s (padded (map indexIn (h .chained .entries))) k) (rule-small s (h .chained .objective) (h .chained .entries) (h .chained .accepts) k less));
+        few = best-few;
+        all = subst (λ (c : Chain). c .n ≤ length (c .records)) (sym (held .chain)) (records-room s (held .objective) (held .entries) (held .accepts));
+        point = subst SmallOutcome (h .result) (outcome-small s (held .objective) (held .entries) (held .accepts));
+        small = subst (λ (c : Chain). (k : ℕ) → k < c .n → SmallConstraint (ruleFor s (c .records) k)) (sym (held .chain)) (λ k less. small-of (ruleFor s (padded (map indexIn (held .entries))) k) (rule-small s (held .objective) (held .entries) (held .accepts) k less));
       }
 
-  pub best-shown : {rows : List Row} → rows ≡ paddedRows (map (rowFor s v) (take (chain .n) (chain .records))) → Panels s (record { number = 0; at = 0; n = chain .n; rows = rows })
+  pub best-shown : {rows : List Row} → rows ≡ paddedRows (map (rowFor s v) (take n records)) → Panels s (record { number = 0; at = 0; n = n; rows = rows })
   unfolding chainOf
   best-shown {rows} e =
-      accepted-panel s chain (h .chained) (outcome.Optimal v) (h .best)
+      accepted-panel s records n (outcome.Optimal v) h refl
       (λ i. record { number = 0; at = 0; n = count i; rows = all i })
     where
-      made : map (rowFor s v) (take (chain .n) (chain .records)) ≡ map (rowOf v) (h .chained .entries)
+      made : map (rowFor s v) (take n records) ≡ map (rowOf v) (held .entries)
       made =
-          ap (λ (c : Chain). map (rowFor s v) (take (c .n) (c .records))) (h .chained .chain)
-          ∙ rows-are s (h .chained .objective) (h .chained .entries) (h .chained .accepts) v
+          ap (λ (c : Chain). map (rowFor s v) (take (c .n) (c .records))) (held .chain)
+          ∙ rows-are s (held .objective) (held .entries) (held .accepts) v
 
-      count : chain .n ≡ length (map (rowOf v) (h .chained .entries))
-      count = ap (λ (c : Chain). c .n) (h .chained .chain) ∙ sym (length-map (h .chained .entries) (rowOf v))
+      count : n ≡ length (map (rowOf v) (held .entries))
+      count = chain-count s chain held ∙ sym (length-map (held .entries) (rowOf v))
 
-      all : rows ≡ paddedRows (map (rowOf v) (h .chained .entries))
+      all : rows ≡ paddedRows (map (rowOf v) (held .entries))
       all = e ∙ ap paddedRows made
 
--- ---- a refused book
+-- ---- the panel of a run
 
-module _ (s : List ℕ) (chain : Chain) (h : Reads s chain) where
-  pub refused-panel : (chain .number ≡ 0 → ⊥) → {p : Panel} → p ≡ panelWith (chain .number) (chain .at) [] → Panels s p
-  unfolding chainOf panelOf
-  refused-panel z {p} f = go (readOf v1 s) refl
+module _ (s records : List ℕ) (r : Findings) (h : Runs s 255 r records) where
+  said : (a : Answer) → r .answer ≡ a → AnsweredBy (readOf v1 s) a
+  said a e = subst (AnsweredBy (readOf v1 s)) e (h .answered (all-whole s) .answered)
+
+  pub run-outcomes : {p : Plan} → r .answer ≡ Planned p → Outcomes s records (r .n) (p .outcome)
+  run-outcomes {p} e = record { recorded = held; result = sym (subst (λ (x : Reading). AnsweredBy x (Planned p)) (held .chained .accepts) (said (Planned p) e) .outcome-defined) }
     where
-      go : (r : Reading) → readOf v1 s ≡ r → Panels s p
-      go (refused n i) e =
-          record { panel = f ∙ ap (λ (c : Chain). panelWith (c .number) (c .at) []) (h .answer ∙ ap chainOf e) ∙ ap panelOf (sym e) }
-      go (accepted o es) e = absurd (z (ap (λ (c : Chain). c .number) (h .answer ∙ ap chainOf e)))
+      held : Recorded s (r .n) records
+      held = h .recorded p e
+
+  pub refused-panel : {n i : ℕ} → r .answer ≡ Refused n i → {p : Panel} → p ≡ panelWith (r .view .number) (r .view .at) [] → Panels s p
+  unfolding panelOf
+  refused-panel {n} {i} e {p} f = go (readOf v1 s) refl (said (Refused n i) e)
+    where
+      go : (x : Reading) → readOf v1 s ≡ x → AnsweredBy x (Refused n i) → Panels s p
+      go (refused k j) q a =
+          record { panel = f ∙ ap (λ (v : StartView). panelWith (v .number) (v .at) []) (h .seen .answer ∙ ap (λ (x : Reading). viewOf x 255) q) ∙ ap panelOf (sym q) }
+      go (accepted o es) q a = absurd a

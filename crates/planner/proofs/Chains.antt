@@ -24,7 +24,7 @@ use Rattle.model.specs.Bounds.{SmallConstraint}
 use Rattle.model.proofs.Bounds.{leastXThenY-small, zeroFloors-small}
 use Rattle.planner.specs.Entries.{entry, entries}
 use Rattle.planner.specs.Sizes.{Walking}
-use Rattle.planner.specs.Layout.{putEntry, laidOut, ruleFor, Laying}
+use Rattle.planner.specs.Layout.{putEntry, laidOut, ruleFor}
 use Rattle.planner.specs.Planning.{plannedRule, rulesOf}
 use Rattle.planner.proofs.Layouts.{put-length, put-same, put-other, laid-length, laid-floor, laid-at, entries-are}
 
@@ -117,11 +117,9 @@ module _ (s : List ℕ) (o : Functional) (es : List Entry) (e : readOf v1 s ≡ 
     abbrev pub full : List ℤ
     full = laidOut (ruleFor s records) (length es) l₀
 
-    pub laying : Laying records (length es) l₀
-    laying = record { enough = records-room; room = room₀ }
-
-    rules-laid : entries full 2 (length es) ≡ rulesOf es
-    rules-laid =
+    -- what the walk is given
+    pub rules-given : entries full 2 (length es) ≡ rulesOf es
+    rules-given =
         subst (λ (n : ℕ). entries full 2 n ≡ rulesOf es) (length-rules es)
         (entries-are full none 2 (rulesOf es) (λ k h. laid-at (ruleFor s records) (length es) l room k (less k h) ∙ rule-is k (less k h)))
       where
@@ -137,7 +135,7 @@ module _ (s : List ℕ) (o : Functional) (es : List Entry) (e : readOf v1 s ≡ 
         plus : (k : ℕ) → suc (suc k) ≡ k + 2
         plus k = omega arith
 
-    -- what the walk asks
+    -- and what it asks
     pub walking : Walking o leastXThenY zeroFloors full (length es + 2)
     walking =
         record {
@@ -149,10 +147,3 @@ module _ (s : List ℕ) (o : Functional) (es : List Entry) (e : readOf v1 s ≡ 
           first = laid-floor (ruleFor s records) (length es) l 0 (omega arith) ∙ first;
           second = laid-floor (ruleFor s records) (length es) l 1 (omega arith) ∙ second;
         }
-
-    -- and what it is given
-    pub rules-given : entries full 2 (length es + 2 - 2) ≡ rulesOf es
-    rules-given = ap (entries full 2) (back (length es)) ∙ rules-laid
-      where
-        back : (n : ℕ) → n + 2 - 2 ≡ n
-        back n = omega arith

@@ -16,7 +16,6 @@ use Rattle.lp.specs.Document.{Lawful, leastXThenY, zeroFloors}
 use Rattle.book.specs.Layout.{v1}
 use Rattle.book.specs.Reading.{accepted, Entry, readOf}
 use Rattle.book.specs.Answers.{padded, indexIn}
-use Rattle.report.specs.declared.Plan.{Plan}
 use Rattle.model.specs.declared.Best.the-variants as best
 use Rattle.model.specs.declared.Gain.{Gain}
 use Rattle.model.specs.declared.Gain.the-variants as gain
@@ -28,8 +27,9 @@ use Rattle.theory.proofs.Walk.{Stands}
 use Rattle.theory.proofs.Meaning.{walk-stands}
 use Rattle.theory.proofs.Theorems.{walk-is-defined}
 use Rattle.witness.specs.Witness.{codeAt, codeOf, coded, rising}
-use Rattle.planner.specs.Verdict.{verdictOf, witnessOf}
+use Rattle.planner.specs.Verdict.{witnessOf}
 use Rattle.planner.specs.Planning.{rulesOf, Witnessed, PlannedAs}
+use Rattle.planner.specs.Running.{finishedOf}
 use Rattle.planner.proofs.Chains.{length-rules, rule-lawful}
 
 -- zeros after a list change no reading of it
@@ -113,14 +113,13 @@ module _ (s : List ℕ) (o : Functional) (es : List Entry) (e : readOf v1 s ≡ 
       go gain.Nowhere = q
   state-witnessed (Going u cone (best.At v)) standing w q = q
 
-  pub finished : (p : Plan) → p ≡ verdictOf o (walk leastXThenY zeroFloors o (rulesOf es)) → (w : Certificate) → w ≡ rising (coded (padded (map indexIn es)) (p .witness)) → PlannedAs es o (record { outcome = p .outcome; moves = p .moves; opened = p .opened; place = p .place; witness = w })
-  finished p q w u =
-      subst (λ (p : Plan). w ≡ rising (coded (padded (map indexIn es)) (p .witness)) → PlannedAs es o (record { outcome = p .outcome; moves = p .moves; opened = p .opened; place = p .place; witness = w })) (sym q)
-      (λ u. record {
+  -- the whole plan
+  pub finished : PlannedAs es o (finishedOf o (padded (map indexIn es)) (walk leastXThenY zeroFloors o (rulesOf es)))
+  finished =
+      record {
         outcome-defined = walk-is-defined leastXThenY least-x-then-y-good zeroFloors o (rulesOf es) .outcome-defined;
         moves-defined = walk-is-defined leastXThenY least-x-then-y-good zeroFloors o (rulesOf es) .moves-defined;
         open-defined = walk-is-defined leastXThenY least-x-then-y-good zeroFloors o (rulesOf es) .open-defined;
         place-defined = walk-is-defined leastXThenY least-x-then-y-good zeroFloors o (rulesOf es) .place-defined;
-        witnessed = state-witnessed (walk leastXThenY zeroFloors o (rulesOf es) .state) (walk-stands leastXThenY least-x-then-y-good zeroFloors o (rulesOf es) .stands) w u;
-      })
-      u
+        witnessed = state-witnessed (walk leastXThenY zeroFloors o (rulesOf es) .state) (walk-stands leastXThenY least-x-then-y-good zeroFloors o (rulesOf es) .stands) (rising (coded (padded (map indexIn es)) (witnessOf (walk leastXThenY zeroFloors o (rulesOf es) .state)))) refl;
+      }

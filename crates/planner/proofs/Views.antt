@@ -1,8 +1,8 @@
 -- The start pair that is seen after a prefix: the walk along the prefix's rules holds it.
-use mathlib.Core.Path.{_≡_, refl, sym, _∙_, ap, ap₂}
+use mathlib.Core.Path.{_≡_, sym, _∙_, ap, ap₂}
 use mathlib.Core.List.{List, _∷_}
 use mathlib.Core.Bool.{true, false}
-use Prim.Native.Nat.{ℕ, zero, suc, min, _+_, _-_, _≤_, _*_}
+use Prim.Native.Nat.{ℕ, zero, suc, min, _+_, _≤_, _*_}
 use native.Mathlib.Omega.{arith}
 use lib.ListN.{length, take}
 use lib.IntN.{ℤ}
@@ -15,9 +15,7 @@ use Rattle.lp.specs.declared.Certificate.{Certificate}
 use Rattle.lp.specs.Start.{Start, restarts}
 use Rattle.lp.specs.Document.{leastXThenY, zeroFloors}
 use Rattle.book.specs.declared.Chain.{Chain}
-use Rattle.book.specs.Layout.{v1}
-use Rattle.book.specs.Reading.{Reading, refused, accepted, readOf}
-use Rattle.book.specs.Answers.{Reads, chainOf}
+use Rattle.book.specs.Reading.{Reading}
 use Rattle.model.specs.declared.Cone.{Cone}
 use Rattle.model.specs.declared.Best.{Best}
 use Rattle.model.specs.declared.State.the-variants.{Ended, Going}
@@ -30,7 +28,7 @@ use Rattle.planner.specs.Entries.{entry, entries}
 use Rattle.planner.specs.Sizes.{Walking}
 use Rattle.planner.specs.Layout.{laidOut, ruleFor}
 use Rattle.planner.specs.Planning.{rulesOf, Chained}
-use Rattle.planner.specs.View.{nowhere, viewed, startView, viewOf, Views}
+use Rattle.planner.specs.View.{nowhere, viewed, unseen, startView, viewOf, Views}
 use Rattle.planner.proofs.Passes.{fewer}
 use Rattle.planner.proofs.Plans.{chain-walking, chain-rules}
 
@@ -42,6 +40,9 @@ module _ (w : Walk) where
 
   pub viewed-going : {s : Point} {cone : Cone} {b : Best} → w .state ≡ Going s cone b → _≡_ {A = StartView} (record { number = 0; at = 0; held = true; point = s; restarts = w .restarts }) (viewed (startHeld (w .state)) (w .restarts))
   viewed-going e = ap (λ x. viewed (startHeld x) (w .restarts)) (sym e)
+
+pub unseen-same : (n r : ℕ) {v : Point} → v ≡ nowhere → _≡_ {A = StartView} (record { number = n; at = r; held = false; point = v; restarts = 0 }) (unseen n r)
+unseen-same n r e = λ i. record { number = n; at = r; held = false; point = e i; restarts = 0 }
 
 -- ---- a prefix of the entries
 
@@ -74,40 +75,23 @@ entries-take l i (suc k) (suc n) =
 
 -- ---- an accepted book
 
-module _ (s : List ℕ) (chain : Chain) (h : Chained s chain) (l : List ℤ) (room : 3 * (chain .n + 2) ≤ length l) (full : List ℤ) (laid : full ≡ laidOut (ruleFor s (chain .records)) (chain .n) l) (t : Tie) (et : t ≡ leastXThenY) (floors : Floors) (ef : floors ≡ zeroFloors) (k m : ℕ) (em : m ≡ min k (chain .n)) where
-  pub prefix-walking : Walking (chain .objective) t floors full (m + 2)
-  prefix-walking = shorter-walking (chain-walking s chain h l room full laid t et floors ef) (omega arith) (omega arith)
+module _ (s : List ℕ) (chain : Chain) (h : Chained s chain) (l : List ℤ) (room : 3 * (chain .n + 2) ≤ length l) (full : List ℤ) (laid : full ≡ laidOut (ruleFor s (chain .records)) (chain .n) l) (k : ℕ) where
+  pub prefix-walking : Walking (chain .objective) leastXThenY zeroFloors full (min k (chain .n) + 2)
+  prefix-walking = shorter-walking (chain-walking s chain h l room full laid) (omega arith) (omega arith)
 
-  prefix-rules : entries full 2 (m + 2 - 2) ≡ take k (rulesOf (h .entries))
-  prefix-rules =
-      ap (entries full 2) (back m ∙ em ∙ ap (min k) (sym (back (chain .n))))
-      ∙ entries-take full 2 k (chain .n + 2 - 2)
-      ∙ ap (take k) (chain-rules s chain h l room full laid t et floors ef)
-    where
-      back : (n : ℕ) → n + 2 - 2 ≡ n
-      back n = omega arith
+  prefix-rules : entries full 2 (min k (chain .n)) ≡ take k (rulesOf (h .entries))
+  prefix-rules = entries-take full 2 k (chain .n) ∙ ap (take k) (chain-rules s chain h l room full laid)
 
-  pub prefix-viewed : (w : Walk) → w ≡ walk t floors (chain .objective) (entries full 2 (m + 2 - 2)) → (v : StartView) → v ≡ viewed (startHeld (w .state)) (w .restarts) → Views s k v
-  prefix-viewed w ew v ev = record { answer = ev ∙ shown ∙ ap (λ (r : Reading). viewOf r k) (sym (h .accepts)) }
+  abbrev walked : List Constraint → StartView
+  walked rules =
+      viewed (startHeld (walk leastXThenY zeroFloors (chain .objective) rules .state)) (walk leastXThenY zeroFloors (chain .objective) rules .restarts)
+
+  pub prefix-viewed : Views s k (walked (entries full 2 (min k (chain .n))))
+  prefix-viewed = record { answer = ap walked prefix-rules ∙ shown ∙ ap (λ (r : Reading). viewOf r k) (sym (h .accepts)) }
     where
       rules : List Constraint
       rules = take k (rulesOf (h .entries))
 
-      walked : w ≡ walk leastXThenY zeroFloors (chain .objective) rules
-      walked = ew ∙ (λ i. walk (et i) (ef i) (chain .objective) (prefix-rules i))
-
-      shown : viewed (startHeld (w .state)) (w .restarts) ≡ startView rules
+      shown : walked rules ≡ startView rules
       shown =
-          ap (λ (w : Walk). viewed (startHeld (w .state)) (w .restarts)) walked
-          ∙ ap₂ (λ (x : Start) (n : ℕ). viewed x n) (walk-starts leastXThenY least-x-then-y-good zeroFloors (chain .objective) rules .start-defined) (walk-starts leastXThenY least-x-then-y-good zeroFloors (chain .objective) rules .restarts-defined)
-
--- ---- a refused book
-
-pub refused-viewed : (s : List ℕ) (chain : Chain) → Reads s chain → (chain .number ≡ 0 → ⊥) → (k : ℕ) (v : Point) → v ≡ nowhere → Views s k (record { number = chain .number; at = chain .at; held = false; point = v; restarts = 0 })
-unfolding chainOf
-refused-viewed s chain h z k v ev = go (readOf v1 s) refl
-  where
-    go : (r : Reading) → readOf v1 s ≡ r → Views s k (record { number = chain .number; at = chain .at; held = false; point = v; restarts = 0 })
-    go (refused n i) e =
-        record { answer = (λ j. record { number = (h .answer ∙ ap chainOf e) j .number; at = (h .answer ∙ ap chainOf e) j .at; held = false; point = ev j; restarts = 0 }) ∙ ap (λ (r : Reading). viewOf r k) (sym e) }
-    go (accepted o es) e = absurd (z (ap (λ (c : Chain). c .number) (h .answer ∙ ap chainOf e)))
+          ap₂ (λ (x : Start) (n : ℕ). viewed x n) (walk-starts leastXThenY least-x-then-y-good zeroFloors (chain .objective) rules .start-defined) (walk-starts leastXThenY least-x-then-y-good zeroFloors (chain .objective) rules .restarts-defined)

@@ -1,7 +1,7 @@
 -- The entries of a book laid out as numbers: rule i of the chain at entry i + 2, after the floors.
 use mathlib.Core.List.{List}
-use Prim.Native.Nat.{ℕ, zero, suc, _+_, _*_, _≤_}
-use lib.ListN.{length, getD, set}
+use Prim.Native.Nat.{ℕ, zero, suc, _+_, _*_}
+use lib.ListN.{getD, set}
 use lib.IntN.{ℤ}
 use Rattle.lp.specs.declared.Constraint.{Constraint}
 use Rattle.lp.specs.Program.{floorX, floorY}
@@ -25,8 +25,3 @@ laidOut f n l = laid f n (putEntry (putEntry l 0 (floorX zeroFloors)) 1 (floorY 
 -- rule i of the chain, as it is planned
 abbrev pub ruleFor : List ℕ → List ℕ → ℕ → Constraint
 ruleFor s records i = constraintOf (ruleOf v1 (recordAt v1 s (getD records i 0)))
-
--- room for n rules
-pub record Laying (records : List ℕ) (n : ℕ) (l : List ℤ) : Type 0 where
-  pub enough : n ≤ length records
-  pub room : 3 * (n + 2) ≤ length l

@@ -11,7 +11,6 @@ use Rattle.lp.specs.declared.Outcome.the-variants as outcome
 use Rattle.lp.specs.Outcome.{outcome}
 use Rattle.lp.specs.Slack.{amount, slackOf}
 use Rattle.lp.specs.Document.{leastXThenY, zeroFloors}
-use Rattle.book.specs.declared.Chain.{Chain}
 use Rattle.book.specs.Layout.{v1}
 use Rattle.book.specs.Record.{recordAt, ruleOf}
 use Rattle.book.specs.Answers.{constraintOf}
@@ -20,7 +19,7 @@ use Rattle.report.specs.declared.panel.Row.{Row}
 use Rattle.report.specs.declared.panel.Panel.{Panel}
 use Rattle.model.specs.Bounds.{SmallConstraint, SmallPoint}
 use Rattle.planner.specs.Layout.{ruleFor}
-use Rattle.planner.specs.Planning.{plannedRule, rulesOf, Chained}
+use Rattle.planner.specs.Planning.{plannedRule, rulesOf, Recorded}
 
 abbrev pub row : ℕ → Constraint → Point → Row
 row label r v = record { label = label; slack = slackOf r v }
@@ -60,10 +59,15 @@ rowFor s v i = row (ruleOf v1 (recordAt v1 s i) .label) (constraintOf (ruleOf v1
 
 pub record Filling (s records : List ℕ) (n : ℕ) (v : Point) : Type 0 where
   pub few : n ≤ 255
+  pub all : n ≤ length records
   pub point : SmallPoint v
   pub small : (k : ℕ) → k < n → SmallConstraint (ruleFor s records k)
 
+-- an accepted book's chain, whose outcome is q
+pub record Outcomes (s records : List ℕ) (n : ℕ) (q : Outcome) : Type 0 where
+  pub recorded : Recorded s n records
+  pub result : outcome leastXThenY zeroFloors (recorded .chained .objective) (rulesOf (recorded .chained .entries)) ≡ q
+
 -- a chain whose best pair is v
-pub record Best (s : List ℕ) (c : Chain) (v : Point) : Type 0 where
-  pub chained : Chained s c
-  pub best : outcome leastXThenY zeroFloors (chained .objective) (rulesOf (chained .entries)) ≡ outcome.Optimal v
+abbrev pub Best : List ℕ → List ℕ → ℕ → Point → Type 0
+Best s records n v = Outcomes s records n (outcome.Optimal v)

@@ -3,10 +3,10 @@
 use mathlib.Core.Path.{_≡_}
 use mathlib.Core.List.{List, map}
 use mathlib.Core.Bool.{cond}
-use Prim.Native.Nat.{ℕ, _+_, _*_, _≤_}
+use Prim.Native.Nat.{ℕ}
 use lib.Dec.{T, eqb}
-use lib.ListN.{length, take}
-use lib.IntN.{ℤ, negℤ}
+use lib.ListN.{take}
+use lib.IntN.{negℤ}
 use Rattle.lp.specs.declared.Constraint.{Constraint}
 use Rattle.lp.specs.declared.Functional.{Functional}
 use Rattle.lp.specs.declared.Certificate.{Certificate}
@@ -78,7 +78,7 @@ pub record Chained (s : List ℕ) (c : Chain) : Type 0 where
   pub accepts : readOf v1 s ≡ accepted objective entries
   pub chain : c ≡ chainOf (accepted objective entries)
 
--- the same, and a run of numbers with room for its entries
-pub record Running (s : List ℕ) (c : Chain) (l : List ℤ) : Type 0 where
-  pub chained : Chained s c
-  pub room : 3 * (c .n + 2) ≤ length l
+-- the records of such a chain, of n rules
+pub record Recorded (s : List ℕ) (n : ℕ) (records : List ℕ) : Type 0 where
+  pub objective : Functional
+  pub chained : Chained s (chainWith objective n records)

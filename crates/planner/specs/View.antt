@@ -26,8 +26,12 @@ viewed (at s) n = record { number = 0; at = 0; held = true; point = s; restarts 
 abbrev pub startView : List Constraint → StartView
 startView rules = viewed (startOf leastXThenY zeroFloors rules) (restarts leastXThenY zeroFloors rules)
 
+-- of a refused book
+abbrev pub unseen : ℕ → ℕ → StartView
+unseen n r = record { number = n; at = r; held = false; point = nowhere; restarts = 0 }
+
 abbrev pub viewOf : Reading → ℕ → StartView
-viewOf (refused n r) k = record { number = n; at = r; held = false; point = nowhere; restarts = 0 }
+viewOf (refused n r) k = unseen n r
 viewOf (accepted o es) k = startView (take k (rulesOf es))
 
 -- the promise of `start_after`

@@ -1,12 +1,12 @@
 // The panel of a book: the slack of its best pair against each rule of the chain.
-use crate::answer::planned;
 use crate::divisor::lowest;
 use crate::exact::slack;
-use book::Chain;
+use crate::run::run;
 use lp::Amount;
 use lp::Constraint;
 use lp::Outcome;
 use lp::Point;
+use report::Answer;
 use report::panel::Panel;
 use report::panel::Row;
 ghost use mathlib.Core.Path.{_≡_};
@@ -17,8 +17,7 @@ ghost use Rattle.book.specs.Layout.{v1};
 ghost use Rattle.book.specs.Record.{recordAt, ruleOf};
 ghost use Rattle.book.specs.Answers.{constraintOf};
 ghost use Rattle.planner.specs.Sizes.{Measured};
-ghost use Rattle.planner.specs.Planning.{Chained};
-ghost use Rattle.planner.specs.Panel.{noRow, paddedRows, panelWith, rowFor, Filling, Best, Panels};
+ghost use Rattle.planner.specs.Panel.{noRow, paddedRows, panelWith, rowFor, Filling, Best, Outcomes, Panels};
 
 // How far a point is from a constraint's line, in lowest terms.
 fn amount(r: Constraint, v: Point) -> Amount
@@ -53,9 +52,9 @@ fn no_row() -> Row
 }
 
 // The rows of the first n records, with zeros after them.
-fn fill(book: &[u8], records: [u16; 255], n: usize, v: Point) -> [Row; 255]
-    requires { ⌜ Filling (now book) records n v ⌝ }
-    ensures { λ r. ⌜ r ≡ paddedRows (map (rowFor (now (book .entry)) v) (take n records)) ⌝ }
+fn fill(book: &[u8], records: &[u16], n: usize, v: Point) -> [Row; 255]
+    requires { ⌜ Filling (now book) (now records) n v ⌝ }
+    ensures { λ r. ⌜ r ≡ paddedRows (map (rowFor (now (book .entry)) v) (take n (now (records .entry)))) ⌝ }
 {
     let none = no_row();
     let mut rows = [none; 255];
@@ -81,12 +80,10 @@ fn no_rows(number: u8, at: u16) -> Panel
 }
 
 // The panel of a best pair.
-fn best_panel(book: &[u8], chain: Chain, v: Point) -> Panel
-    requires { ⌜ Best (now book) chain v ⌝ }
+fn best_panel(book: &[u8], records: &[u16], n: usize, v: Point) -> Panel
+    requires { ⌜ Best (now book) (now records) n v ⌝ }
     ensures { λ r. ⌜ Panels (now (book .entry)) r ⌝ }
 {
-    let n = chain.n;
-    let records = chain.records;
     let rows = fill(book, records, n, v);
     Panel {
         number: 0,
@@ -96,16 +93,15 @@ fn best_panel(book: &[u8], chain: Chain, v: Point) -> Panel
     }
 }
 
-// The panel of an accepted book.
-fn accepted_panel(book: &[u8], chain: Chain) -> Panel
-    requires { ⌜ Chained (now book) chain ⌝ }
+// The panel of an accepted book, from its outcome.
+fn accepted_panel(book: &[u8], records: &[u16], n: usize, outcome: Outcome) -> Panel
+    requires { ⌜ Outcomes (now book) (now records) n outcome ⌝ }
     ensures { λ r. ⌜ Panels (now (book .entry)) r ⌝ }
 {
-    let outcome = planned(book, &chain.records, chain.n, chain.objective).outcome;
     match outcome {
         Outcome::Infeasible => no_rows(0, 0),
         Outcome::Unbounded(_, _) => no_rows(0, 0),
-        Outcome::Optimal(v) => best_panel(book, chain, v),
+        Outcome::Optimal(v) => best_panel(book, records, n, v),
     }
 }
 
@@ -113,11 +109,15 @@ fn accepted_panel(book: &[u8], chain: Chain) -> Panel
 pub fn panel(book: &[u8]) -> Panel
     ensures { λ r. ⌜ Panels (now (book .entry)) r ⌝ }
 {
-    let chain = book::read(book);
-    let number = chain.number;
-    if number == 0 {
-        accepted_panel(book, chain)
-    } else {
-        no_rows(number, chain.at)
+    let mut records = [0u16; 255];
+    let mut entries = [0i64; 771];
+    let run = run(book, 255, &mut records, &mut entries);
+    let answer = run.answer;
+    match answer {
+        Answer::Refused(_, _) => no_rows(run.view.number, run.view.at),
+        Answer::Planned(plan) => {
+            let outcome = plan.outcome;
+            accepted_panel(book, &records, run.n, outcome)
+        }
     }
 }

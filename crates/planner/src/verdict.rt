@@ -1,13 +1,10 @@
 // The plan of document 01, from what the walk holds at the end, with its witness by index. Fields that an outcome does not use are zero.
 use crate::cone::gaining;
 use crate::divisor::reduce_ray;
-use crate::walk::walk_entries;
 use lp::Certificate;
-use lp::Floors;
 use lp::Functional;
 use lp::Outcome;
 use lp::Point;
-use lp::Tie;
 use model::Best;
 use model::Cone;
 use model::Gain;
@@ -15,12 +12,10 @@ use model::State;
 use model::Walk;
 use report::Plan;
 ghost use mathlib.Core.Path.{_≡_};
-ghost use Prim.Native.Nat.{_-_};
-ghost use Rattle.model.specs.Step.{said as saidOf, walk as walkOf};
+ghost use Rattle.model.specs.Step.{said as saidOf};
 ghost use Rattle.planner.specs.Verdict.{verdictOf};
 ghost use Rattle.witness.specs.Witness.{nobody};
-ghost use Rattle.planner.specs.Entries.{entries as entriesOf};
-ghost use Rattle.planner.specs.Sizes.{Gaining, Answering, Walking};
+ghost use Rattle.planner.specs.Sizes.{Gaining, Answering};
 
 // No entry at all.
 fn no_certificate() -> Certificate
@@ -73,19 +68,4 @@ pub fn verdict(objective: Functional, walk: Walk) -> Plan
             witness: no_certificate(),
         },
     }
-}
-
-// The plan of n entries, of which the floors are the first two.
-pub fn plan_entries(
-    objective: Functional,
-    tie: Tie,
-    floors: Floors,
-    entries: &[i64],
-    n: usize,
-) -> Plan
-    requires { ⌜ Walking objective tie floors (now entries) n ⌝ }
-    ensures { λ r. ⌜ r ≡ verdictOf objective (walkOf tie floors objective (entriesOf (now (entries .entry)) 2 (n - 2))) ⌝ }
-{
-    let walk = walk_entries(objective, tie, floors, entries, n);
-    verdict(objective, walk)
 }

@@ -1,8 +1,8 @@
--- `planner::view::viewed` meets its contract.
+-- `planner::start_view::viewed` meets its contract.
 use Rattle.planner.proofs.Views.{viewed-ended, viewed-going}
 use borrow.Author.Needs.{needs}
-use Rattle.planner.proofs.view.viewed.Statement.{statement}
-use Rattle.planner.proofs.view.viewed.Tie as tie
+use Rattle.planner.proofs.start_view.viewed.Statement.{statement}
+use Rattle.planner.proofs.start_view.viewed.Tie as tie
 
 returns : tie.Need-returns
 returns c = viewed-ended (c .before .before .before .args .walk) (c .before .enum-told .given .1) (c .nowhere .ensures)

@@ -1,9 +1,9 @@
--- `planner::view::shorter` meets its contract: the lesser of the two.
+-- `planner::run::shorter` meets its contract: the lesser of the two.
 use mathlib.Core.Path.{sym}
 use native.Mathlib.Nat.{min-eq-left, min-eq-right}
 use native.Mathlib.Omega.{arith}
-use Rattle.planner.proofs.view.shorter.Statement.{statement}
-use Rattle.planner.proofs.view.shorter.Tie as tie
+use Rattle.planner.proofs.run.shorter.Statement.{statement}
+use Rattle.planner.proofs.run.shorter.Tie as tie
 
 returns : tie.Need-returns
 returns c = sym (min-eq-left (omega arith))
