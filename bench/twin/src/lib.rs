@@ -17,8 +17,8 @@ pub fn plan_line(book: &[u8], out: &mut [u8]) -> usize {
     plan_in::<false>(book, &mut [Constraint::NONE; LONG], out)
 }
 
-/// The same with the planner's shortcuts: a run for two floors and 255 rules is long to clear, so short books have a short one, and a point
-/// is divided in another order.
+/// The same with the planner's shortcuts: a run for two floors and 255 rules is long to clear, so short books have a short one; a point
+/// is divided in another order; and a pass starts from the point at infinity.
 #[inline(never)]
 pub fn tuned_line(book: &[u8], out: &mut [u8]) -> usize {
     if book::entries(book) <= SHORT {

@@ -55,7 +55,7 @@ pub fn walk<const TUNED: bool>(chain: &Chain) -> Answer {
             open += usize::from(ray.is_some());
         }
         if moved || (was_open && ray.is_none()) {
-            best = tightest(earlier, upward(h, p, q)).0.reduced::<TUNED>();
+            best = tightest::<TUNED>(earlier, upward(h, p, q)).0.reduced::<TUNED>();
         }
     }
     let outcome = match ray {
@@ -71,7 +71,7 @@ fn restart<const TUNED: bool>(earlier: &[Constraint], h: Constraint) -> Result<P
     if h.a == 0 && h.b == 0 {
         return Err(Witness { entries: [m, 0, 0], weights: [1, 0, 0] });
     }
-    let (v, j) = tightest(earlier, upward(h, 0, 0));
+    let (v, j) = tightest::<TUNED>(earlier, upward(h, 0, 0));
     match earlier.iter().position(|k| k.broken_by(v)) {
         None => Ok(v.reduced::<TUNED>()),
         Some(k) => Err(certificate(earlier, h, j, k)),
@@ -95,12 +95,13 @@ fn upward(h: Constraint, p: i64, q: i64) -> Constraint {
     }
 }
 
-/// The first meeting point along the line's ray with a constraint that the ray goes against, and that constraint.
-fn tightest(earlier: &[Constraint], line: Constraint) -> (Point, usize) {
-    let mut v = Point { x: 0, y: 0, d: 0 };
+/// The first meeting point along the line's ray with a constraint that the ray goes against, and that constraint. Tuned, it starts from the
+/// point at infinity, which each such constraint breaks, and asks nothing else.
+fn tightest<const TUNED: bool>(earlier: &[Constraint], line: Constraint) -> (Point, usize) {
+    let mut v = Point { x: line.b, y: -line.a, d: 0 };
     let mut made_by = usize::MAX;
     for (i, k) in earlier.iter().enumerate() {
-        if k.against(line) > 0 && (made_by == usize::MAX || k.broken_by(v)) {
+        if k.against(line) > 0 && (!TUNED && made_by == usize::MAX || k.broken_by(v)) {
             v = k.meet(line);
             made_by = i;
         }
