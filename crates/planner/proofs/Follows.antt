@@ -20,10 +20,10 @@ use Rattle.book.specs.Labels.{noting}
 use Rattle.book.specs.Reading.{refused, readOf, countOf, objectiveOf, walk, headerFault}
 use Rattle.book.proofs.Causes.{reads-clear, reads-faulty, count-small, refusal-applies, cause-number}
 use Rattle.book.proofs.Walking.{Walking, walking-start, walking-ends, arrived-room, arrived-step, walked}
-use Rattle.book.proofs.Leading.{Reached}
+use Rattle.book.proofs.Leading.{NewRule}
 use Rattle.planner.specs.declared.follow.Head.{Head}
 use Rattle.planner.specs.Layout.{putEntry, laid, ruleFor}
-use Rattle.planner.specs.Following.{Followed, Linking, Linked, turnedBack}
+use Rattle.planner.specs.Following.{FollowedBy, Followed, Linking, Linked, turnedBack}
 use Rattle.planner.proofs.Layouts.{put-length, laid-length}
 
 -- what is laid out depends on the rules before n alone
@@ -54,7 +54,7 @@ module _ {s : List ℕ} {before : List ℤ} {records : List ℕ} {l : List ℤ} 
   pub gone-length : length l ≡ length before
   gone-length = ap length (g .rules) ∙ laid-length (ruleFor s records) n before
 
-  module _ {r : Rule} {next : ℕ} (reached : Reached s seen labels records n at link r next) where
+  module _ {r : Rule} {next : ℕ} (reached : NewRule s seen labels records n at link r next) where
     -- one more record, and one more entry
     pub gone-few : n < 255
     gone-few = omega (arith, arrived-room (reached .arrived), g .links .few)
@@ -92,22 +92,13 @@ module _ (s : List ℕ) where
     refused-head : readOf v1 s ≡ refused (h .number) (h .at)
     refused-head = e ∙ ap (λ (h : Head). refused (h .number) (h .at)) (sym eh)
 
-    pub refused-linked : Linked s before h records l
-    refused-linked =
+    pub refused-followed : (lay : (ℕ → Constraint) → ℕ → List ℤ → List ℤ) → FollowedBy lay s before h records l
+    refused-followed lay =
         record {
           refusal = λ z. refused-head;
           chained = λ z. absurd (never z);
           room = λ z. absurd (never z);
-          rules-laid = λ z. absurd (never z);
-        }
-
-    pub refused-followed : Followed s before h records l
-    refused-followed =
-        record {
-          refusal = λ z. refused-head;
-          chained = λ z. absurd (never z);
-          room = λ z. absurd (never z);
-          laid = λ z. absurd (never z);
+          stands = λ z. absurd (never z);
         }
 
   pub fault-refused : (headerFault v1 s ≡ 0 → ⊥) → {k : ℕ} → k ≡ headerFault v1 s → readOf v1 s ≡ refused k 0
@@ -130,7 +121,7 @@ module _ (s : List ℕ) where
                 chain = walked (g .links) z eo ∙ ap chainOf (walking-ends (g .links) z);
               };
           room = λ yes. omega (arith, g .room, g .links .count, g .links .marked .counted);
-          rules-laid = λ yes. g .rules;
+          stands = λ yes. g .rules;
         }
 
 -- the floors before the rules
@@ -147,5 +138,5 @@ module _ (before : List ℤ) {laid-floors : List ℤ} (floors : laid-floors ≡ 
         refusal = k .refusal;
         chained = k .chained;
         room = λ z. omega (arith, k .room z, floors-length);
-        laid = λ z. k .rules-laid z ∙ ap (laid (ruleFor s records) (h .n)) floors;
+        stands = λ z. k .stands z ∙ ap (laid (ruleFor s records) (h .n)) floors;
       }

@@ -1,5 +1,5 @@
 -- Laws that the proofs of the planner's functions cite: sizes of sums and products (Sizes), magnitudes and quotients (Quotients), the passes over
--- the entries (Passes), the parts of a step (Steps), the walk (Walks), the verdict (Verdicts), a book's chain laid out, walked and answered (Layouts, Chains,
+-- the entries (Passes), the parts of a step (Steps), the walk (Walks), the verdict (Verdicts), a book's chain followed, laid out, walked and answered (Follows, Layouts, Chains,
 -- Finish, Plans), the view (Views), a run over the book (Runs) and the panel (Amounts). Then what follows from the promises alone: Ordered, Codes, Adding, Shown, Demands and Seen.
 pub mod Sizes
 pub mod Quotients

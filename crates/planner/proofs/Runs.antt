@@ -28,16 +28,18 @@ use Rattle.planner.specs.View.{viewed, unseen, viewOf}
 use Rattle.planner.specs.Running.{finishedOf, findingsOf, Covering, Whole, Runs}
 use Rattle.planner.proofs.Chains.{few}
 use Rattle.planner.proofs.Plans.{chain-count, chain-few, chain-finished}
-use Rattle.planner.proofs.Views.{prefix-walking, prefix-viewed}
+use Rattle.planner.proofs.Views.{shorter-walking, prefix-walking, prefix-viewed}
 
 -- ---- the walk of a prefix
 
-module _ {f : Functional} {n k : ℕ} {l : List ℤ} (h : Covering f n k l) {t : Tie} (et : t ≡ leastXThenY) {floors : Floors} (ef : floors ≡ zeroFloors) {m : ℕ} (em : m ≡ min k n) where
-  pub covered-walking : Walking f t floors l (m + 2)
-  covered-walking = subst (λ (x : Tie × Floors × ℕ). Walking f (x .0) (x .1) l (x .2 + 2)) (λ i. (sym et i, sym ef i, sym em i)) (h .walking)
+module _ {f : Functional} {n k : ℕ} {l : List ℤ} (h : Covering f n k l) {t : Tie} (et : t ≡ leastXThenY) {floors : Floors} (ef : floors ≡ zeroFloors) where
+  -- of no more entries than there are
+  pub covered-walking : {j : ℕ} → j ≤ min k n + 2 → 2 ≤ j → Walking f t floors l j
+  covered-walking {j} less two =
+      subst (λ (x : Tie × Floors). Walking f (x .0) (x .1) l j) (λ i. (sym et i, sym ef i)) (shorter-walking (h .walking) less two)
 
-  pub covered-found : {w : Walk} → w ≡ walk t floors f (entries l 2 (m + 2 - 2)) → (records : List ℕ) {p : Plan} → p ≡ finishedOf f records w → {v : StartView} → v ≡ viewed (startHeld (w .state)) (w .restarts) → _≡_ {A = Findings} (record { answer = Planned p; n = n; view = v }) (findingsOf f n records (walk leastXThenY zeroFloors f (entries l 2 (min k n))))
-  covered-found ew records ep ev =
+  pub covered-found : {m : ℕ} → m ≡ min k n → {w : Walk} → w ≡ walk t floors f (entries l 2 (m + 2 - 2)) → (records : List ℕ) {p : Plan} → p ≡ finishedOf f records w → {v : StartView} → v ≡ viewed (startHeld (w .state)) (w .restarts) → _≡_ {A = Findings} (record { answer = Planned p; n = n; view = v }) (findingsOf f n records (walk leastXThenY zeroFloors f (entries l 2 (min k n))))
+  covered-found {m} em ew records ep ev =
       (λ i. record { answer = Planned (ep i); n = n; view = ev i }) ∙ ap (findingsOf f n records) (ew ∙ (λ i. walk (et i) (ef i) f (entries l 2 (count i))))
     where
       back : (m : ℕ) → m + 2 - 2 ≡ m
@@ -61,15 +63,15 @@ module _ (s : List ℕ) (before : List ℤ) (h : Head) (records : List ℕ) (aft
     followed-covering =
         record {
           few = chain-few s chain (f .chained z);
-          walking = prefix-walking s chain (f .chained z) before (f .room z) after (f .laid z) k;
+          walking = prefix-walking s chain (f .chained z) before (f .room z) after (f .stands z) k;
         }
 
     pub followed-runs : {r : Findings} → r ≡ findingsOf (h .objective) (h .n) records (walk leastXThenY zeroFloors (h .objective) (entries after 2 (min k (h .n)))) → Runs s k r records
     followed-runs e =
         subst (λ (r : Findings). Runs s k r records) (sym e)
         (record {
-          answered = λ w. subst (λ (m : ℕ). Answers s (Planned (finishedOf (h .objective) records (walk leastXThenY zeroFloors (h .objective) (entries after 2 m))))) (sym (all w)) (chain-finished s chain (f .chained z) before (f .room z) after (f .laid z));
-          seen = prefix-viewed s chain (f .chained z) before (f .room z) after (f .laid z) k;
+          answered = λ w. subst (λ (m : ℕ). Answers s (Planned (finishedOf (h .objective) records (walk leastXThenY zeroFloors (h .objective) (entries after 2 m))))) (sym (all w)) (chain-finished s chain (f .chained z) before (f .room z) after (f .stands z));
+          seen = prefix-viewed s chain (f .chained z) before (f .room z) after (f .stands z) k;
           recorded = λ p q. record { objective = h .objective; chained = f .chained z };
         })
       where

@@ -111,13 +111,13 @@ pub fn panel(book: &[u8]) -> Panel
 {
     let mut records = [0u16; 255];
     let mut entries = [0i64; 771];
-    let run = run(book, 255, &mut records, &mut entries);
-    let answer = run.answer;
+    let found = run(book, 255, &mut records, &mut entries);
+    let answer = found.answer;
     match answer {
-        Answer::Refused(_, _) => no_rows(run.view.number, run.view.at),
+        Answer::Refused(_, _) => no_rows(found.view.number, found.view.at),
         Answer::Planned(plan) => {
             let outcome = plan.outcome;
-            accepted_panel(book, &records, run.n, outcome)
+            accepted_panel(book, &records, found.n, outcome)
         }
     }
 }

@@ -1,5 +1,5 @@
-// One run of the planner over a book: its chain is followed once, and walked once. The plan, the panel and the view all come from here, so that each
-// part has one caller and is compiled into it.
+// One run of the planner over a book: its chain is followed once, and walked once. The plan, the panel and the view all come from here, so that following,
+// walking and the verdict have one caller each and are compiled into it.
 use crate::StartView;
 use crate::follow::follow;
 use crate::start_view::unseen;

@@ -11,7 +11,7 @@ use Rattle.lp.specs.Document.{zeroFloors}
 use Rattle.book.specs.declared.Heading.{Heading}
 use Rattle.book.specs.Layout.{v1}
 use Rattle.book.specs.Reading.{headerFault}
-use Rattle.planner.specs.Layout.{putEntry}
+use Rattle.planner.specs.Layout.{putEntry, laidOut}
 use Rattle.planner.proofs.Layouts.{put-length}
 use Rattle.planner.proofs.Follows.{refused-followed, fault-refused, floors-length, linked-followed}
 use Rattle.planner.proofs.follow.follow.Statement.{statement}
@@ -56,7 +56,7 @@ returns-2 c =
     let start = c .before .before .before .before .before in
     let s = start .args .book .now in
     let fault = ap (λ (h : Heading). h .fault) (c .before .before .heading-of .ensures) in
-    refused-followed s (fault-refused s (λ z. c .before .if1 .left (fault ∙ z)) fault) (c .turned-back .ensures) (start .args .entries .now) _ _
+    refused-followed s (fault-refused s (λ z. c .before .if1 .left (fault ∙ z)) fault) (c .turned-back .ensures) (start .args .entries .now) _ _ laidOut
 
 pub follow-spec : {M : Type 1} → statement M
 follow-spec =

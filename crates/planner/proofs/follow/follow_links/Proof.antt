@@ -7,8 +7,9 @@ use mathlib.Core.Path.{_≡_, sym, ap, _∙_, subst}
 use Rattle.book.specs.declared.Judged.{Judged}
 use Rattle.book.specs.Number.{Bytes}
 use Rattle.book.specs.Judging.{seenAfter, labelsAfter}
-use Rattle.book.proofs.Leading.{Reached, Leads, leads}
-use Rattle.planner.proofs.Follows.{Gone, cleared-size, gone-start, gone-length, gone-few, gone-room, gone-step, refused-linked, walk-refused, ended-linked}
+use Rattle.book.proofs.Leading.{NewRule, Leads, leads}
+use Rattle.planner.specs.Layout.{laid}
+use Rattle.planner.proofs.Follows.{Gone, cleared-size, gone-start, gone-length, gone-few, gone-room, gone-step, refused-followed, walk-refused, ended-linked}
 use Rattle.planner.proofs.follow.follow_links.Statement.{statement}
 use Rattle.planner.proofs.follow.follow_links.Tie as tie
 
@@ -33,7 +34,7 @@ returns : tie.Need-returns Inv-loop μ-loop
 returns c =
     let start = c .before .before .before .before .before .before .before .before .before .before .before .before .before in
     let s = start .args .book .now in
-    refused-linked s (walk-refused s (start .pre .lawful) (told (c .before .before .before .before) (c .before .before .number .given .1))) (c .turned-back .ensures) (start .args .entries .now) _ _
+    refused-followed s (walk-refused s (start .pre .lawful) (told (c .before .before .before .before) (c .before .before .number .given .1))) (c .turned-back .ensures) (start .args .entries .now) _ _ laid
 
 same-length : tie.Need-same-length Inv-loop μ-loop
 same-length c = c .before .before .before .before .before .before .before .before .before .before .loop .inv .size ∙ sym (cleared-size (c .before .before .before .before .before .before .before .before .before .before .before .before .before .pre))
@@ -42,14 +43,14 @@ same-length-2 : tie.Need-same-length-2 Inv-loop μ-loop
 same-length-2 c = gone-length (c .before .before .before .before .before .before .before .before .before .before .loop .inv)
 
 -- a sound record that was not visited
-reached : (c : tie.After-known-told2 Inv-loop μ-loop) → let l = c .before .before .before .before .before .before .before .before .before .loop in Reached (c .before .before .before .before .before .before .before .before .before .before .before .before .args .book .now) (l .seen) (l .labels) (l .records) (l .n) (l .at) (l .link) (c .before .rule .given .0 .0) (c .before .rule .given .0 .1 .0)
+reached : (c : tie.After-known-told2 Inv-loop μ-loop) → let l = c .before .before .before .before .before .before .before .before .before .loop in NewRule (c .before .before .before .before .before .before .before .before .before .before .before .before .args .book .now) (l .seen) (l .labels) (l .records) (l .n) (l .at) (l .link) (c .before .rule .given .0 .0) (c .before .rule .given .0 .1 .0)
 reached c = told (c .before .before .before) (c .before .rule .given .1)
 
 add-put-entry : tie.Need-add-put-entry Inv-loop μ-loop
 add-put-entry c = omega (arith, gone-few (c .before .before .before .before .before .before .before .before .before .before .loop .inv) (reached (c .before)))
 
 put-entry-requires : tie.Need-put-entry-requires Inv-loop μ-loop
-put-entry-requires c κs = record { room = gone-room (c .before .before .before .before .before .before .before .before .before .before .before .loop .inv) (reached (c .before .before)) }
+put-entry-requires c κs = record { room = omega (arith, gone-room (c .before .before .before .before .before .before .before .before .before .before .before .loop .inv) (reached (c .before .before))) }
 
 few : (c : tie.After-entries Inv-loop μ-loop) → c .before .before .before .before .before .before .before .before .before .before .before .before .before .loop .n < 255
 few c = gone-few (c .before .before .before .before .before .before .before .before .before .before .before .before .before .loop .inv) (reached (c .before .before .before .before))

@@ -1,4 +1,5 @@
 -- `planner::run::run_chain` meets its contract: the run of an accepted book, whose rules are laid out.
+use native.Mathlib.Omega.{arith}
 use Rattle.planner.proofs.Verdicts.{answering}
 use Rattle.planner.proofs.Runs.{covered-walking, covered-found}
 use borrow.Author.Needs.{needs}
@@ -6,11 +7,10 @@ use Rattle.planner.proofs.run.run_chain.Statement.{statement}
 use Rattle.planner.proofs.run.run_chain.Tie as tie
 
 walk-entries-requires : tie.Need-walk-entries-requires
-walk-entries-requires c κs = covered-walking (c .before .before .before .before .pre) (c .before .least-x-then-y .ensures) (c .zero-floors .ensures) (c .before .before .shorter .ensures)
+walk-entries-requires c κs = covered-walking (c .before .before .before .before .pre) (c .before .least-x-then-y .ensures) (c .zero-floors .ensures) (omega (arith, c .before .before .shorter .ensures)) (omega arith)
 
 finished-requires : tie.Need-finished-requires
-finished-requires c κs =
-    answering (covered-walking (c .before .before .before .before .before .pre) (c .before .before .least-x-then-y .ensures) (c .before .zero-floors .ensures) (c .before .before .before .shorter .ensures)) (c .walk-entries .ensures)
+finished-requires c κs = answering (walk-entries-requires (c .before) (c .walk-entries .lifetimes)) (c .walk-entries .ensures)
 
 returns : tie.Need-returns
 returns c =
