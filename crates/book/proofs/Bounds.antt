@@ -1,7 +1,7 @@
 -- What holds of every accepted book: its chain has no more entries than the header counts, each of them a record after the header, none twice, no label twice,
 -- and its numbers are within document 01's ranges.
 use Prim.Native.Nat.{ℕ, suc, _-_, _≤_, _<_}
-use mathlib.Core.Path.{_≡_, refl, sym, ap, _∙_, subst, subst⁻¹}
+use mathlib.Core.Path.{_≡_, refl, sym, ap, _∙_, subst⁻¹}
 use mathlib.Core.Bool.{Bool, true, false}
 use mathlib.Core.List.{List, [], _∷_, _++_, map}
 use mathlib.Core.Logic.{_⊎_, inl, inr}
@@ -118,9 +118,6 @@ module _ (L : Layout) (s : List ℕ) where
 
     pub count-room : countOf L s < L .records
     count-room = walked-count L s (meant .walked)
-
-    pub accepted-objective : o ≡ objectiveOf L s
-    accepted-objective = meant .objective
 
     pub lawful-objective : LawfulObjective o
     lawful-objective = subst⁻¹ LawfulObjective (meant .objective) (walked-objective (meant .walked))

@@ -1,6 +1,6 @@
 -- The table of labels: a bit that is set changes no other bit, so the table says of each label whether it stands in the list of those met.
 use Prim.Native.Nat.{ℕ, zero, suc, _+_, _-_, _*_, _/_, _%_, _^_, _≤_, _<_}
-use mathlib.Core.Path.{_≡_, refl, sym, ap, _∙_, subst, subst⁻¹}
+use mathlib.Core.Path.{_≡_, refl, sym, ap, _∙_, subst}
 use mathlib.Core.Bool.{false}
 use mathlib.Core.List.{List, [], _∷_, _++_}
 use native.Mathlib.Omega.{arith}
@@ -88,7 +88,6 @@ noted-out t l h = ap (λ w. eqb (w / 2 ^ (l % 64) % 2) 1) (List·getD-eq-default
 -- the labels noted are those met
 pub record Noted (t : List ℕ) (met : List ℕ) : Type 0 where
   pub size : length t ≡ 1024
-  pub words : (i : ℕ) → getD t i 0 < 2 ^ 64
   pub agrees : (l : ℕ) → l < 65536 → isNoted t l ≡ memb l met
 
 zeros : (n i : ℕ) → _≡_ {A = ℕ} (getD (replicate n 0) i 0) 0
@@ -101,7 +100,6 @@ unfolding memb isNoted
 noted-start =
     record {
       size = length-replicate {A = ℕ} 1024 0;
-      words = λ i. subst⁻¹ (λ (n : ℕ). n < 2 ^ 64) (zeros 1024 i) (lit< tt);
       agrees = λ l h. ap (λ w. eqb (w / 2 ^ (l % 64) % 2) 1) (zeros 1024 (l / 64)) ∙ no-bit (l % 64);
     }
 
@@ -118,10 +116,6 @@ module _ {t met : List ℕ} (n : Noted t met) (l : ℕ) (h : l < 65536) (new : i
   clear : word / 2 ^ (l % 64) % 2 ≡ 0
   unfolding word
   clear = clear-bit t l new
-
-  more-fits : more < 2 ^ 64
-  unfolding more word
-  more-fits = fits-64 word (l % 64) (omega arith) clear (n .words (l / 64))
 
   -- the labels noted after it
   now-noted : (j : ℕ) → j < 65536 → isNoted (noting t l) j ≡ memb j (met ++ (l ∷ []))
@@ -151,10 +145,5 @@ module _ {t met : List ℕ} (n : Noted t met) (l : ℕ) (h : l < 65536) (new : i
   noted-step =
       record {
         size = length-set t (l / 64) more ∙ n .size;
-        words = λ i. go i (ℕ-discrete i (l / 64));
         agrees = now-noted;
       }
-    where
-      go : (i : ℕ) → Dec (i ≡ l / 64) → getD (set t (l / 64) more) i 0 < 2 ^ 64
-      go i (yes e) = subst⁻¹ (λ (x : ℕ). x < 2 ^ 64) (ap (λ x. getD (set t (l / 64) more) x 0) e ∙ getD-set-same t (l / 64) more 0 inside) more-fits
-      go i (no d) = subst⁻¹ (λ (x : ℕ). x < 2 ^ 64) (getD-set-other t (l / 64) i more 0 d) (n .words i)

@@ -48,7 +48,7 @@ module _ (s : List ℕ) (seen : List Bool) (labels : List ℕ) (at i : ℕ) wher
 -- ---- what it means for the walk
 
 -- a sound record that was not visited, with a label that was not met
-pub record Reached (s : List ℕ) (seen : List Bool) (labels records : List ℕ) (n at i : ℕ) (r : Rule) (next : ℕ) : Type 0 where
+pub record NewRule (s : List ℕ) (seen : List Bool) (labels records : List ℕ) (n at i : ℕ) (r : Rule) (next : ℕ) : Type 0 where
   pub arrived : Arrived s seen labels records n at i (r .label) next
   pub new : isNoted labels (r .label) ≡ false
   pub rule : r ≡ ruleOf v1 (recordAt v1 s i)
@@ -56,7 +56,7 @@ pub record Reached (s : List ℕ) (seen : List Bool) (labels records : List ℕ)
 module _ {s : List ℕ} (bytes : Bytes s) {seen : List Bool} {labels records : List ℕ} {n at i : ℕ} (w : Walking s seen labels records n at i) (some : i ≡ 0 → ⊥) where
   abbrev pub Leads : Judged → Type 0
   Leads (Refused k r) = walk v1 s 256 [] 0 ≡ refused k r
-  Leads (Sound r next) = Reached s seen labels records n at i r next
+  Leads (Sound r next) = NewRule s seen labels records n at i r next
 
   to : {j : Judged} → j ≡ judged s seen labels at i → Leads j → Leads (judged s seen labels at i)
   to e l = subst⁻¹ Leads (sym e) l

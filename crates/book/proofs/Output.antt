@@ -23,7 +23,7 @@ rules-of L s [] = refl
 rules-of L s (i ∷ done) = ap (λ l. ruleOf L (recordAt L s i) ∷ l) (rules-of L s done)
 
 -- what an accepted book's answer holds
-pub record Chained (s : List ℕ) (ch : Chain) : Type 0 where
+pub record ChainRead (s : List ℕ) (ch : Chain) : Type 0 where
   pub done : List ℕ
   pub reads : readOf v1 s ≡ accepted (objectiveOf v1 s) (map (entryAt v1 s) done)
   pub count : ch .n ≡ length done
@@ -40,11 +40,11 @@ module _ (s : List ℕ) (ch : Chain) (e : ch ≡ chainOf (readOf v1 s)) where
           p ∙ sym (λ j. refused ((e ∙ ap chainOf p) j .number) ((e ∙ ap chainOf p) j .at))
       go (accepted o es) p = absurd (h (ap (λ (c : Chain). c .number) (e ∙ ap chainOf p)))
 
-  pub chain-accepted : ch .number ≡ 0 → Chained s ch
+  pub chain-accepted : ch .number ≡ 0 → ChainRead s ch
   unfolding chainOf
   chain-accepted z = go (readOf v1 s) refl
     where
-      go : (x : Reading) → readOf v1 s ≡ x → Chained s ch
+      go : (x : Reading) → readOf v1 s ≡ x → ChainRead s ch
       go (refused k i) p =
           absurd
           (let n : k ≡ 0 = sym (ap (λ (c : Chain). c .number) (e ∙ ap chainOf p)) ∙ z in
@@ -79,7 +79,7 @@ module _ (s out : List ℕ) where
   unfolding packOf
   packs-refused k i e = record { answer = rw e; output = rw e }
 
-  module _ {ch : Chain} (c : Chained s ch) where
+  module _ {ch : Chain} (c : ChainRead s ch) where
     pub packs-declined : length out < 12 * (ch .n + 1) → Repacks s out (record { number = 11; at = 0; filled = 0 }) out
     unfolding packOf
     packs-declined h = record { answer = rw (c .reads, short); output = rw (c .reads, short) }

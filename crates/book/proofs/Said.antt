@@ -16,7 +16,7 @@ use Rattle.book.proofs.Causes.{refusal-applies, applies-refused, accept
 use Rattle.book.proofs.Walking.{indices}
 use Rattle.book.proofs.Bounds.{entry-lawful, label-distinct, lawful-objective}
 use Rattle.book.proofs.Planned.{planned-lawful}
-use Rattle.book.proofs.Output.{Chained, chain-refused, chain-accepted}
+use Rattle.book.proofs.Output.{ChainRead, chain-refused, chain-accepted}
 
 module _ (s : List ℕ) (ch : Chain) (r : Reads s ch) where
   pub said-applies : (ch .number ≡ 0 → ⊥) → Applies v1 s (ch .number) (ch .at)
@@ -29,7 +29,7 @@ module _ (s : List ℕ) (ch : Chain) (r : Reads s ch) where
       let p = applies-refused v1 s a in
       (ap (λ (c : Chain). c .number) (e ∙ ap chainOf p), ap (λ (c : Chain). c .at) (e ∙ ap chainOf p))
 
-  pub none-said : ch .number ≡ 0 → Chained s ch
+  pub none-said : ch .number ≡ 0 → ChainRead s ch
   none-said z = chain-accepted s ch (r .answer) z
 
   pub none-applies : ch .number ≡ 0 → (k i : ℕ) → Applies v1 s k i → ⊥
@@ -37,7 +37,7 @@ module _ (s : List ℕ) (ch : Chain) (r : Reads s ch) where
 
 -- ---- what a caller reads off an accepted book's answer
 
-module _ (s : List ℕ) (ch : Chain) (c : Chained s ch) where
+module _ (s : List ℕ) (ch : Chain) (c : ChainRead s ch) where
   -- the record at a place of the chain
   pub record-at-place : (k : ℕ) → k < ch .n → getD (ch .records) k 0 ≡ getD (c .done) k 0
   record-at-place k h =

@@ -1,4 +1,4 @@
--- The answers of the code for each thing defined, and what each public function promises. Whatever an answer does not use is zero.
+-- The answers of the code for each thing defined, and what the public functions promise (`judge`: Judging). Whatever an answer does not use is zero.
 use Prim.Native.Nat.{ℕ, _+_, _-_, _*_, _≤_}
 use mathlib.Core.Path.{_≡_}
 use mathlib.Core.Bool.{cond}

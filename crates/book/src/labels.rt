@@ -1,4 +1,4 @@
-// The labels met on the chain: a bit for each label, 64 to a word. A table that is too short notes nothing.
+// The labels met on the chain: a bit for each label, 64 to a word. A table that is too short notes no label beyond it.
 ghost use mathlib.Core.Path.{_≡_};
 ghost use mathlib.Core.Bool.{false};
 ghost use lib.ListN.{replicate};

@@ -102,7 +102,7 @@ pub fn heading_of(book: &[u8]) -> Heading
 }
 
 // A link of the chain judged, which record `at` holds, by the records visited and the labels met before it. A sound rule is noted in both tables; else they stay
-// as they are.
+// as they are. A link of 0 ends the chain and is not for judging: it would be taken for one to the header.
 pub fn judge(book: &[u8], seen: &mut [bool], labels: &mut [u64], at: u16, link: u16) -> Judged
     ensures { λ r. ⌜ Judges (now (book .entry)) (now (seen .entry)) (now (labels .entry)) at link r (now (seen .exit)) (now (labels .exit)) ⌝ }
 {

@@ -2,13 +2,13 @@
 use borrow.Author.Needs.{needs}
 use native.Mathlib.Omega.{arith}
 use Prim.Native.Nat.{_≤_}
-use Rattle.book.proofs.Output.{Chained, chain-refused, chain-accepted, packs-refused, packs-declined, packs-packed}
+use Rattle.book.proofs.Output.{ChainRead, chain-refused, chain-accepted, packs-refused, packs-declined, packs-packed}
 use Rattle.book.proofs.Packed.{next-small}
 use Rattle.book.proofs.repack.Statement.{statement}
 use Rattle.book.proofs.repack.Tie as tie
 
 -- the chain of an accepted book
-chained : (c : tie.Else1) → Chained (c .before .before .before .before .args .book .now) (c .before .read .result)
+chained : (c : tie.Else1) → ChainRead (c .before .before .before .before .args .book .now) (c .before .read .result)
 chained c = chain-accepted (c .before .before .before .before .args .book .now) (c .before .read .result) (c .before .read .ensures .answer) (c .if1 .left)
 
 few : (c : tie.Else1) → c .before .read .result .n ≤ 255

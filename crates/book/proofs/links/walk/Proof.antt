@@ -8,7 +8,7 @@ use Rattle.book.specs.Number.{Bytes}
 use Rattle.book.specs.Answers.{chainOf}
 use Rattle.book.specs.Judging.{seenAfter, labelsAfter}
 use Rattle.book.proofs.Walking.{Walking, walking-start, arrived-room, arrived-step, walked}
-use Rattle.book.proofs.Leading.{Reached, Leads, leads}
+use Rattle.book.proofs.Leading.{NewRule, Leads, leads}
 use Rattle.book.proofs.links.walk.Statement.{statement}
 use Rattle.book.proofs.links.walk.Tie as tie
 
@@ -33,7 +33,7 @@ returns : tie.Need-returns Inv-loop μ-loop
 returns c = c .refused .ensures ∙ ap chainOf (sym (told (c .before .before .before .before) (c .before .before .number .given .1)))
 
 -- a sound record that was not visited
-reached : (c : tie.After-known-told2 Inv-loop μ-loop) → let l = c .before .before .before .before .before .before .before .before .before .loop in Reached (c .before .before .before .before .before .before .before .before .before .before .before .before .before .before .before .args .book .now) (l .seen) (l .labels) (l .records) (l .n) (l .at) (l .link) (c .before .next .given .0 .0) (c .before .next .given .0 .1 .0)
+reached : (c : tie.After-known-told2 Inv-loop μ-loop) → let l = c .before .before .before .before .before .before .before .before .before .loop in NewRule (c .before .before .before .before .before .before .before .before .before .before .before .before .before .before .before .args .book .now) (l .seen) (l .labels) (l .records) (l .n) (l .at) (l .link) (c .before .next .given .0 .0) (c .before .next .given .0 .1 .0)
 reached c = told (c .before .before .before) (c .before .next .given .1)
 
 -- the marks leave room for one more record
