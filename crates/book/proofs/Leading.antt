@@ -1,6 +1,6 @@
 -- What a judged link means for the walk: the book is refused there, or the walk has arrived at a sound record.
 use Prim.Native.Nat.{ℕ, _≤_, _<_}
-use mathlib.Core.Path.{_≡_, refl, sym, subst⁻¹}
+use mathlib.Core.Path.{_≡_, refl, sym, _∙_, subst, subst⁻¹}
 use mathlib.Core.Bool.{Bool, true, false}
 use mathlib.Core.List.{List, []}
 use native.Mathlib.Omega.{arith}
@@ -97,3 +97,7 @@ module _ {s : List ℕ} (bytes : Bytes s) {seen : List Bool} {labels records : L
       go : Dec (countOf v1 s < i) → Leads (judged s seen labels at i)
       go (yes h) = to (judged-over s seen labels at i h) (walking-over w some h)
       go (no h) = by-mark (omega arith) (getD seen i false) refl
+
+  -- of an answer that is one of its cases
+  pub leads-to : {r j : Judged} → r ≡ judged s seen labels at i → r ≡ j → Leads j
+  leads-to e q = subst Leads (sym e ∙ q) leads

@@ -2,13 +2,12 @@
 use borrow.Author.Needs.{needs}
 use native.Mathlib.Omega.{arith}
 use Prim.Native.Nat.{_-_, _<_}
-use mathlib.Core.Path.{_≡_, sym, ap, _∙_, subst}
+use mathlib.Core.Path.{_≡_, sym, ap, _∙_}
 use Rattle.book.specs.declared.Judged.{Judged}
-use Rattle.book.specs.Number.{Bytes}
 use Rattle.book.specs.Answers.{chainOf}
 use Rattle.book.specs.Judging.{seenAfter, labelsAfter}
 use Rattle.book.proofs.Walking.{Walking, walking-start, arrived-room, arrived-step, walked}
-use Rattle.book.proofs.Leading.{NewRule, Leads, leads}
+use Rattle.book.proofs.Leading.{NewRule, Leads, leads-to}
 use Rattle.book.proofs.links.walk.Statement.{statement}
 use Rattle.book.proofs.links.walk.Tie as tie
 
@@ -23,11 +22,7 @@ loop-holds c = walking-start (c .before .before .before .before .before .args .b
 
 -- what the judged link means for the walk
 told : (c : tie.After-labels2 Inv-loop μ-loop) {j : Judged} → c .before .before .judge .result ≡ j → Leads (λ i. c .before .before .before .before .before .before .before .before .before .before .before .shared-slice-known .given i .fits) (c .before .before .before .before .before .before .loop .inv) (c .before .before .before .before .before .loop-test .taken) j
-told c e =
-    let bytes : Bytes (c .before .before .before .before .before .before .before .before .before .before .before .before .args .book .now) = λ i. c .before .before .before .before .before .before .before .before .before .before .before .shared-slice-known .given i .fits in
-    let w = c .before .before .before .before .before .before .loop .inv in
-    let some = c .before .before .before .before .before .loop-test .taken in
-    subst (Leads bytes w some) (sym (c .before .before .judge .ensures .answer) ∙ e) (leads bytes w some)
+told c e = leads-to (λ i. c .before .before .before .before .before .before .before .before .before .before .before .shared-slice-known .given i .fits) (c .before .before .before .before .before .before .loop .inv) (c .before .before .before .before .before .loop-test .taken) (c .before .before .judge .ensures .answer) e
 
 returns : tie.Need-returns Inv-loop μ-loop
 returns c = c .refused .ensures ∙ ap chainOf (sym (told (c .before .before .before .before) (c .before .before .number .given .1)))

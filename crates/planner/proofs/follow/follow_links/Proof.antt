@@ -3,11 +3,10 @@
 use borrow.Author.Needs.{needs}
 use native.Mathlib.Omega.{arith}
 use Prim.Native.Nat.{_-_, _<_}
-use mathlib.Core.Path.{_≡_, sym, ap, _∙_, subst}
+use mathlib.Core.Path.{_≡_, sym, ap, _∙_}
 use Rattle.book.specs.declared.Judged.{Judged}
-use Rattle.book.specs.Number.{Bytes}
 use Rattle.book.specs.Judging.{seenAfter, labelsAfter}
-use Rattle.book.proofs.Leading.{NewRule, Leads, leads}
+use Rattle.book.proofs.Leading.{NewRule, Leads, leads-to}
 use Rattle.planner.specs.Layout.{laid}
 use Rattle.planner.proofs.Follows.{Gone, cleared-size, gone-start, gone-length, gone-few, gone-room, gone-step, refused-followed, walk-refused, ended-linked}
 use Rattle.planner.proofs.follow.follow_links.Statement.{statement}
@@ -24,11 +23,7 @@ loop-holds c = gone-start (c .before .before .pre)
 
 -- what the judged link means for the walk
 told : (c : tie.After-labels2 Inv-loop μ-loop) {j : Judged} → c .before .before .judge .result ≡ j → Leads (λ i. c .before .before .before .before .before .before .before .before .shared-slice-known .given i .fits) (c .before .before .before .before .before .before .loop .inv .links) (c .before .before .before .before .before .loop-test .taken) j
-told c e =
-    let bytes : Bytes (c .before .before .before .before .before .before .before .before .before .args .book .now) = λ i. c .before .before .before .before .before .before .before .before .shared-slice-known .given i .fits in
-    let w = c .before .before .before .before .before .before .loop .inv .links in
-    let some = c .before .before .before .before .before .loop-test .taken in
-    subst (Leads bytes w some) (sym (c .before .before .judge .ensures .answer) ∙ e) (leads bytes w some)
+told c e = leads-to (λ i. c .before .before .before .before .before .before .before .before .shared-slice-known .given i .fits) (c .before .before .before .before .before .before .loop .inv .links) (c .before .before .before .before .before .loop-test .taken) (c .before .before .judge .ensures .answer) e
 
 returns : tie.Need-returns Inv-loop μ-loop
 returns c =
