@@ -24,6 +24,10 @@ use Rattle.lp.specs.Certificate.{Weighted, certifies}
 abbrev pub leastXThenY : Tie
 leastXThenY = record { first = functional (negsuc 0) (pos 0); second = functional (pos 0) (negsuc 0) }
 
+-- the tie of the certificate in force, by the one name that every promise has for it
+abbrev pub tie : Tie
+tie = leastXThenY
+
 abbrev pub zeroFloors : Floors
 zeroFloors = record { lx = pos 0; ly = pos 0 }
 

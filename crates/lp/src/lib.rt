@@ -26,6 +26,12 @@ pub struct Floors {
     pub ly: i64,
 }
 
+// What a chain of rules is planned under: the objective and the floors.
+pub struct Terms {
+    pub objective: Functional,
+    pub floors: Floors,
+}
+
 // A pair of document 01: x/d and y/d, with d at least 1.
 pub struct Point {
     pub x: i64,

@@ -45,7 +45,8 @@ use Rattle.model.specs.declared.State.the-variants.{Ended, Going}
 use Rattle.model.specs.declared.Walk.{Walk}
 use Rattle.model.specs.Scan.{facing, direction, tighter, tightest, firstBroken}
 use Rattle.model.specs.Step.{alone, lineWeight, conflict, checked, resettled, restart, narrowed, narrow, gaining, foundPoint, tightestPoint, reopened, improved, isOpen, breaks, going, settled, stepped, step, opening, begin, walkFrom, walk, said, saidRay}
-use Rattle.model.specs.Bounds.{SmallConstraint, SmallSystem, SmallTie, SmallFloors, SmallPoint, SmallRay, SmallCertificate, SmallFound, SmallBroken, SmallRestart, SmallCone, SmallGain, SmallBest, SmallState, SmallOutcome, SmallWalk}
+use Rattle.model.specs.Bounds.{SmallPoint, SmallRay, SmallCertificate, SmallFound, SmallBroken, SmallRestart, SmallCone, SmallGain, SmallBest, SmallState, SmallOutcome, SmallWalk}
+use Rattle.lp.specs.Range.{SmallConstraint, SmallSystem, SmallTie, SmallFloors}
 
 -- ---- lawful rules, and the floors
 

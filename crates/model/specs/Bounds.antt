@@ -1,10 +1,11 @@
--- Document 01's bounds on what the walk holds: coefficients, corners, directions and weights. The planner's code asks for them, since they keep
+-- Document 01's bounds on what the walk holds: corners, directions and weights (those of what a book gives are lp's Range). The planner's code asks for them, since they keep
 -- every product and sum within 64 bits; that the walk's numbers have them is proved in proofs/Bounds.antt.
 use mathlib.Core.List.{List, [], _∷_}
 use Prim.Native.Nat.{ℕ, suc, _≤_}
 use lib.IntN.{pos}
 use Rattle.ints.specs.Order.{_<ᶻ_}
 use Rattle.ints.specs.Within.{Within}
+use Rattle.lp.specs.Range.{SmallConstraint}
 use Rattle.lp.specs.declared.Constraint.{Constraint}
 use Rattle.lp.specs.declared.Functional.{Functional}
 use Rattle.lp.specs.declared.Floors.{Floors}
@@ -29,30 +30,6 @@ use Rattle.model.specs.declared.Best.the-variants as best
 use Rattle.model.specs.declared.State.{State}
 use Rattle.model.specs.declared.State.the-variants.{Ended, Going}
 use Rattle.model.specs.declared.Walk.{Walk}
-
--- ---- what a book gives
-
-pub record SmallConstraint (r : Constraint) : Type 0 where
-  pub a-small : Within 32767 (r .a)
-  pub b-small : Within 32767 (r .b)
-  pub c-small : Within 1000000000 (r .c)
-
--- every constraint of a system
-abbrev pub SmallSystem : List Constraint → Type 0
-SmallSystem [] = Unit {0}
-SmallSystem (r ∷ S) = SmallConstraint r × SmallSystem S
-
-pub record SmallFunctional (f : Functional) : Type 0 where
-  pub p-small : Within 32767 (f .p)
-  pub q-small : Within 32767 (f .q)
-
-pub record SmallTie (t : Tie) : Type 0 where
-  pub first-small : SmallFunctional (t .first)
-  pub second-small : SmallFunctional (t .second)
-
-pub record SmallFloors (f : Floors) : Type 0 where
-  pub lx-small : Within 32768 (f .lx)
-  pub ly-small : Within 32768 (f .ly)
 
 -- ---- what the walk makes of it
 

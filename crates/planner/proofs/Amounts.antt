@@ -33,7 +33,8 @@ use Rattle.report.specs.declared.Plan.{Plan}
 use Rattle.report.specs.declared.panel.Row.{Row}
 use Rattle.report.specs.declared.panel.Panel.{Panel}
 use Rattle.model.specs.Step.{walk}
-use Rattle.model.specs.Bounds.{SmallConstraint, SmallSystem, SmallOutcome}
+use Rattle.model.specs.Bounds.{SmallOutcome}
+use Rattle.lp.specs.Range.{SmallConstraint, SmallSystem}
 use Rattle.model.proofs.Bounds.{lawful-small, slack-small, zeroFloors-small, said-small, walk-small}
 use Rattle.theory.proofs.Ties.{least-x-then-y-good}
 use Rattle.theory.proofs.Theorems.{walk-is-defined}

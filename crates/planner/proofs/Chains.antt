@@ -20,7 +20,7 @@ use Rattle.book.specs.Answers.{padded, indexIn, constraintOf}
 use Rattle.book.specs.Lawful.{LawfulRule, LawfulConstraint}
 use Rattle.book.proofs.Planned.{at-most-planned, at-least-planned, planned-lawful}
 use Rattle.book.proofs.Bounds.{chain-count, count-room, lawful-objective, accepted-entries, entry-lawful}
-use Rattle.model.specs.Bounds.{SmallConstraint}
+use Rattle.lp.specs.Range.{SmallConstraint}
 use Rattle.model.proofs.Bounds.{leastXThenY-small, zeroFloors-small}
 use Rattle.planner.specs.Entries.{entry, entries}
 use Rattle.planner.specs.Sizes.{Walking}

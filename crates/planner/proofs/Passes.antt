@@ -22,7 +22,8 @@ use Rattle.model.specs.declared.Found.the-variants as found
 use Rattle.model.specs.declared.Broken.{Broken}
 use Rattle.model.specs.declared.Broken.the-variants as broken
 use Rattle.model.specs.Scan.{tighter, tightest, firstBroken}
-use Rattle.model.specs.Bounds.{SmallConstraint, SmallSystem, SmallFound, SmallBroken, SmallPoint}
+use Rattle.model.specs.Bounds.{SmallFound, SmallBroken, SmallPoint}
+use Rattle.lp.specs.Range.{SmallConstraint, SmallSystem}
 use Rattle.model.proofs.Bounds.{tighter-small, tightest-small, firstBroken-small}
 use Rattle.planner.specs.Entries.{entry, entries}
 use Rattle.planner.specs.declared.scan.Held.{Held}

@@ -18,7 +18,8 @@ use Rattle.lp.specs.declared.Ray.{Ray}
 use Rattle.lp.specs.Program.{constraint, point, ray}
 use Rattle.lp.specs.Slack.{amount}
 use Rattle.lp.specs.Certificate.{isZero}
-use Rattle.model.specs.Bounds.{SmallConstraint, SmallPoint}
+use Rattle.model.specs.Bounds.{SmallPoint}
+use Rattle.lp.specs.Range.{SmallConstraint}
 use Rattle.planner.specs.Sizes.{Factors, Distance, Lines, Risen, Gained}
 
 pub record DistanceFits (a x b y c d : ℤ) : Type 0 where

@@ -20,7 +20,8 @@ use Rattle.model.specs.declared.Gain.the-variants as gain
 use Rattle.model.specs.declared.Best.the-variants as best
 use Rattle.model.specs.declared.Walk.{Walk}
 use Rattle.model.specs.Step.{going, step, gaining, opening, begin, walkFrom, walk}
-use Rattle.model.specs.Bounds.{SmallConstraint, SmallFloors, SmallWalk}
+use Rattle.model.specs.Bounds.{SmallWalk}
+use Rattle.lp.specs.Range.{SmallConstraint, SmallFloors}
 use Rattle.model.proofs.Bounds.{step-small, begin-small}
 use Rattle.planner.specs.Entries.{entry, entries}
 use Rattle.planner.specs.Sizes.{Stepping, Walking}

@@ -17,7 +17,8 @@ use Rattle.book.specs.Answers.{constraintOf}
 use Rattle.book.specs.Reading.{Reading, refused, accepted, Entry, readOf}
 use Rattle.report.specs.declared.panel.Row.{Row}
 use Rattle.report.specs.declared.panel.Panel.{Panel}
-use Rattle.model.specs.Bounds.{SmallConstraint, SmallPoint}
+use Rattle.model.specs.Bounds.{SmallPoint}
+use Rattle.lp.specs.Range.{SmallConstraint}
 use Rattle.planner.specs.Layout.{ruleFor}
 use Rattle.planner.specs.Planning.{plannedRule, rulesOf, Recorded}
 

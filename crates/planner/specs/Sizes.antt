@@ -19,7 +19,8 @@ use Rattle.model.specs.declared.Found.{Found}
 use Rattle.model.specs.declared.Cone.{Cone}
 use Rattle.model.specs.declared.Best.{Best}
 use Rattle.model.specs.declared.Walk.{Walk}
-use Rattle.model.specs.Bounds.{SmallConstraint, SmallFunctional, SmallTie, SmallFloors, SmallPoint, SmallRay, SmallFound, SmallCone, SmallBest, SmallState}
+use Rattle.model.specs.Bounds.{SmallPoint, SmallRay, SmallFound, SmallCone, SmallBest, SmallState}
+use Rattle.lp.specs.Range.{SmallConstraint, SmallFunctional, SmallTie, SmallFloors}
 use Rattle.planner.specs.declared.scan.Held.{Held}
 use Rattle.planner.specs.Entries.{entry}
 

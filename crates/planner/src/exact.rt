@@ -13,7 +13,7 @@ ghost use Rattle.ints.specs.Within.{Within};
 ghost use Rattle.lp.specs.Program.{ray, rise, along, slack as slackOf};
 ghost use Rattle.lp.specs.Outcome.{det as detOf, meet as meetOf, keeps as keepsOf};
 ghost use Rattle.lp.specs.Certificate.{isZero};
-ghost use Rattle.model.specs.Bounds.{SmallConstraint};
+ghost use Rattle.lp.specs.Range.{SmallConstraint};
 ghost use Rattle.model.specs.Scan.{facing as facingOf, direction as directionOf};
 ghost use Rattle.planner.specs.Sizes.{Factors, Distance, Lines, Risen, Gained};
 

@@ -10,7 +10,7 @@ use model::Broken;
 use model::Found;
 ghost use mathlib.Core.Path.{_≡_};
 ghost use Rattle.model.specs.Scan.{tightest as tightestOf, firstBroken};
-ghost use Rattle.model.specs.Bounds.{SmallConstraint};
+ghost use Rattle.lp.specs.Range.{SmallConstraint};
 ghost use Rattle.planner.specs.Entries.{entry as entryOf, entries as entriesOf};
 ghost use Rattle.planner.specs.Held.{farthest, tightened, foundOf};
 ghost use Rattle.planner.specs.Sizes.{Room, Tightening, Along, Checking};

@@ -19,7 +19,7 @@ use Rattle.lp.specs.Program.{constraint, slack, system}
 use Rattle.lp.specs.Outcome.{meet, reduce}
 use Rattle.lp.specs.Outcome as defined
 use Rattle.lp.specs.Slack.{slackOf}
-use Rattle.model.specs.Bounds.{SmallConstraint, SmallSystem, SmallFloors}
+use Rattle.lp.specs.Range.{SmallConstraint, SmallSystem, SmallFloors}
 use Rattle.model.proofs.Bounds.{floorX-small, floorY-small}
 use Rattle.theory.proofs.Solver.{equal, C, slackᵖ, meetᵖ}
 use Rattle.theory.proofs.Lists.{for-members}

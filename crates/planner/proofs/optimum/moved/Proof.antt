@@ -6,7 +6,8 @@ use Rattle.lp.specs.Outcome.{gainOrder}
 use Rattle.model.specs.declared.Found.the-variants.{Nothing}
 use Rattle.model.specs.Scan.{tightest}
 use Rattle.model.specs.Step.{foundPoint}
-use Rattle.model.specs.Bounds.{SmallConstraint, SmallRay}
+use Rattle.model.specs.Bounds.{SmallRay}
+use Rattle.lp.specs.Range.{SmallConstraint}
 use Rattle.model.proofs.Bounds.{direction-small, facing-small}
 use Rattle.planner.specs.Entries.{entries}
 use Rattle.planner.proofs.Steps.{faced}

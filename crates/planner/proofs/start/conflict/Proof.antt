@@ -2,7 +2,7 @@
 use borrow.Author.Needs.{needs}
 use mathlib.Core.Path.{sym, _∙_, ap, subst}
 use Rattle.lp.specs.Outcome.{det}
-use Rattle.model.specs.Bounds.{SmallConstraint}
+use Rattle.lp.specs.Range.{SmallConstraint}
 use Rattle.model.proofs.Bounds.{facing-small}
 use Rattle.planner.proofs.Sizes.{result-read}
 use Rattle.planner.proofs.Steps.{certificate-same}

@@ -3,7 +3,8 @@ use borrow.Author.Needs.{needs}
 use mathlib.Core.Path.{sym, _∙_, subst}
 use denote.Ref.{now}
 use Rattle.model.specs.Step.{restart}
-use Rattle.model.specs.Bounds.{SmallConstraint, SmallRay}
+use Rattle.model.specs.Bounds.{SmallRay}
+use Rattle.lp.specs.Range.{SmallConstraint}
 use Rattle.model.proofs.Bounds.{direction-small, facing-small}
 use Rattle.planner.specs.Entries.{entries}
 use Rattle.planner.proofs.Passes.{along-small}
