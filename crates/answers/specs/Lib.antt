@@ -1,0 +1,2 @@
+-- What is handed back of a book, by value.
+pub mod Refusal
