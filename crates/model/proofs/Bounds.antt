@@ -27,7 +27,7 @@ use Rattle.lp.specs.Program.{point, ray, slack, along, rise, floorX, floorY, sy
 use Rattle.lp.specs.Outcome.{det, meet, keeps, above, reduce, reduceRay, tieOrder, gainOrder}
 use Rattle.lp.specs.Certificate.{isZero}
 use Rattle.lp.specs.Prefixes.{one-if}
-use Rattle.lp.specs.Document.{Lawful, leastXThenY, zeroFloors}
+use Rattle.lp.specs.Document.{Lawful, leastXThenY, tie, zeroFloors}
 use Rattle.model.specs.declared.Found.{Found}
 use Rattle.model.specs.declared.Found.the-variants as found
 use Rattle.model.specs.declared.Broken.{Broken}
@@ -71,6 +71,9 @@ leastXThenY-small =
       first-small = record { p-small = within-numeral tt; q-small = within-numeral tt };
       second-small = record { p-small = within-numeral tt; q-small = within-numeral tt };
     }
+
+pub tie-small : SmallTie tie
+tie-small = leastXThenY-small
 
 pub zeroFloors-small : SmallFloors zeroFloors
 zeroFloors-small = record { lx-small = within-numeral tt; ly-small = within-numeral tt }

@@ -1,56 +1,48 @@
-// The planner: exact arithmetic on 64-bit integers, equal function by function to the functional model of crate `model`. What a private function asks of
-// its numbers is one record, and document 01's bounds answer it.
-mod answer;
-mod cone;
-mod divisor;
-mod exact;
-mod follow;
-mod layout;
-mod optimum;
-mod order;
+// The planner on bytes: a book is read once into lent runs of numbers, its rules are planned there, and what they come to is handed back as a plan, as the lines of a
+// panel, or as the start pair after a prefix. Every function that can be called from outside is total: it takes any bytes and answers.
 mod panel;
 mod run;
-mod scan;
-mod start;
-mod start_view;
-mod verdict;
-mod view;
-mod walk;
+mod told;
 
+use answers::Answer;
+use answers::Refusal;
 use lp::Point;
-use report::Answer;
-use report::panel::Panel;
+use records::Version;
+use told::tell;
+ghost use Rattle.records.specs.Layout.{v1};
 ghost use Rattle.planner.specs.Planning.{Answers};
 ghost use Rattle.planner.specs.Panel.{Panels};
 ghost use Rattle.planner.specs.View.{Views};
 
-// The plan of a book, or its refusal. Every field is fixed by the bytes but the witness, which is any valid one.
-pub fn plan(book: &[u8]) -> Answer
-    ensures { λ r. ⌜ Answers (now (book .entry)) r ⌝ }
-{
-    answer::answer(book)
-}
-
-// How far a book's best pair is from each rule, or its refusal. Every field is fixed by the bytes.
-pub fn slacks(book: &[u8]) -> Panel
-    ensures { λ r. ⌜ Panels (now (book .entry)) r ⌝ }
-{
-    panel::panel(book)
-}
-
 // The start pair after a prefix of the chain, if a pair is allowed, and how many rules so far the start pair before them did not keep. A refused book has its
-// number and record instead. What is not used is zero.
+// refusal instead. What is not used is zero.
 pub struct StartView {
-    pub number: u8,
-    pub at: u16,
+    pub refusal: Refusal,
     pub held: bool,
     pub point: Point,
     pub restarts: usize,
 }
 
+// The plan of a book of version 1, or its refusal. Every field is fixed by the bytes but the witness, which is any valid one.
+pub fn plan(book: &[u8]) -> Answer
+    ensures { λ r. ⌜ Answers v1 (now (book .entry)) r ⌝ }
+{
+    let mut none = [0u8; 0];
+    tell(Version::One, book, 65535, false, &mut none).answer
+}
+
+// The lines of a book's panel, how far its best pair is from each rule, at the start of a buffer of at least 16,384 bytes, and how many bytes they have. A smaller
+// buffer is left as it is, and 0 handed back.
+pub fn panel_lines(book: &[u8], out: &mut [u8]) -> usize
+    ensures { λ r. ⌜ Panels v1 (now (book .entry)) (now (out .entry)) (now (out .exit)) r ⌝ }
+{
+    tell(Version::One, book, 65535, true, out).count
+}
+
 // The view of a book's first `prefix` rules, along its chain. A prefix longer than the chain is the whole chain.
 pub fn start_after(book: &[u8], prefix: usize) -> StartView
-    ensures { λ r. ⌜ Views (now (book .entry)) prefix r ⌝ }
+    ensures { λ r. ⌜ Views v1 (now (book .entry)) prefix r ⌝ }
 {
-    view::view(book, prefix)
+    let mut none = [0u8; 0];
+    tell(Version::One, book, prefix, false, &mut none).view
 }

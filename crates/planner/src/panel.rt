@@ -1,123 +1,74 @@
-// The panel of a book: the slack of its best pair against each rule of the chain.
-use crate::divisor::lowest;
-use crate::exact::slack;
-use crate::run::run;
-use lp::Amount;
-use lp::Constraint;
+// The panel of a book: the slack of its best pair against each rule of the chain, a line a rule, each written straight into the lent output.
+use crate::run::Findings;
+use answers::Answer;
 use lp::Outcome;
 use lp::Point;
-use report::Answer;
-use report::panel::Panel;
+use records::Version;
 use report::panel::Row;
+use report::panel::append_row;
 ghost use mathlib.Core.Path.{_≡_};
-ghost use mathlib.Core.List.{[], map};
+ghost use Rattle.records.specs.Layout.{layoutOf};
+ghost use mathlib.Core.List.{map};
+ghost use Prim.Native.Nat.{_*_};
 ghost use lib.ListN.{take};
-ghost use Rattle.lp.specs.Slack.{slackOf};
-ghost use Rattle.book.specs.Layout.{v1};
-ghost use Rattle.book.specs.Record.{recordAt, ruleOf};
-ghost use Rattle.book.specs.Answers.{constraintOf};
-ghost use Rattle.planner.specs.Sizes.{Measured};
-ghost use Rattle.planner.specs.Panel.{noRow, paddedRows, panelWith, rowFor, Filling, Best, Outcomes, Panels};
+ghost use Rattle.text.specs.Append.{Appended};
+ghost use Rattle.report.specs.Panel.{rowLines};
+ghost use Rattle.planner.specs.Panel.{panelRoom};
+ghost use Rattle.planner.specs.Running.{rowFor, Listing, Showing, Shows};
 
-// How far a point is from a constraint's line, in lowest terms.
-fn amount(r: Constraint, v: Point) -> Amount
-    requires { ⌜ Measured r v ⌝ }
-    ensures { λ a. ⌜ a ≡ slackOf r v ⌝ }
+// How many bytes a panel's buffer has at least: 64 for each record of the greatest book.
+fn panel_room(version: Version) -> usize
+    ensures { λ r. ⌜ r ≡ panelRoom (layoutOf version) ⌝ }
 {
-    lowest(slack(r, v), v.d)
+    match version {
+        Version::One => 16384,
+        Version::Two => 262144,
+    }
 }
 
 // The label and slack of the rule in a record.
-fn row(book: &[u8], index: u16, v: Point) -> Row
-    requires { ⌜ Measured (constraintOf (ruleOf v1 (recordAt v1 (now book) index))) v ⌝ }
-    ensures { λ r. ⌜ r ≡ rowFor (now (book .entry)) v index ⌝ }
+fn row(version: Version, book: &[u8], index: u16, v: Point) -> Row
+    ensures { λ r. ⌜ r ≡ rowFor (layoutOf version) (now (book .entry)) v index ⌝ }
 {
-    let rule = book::rule_at(book, index);
+    let rule = records::rule_at(version, book, index);
     Row {
         label: rule.label,
-        slack: amount(book::constraint(rule), v),
+        slack: engine::amount(records::constraint(rule), v),
     }
 }
 
-fn no_row() -> Row
-    ensures { λ r. ⌜ r ≡ noRow ⌝ }
+// The lines of the first n records.
+fn list(version: Version, book: &[u8], records: &[u16], n: usize, v: Point, out: &mut [u8]) -> usize
+    requires { ⌜ Listing (now records) n (now out) ⌝ }
+    ensures { λ r. ⌜ Appended (now (out .entry)) 0 (rowLines (map (rowFor (layoutOf version) (now (book .entry)) v) (take n (now (records .entry))))) (64 * n) (now (out .exit)) r ⌝ }
 {
-    Row {
-        label: 0,
-        slack: Amount {
-            numerator: 0,
-            denominator: 0,
-        },
-    }
-}
-
-// The rows of the first n records, with zeros after them.
-fn fill(book: &[u8], records: &[u16], n: usize, v: Point) -> [Row; 255]
-    requires { ⌜ Filling (now book) (now records) n v ⌝ }
-    ensures { λ r. ⌜ r ≡ paddedRows (map (rowFor (now (book .entry)) v) (take n (now (records .entry)))) ⌝ }
-{
-    let none = no_row();
-    let mut rows = [none; 255];
+    let mut at = 0;
     let mut i = 0;
     while i < n {
-        rows[i] = row(book, records[i], v);
+        at = append_row(row(version, book, records[i], v), &mut *out, at);
         i += 1;
     }
-    rows
+    at
 }
 
-// A panel without rows.
-fn no_rows(number: u8, at: u16) -> Panel
-    ensures { λ r. ⌜ r ≡ panelWith number at [] ⌝ }
+// The panel of what a run found.
+pub fn show(version: Version, book: &[u8], found: Findings, records: &[u16], out: &mut [u8]) -> usize
+    requires { ⌜ Showing (layoutOf version) found (now records) ⌝ }
+    ensures { λ r. ⌜ Shows (layoutOf version) (now (book .entry)) found (now (records .entry)) (now (out .entry)) (now (out .exit)) r ⌝ }
 {
-    let none = no_row();
-    Panel {
-        number,
-        at,
-        n: 0,
-        rows: [none; 255],
+    if out.len() < panel_room(version) {
+        return 0;
     }
-}
-
-// The panel of a best pair.
-fn best_panel(book: &[u8], records: &[u16], n: usize, v: Point) -> Panel
-    requires { ⌜ Best (now book) (now records) n v ⌝ }
-    ensures { λ r. ⌜ Panels (now (book .entry)) r ⌝ }
-{
-    let rows = fill(book, records, n, v);
-    Panel {
-        number: 0,
-        at: 0,
-        n: n as u8,
-        rows,
+    let refusal = found.refusal;
+    let number = refusal.number;
+    if number != 0 {
+        return report::write_line(Answer::Refused(refusal), out);
     }
-}
-
-// The panel of an accepted book, from its outcome.
-fn accepted_panel(book: &[u8], records: &[u16], n: usize, outcome: Outcome) -> Panel
-    requires { ⌜ Outcomes (now book) (now records) n outcome ⌝ }
-    ensures { λ r. ⌜ Panels (now (book .entry)) r ⌝ }
-{
+    let solution = found.solution;
+    let outcome = solution.outcome;
     match outcome {
-        Outcome::Infeasible => no_rows(0, 0),
-        Outcome::Unbounded(_, _) => no_rows(0, 0),
-        Outcome::Optimal(v) => best_panel(book, records, n, v),
-    }
-}
-
-// The panel of any bytes.
-pub fn panel(book: &[u8]) -> Panel
-    ensures { λ r. ⌜ Panels (now (book .entry)) r ⌝ }
-{
-    let mut records = [0u16; 255];
-    let mut entries = [0i64; 771];
-    let found = run(book, 255, &mut records, &mut entries);
-    let answer = found.answer;
-    match answer {
-        Answer::Refused(_, _) => no_rows(found.view.number, found.view.at),
-        Answer::Planned(plan) => {
-            let outcome = plan.outcome;
-            accepted_panel(book, &records, found.n, outcome)
-        }
+        Outcome::Infeasible => 0,
+        Outcome::Unbounded(_, _) => 0,
+        Outcome::Optimal(v) => list(version, book, records, found.n, v, out),
     }
 }

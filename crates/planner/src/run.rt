@@ -1,64 +1,43 @@
-// One run of the planner over a book: its chain is followed once, and walked once. The plan, the panel and the view all come from here, so that following,
-// walking and the verdict have one caller each and are compiled into it.
-use crate::StartView;
-use crate::follow::follow;
-use crate::start_view::unseen;
-use crate::start_view::viewed;
-use crate::verdict::verdict;
-use crate::walk::walk_entries;
-use lp::Floors;
-use lp::Functional;
-use lp::Tie;
-use model::Walk;
-use report::Answer;
-use report::Plan;
-use witness::witness;
+// One run of the planner over a book: it is read once into two lent runs, the chain's records and its rules, and the rules of a prefix are planned.
+use answers::Refusal;
+use engine::Solution;
+use engine::Solved;
+use lp::Certificate;
+use lp::Outcome;
+use lp::Point;
+use records::Version;
 ghost use mathlib.Core.Path.{_≡_};
 ghost use Prim.Native.Nat.{min};
-ghost use Rattle.lp.specs.Document.{leastXThenY, zeroFloors};
-ghost use Rattle.model.specs.Step.{walk as walkOf};
-ghost use Rattle.planner.specs.Entries.{entries as entriesOf};
-ghost use Rattle.planner.specs.Sizes.{Answering};
-ghost use Rattle.planner.specs.Following.{Following};
-ghost use Rattle.planner.specs.Running.{finishedOf, findingsOf, Covering, Runs};
+ghost use Rattle.records.specs.Layout.{layoutOf};
+ghost use Rattle.planner.specs.Running.{noSolution, Roomy, Runs};
 
-// What a run finds: the answer, how many rules the chain has, and what is seen of the start pair.
+// What a run finds: the book's refusal, or no refusal, how many rules the chain has, and what those of the prefix come to.
 pub struct Findings {
-    pub answer: Answer,
+    pub refusal: Refusal,
     pub n: usize,
-    pub view: StartView,
+    pub solution: Solution,
 }
 
-// Document 01's tie: least x, then least y.
-fn least_x_then_y() -> Tie
-    ensures { λ r. ⌜ r ≡ leastXThenY ⌝ }
+// What stands where there is nothing to plan.
+fn no_solution() -> Solution
+    ensures { λ r. ⌜ r ≡ noSolution ⌝ }
 {
-    Tie {
-        first: Functional { p: -1, q: 0 },
-        second: Functional { p: 0, q: -1 },
-    }
-}
-
-fn zero_floors() -> Floors
-    ensures { λ r. ⌜ r ≡ zeroFloors ⌝ }
-{
-    Floors { lx: 0, ly: 0 }
-}
-
-// The plan of a walk, with its witness by record.
-fn finished(objective: Functional, walk: Walk, records: &[u16]) -> Plan
-    requires { ⌜ Answering objective walk ⌝ }
-    ensures { λ r. ⌜ r ≡ finishedOf objective (now (records .entry)) walk ⌝ }
-{
-    let plan = verdict(objective, walk);
-    let outcome = plan.outcome;
-    let certificate = plan.witness;
-    Plan {
-        outcome,
-        moves: plan.moves,
-        opened: plan.opened,
-        place: plan.place,
-        witness: witness(records, certificate),
+    Solution {
+        outcome: Outcome::Infeasible,
+        moves: 0,
+        opened: 0,
+        place: 0,
+        certificate: Certificate {
+            first: 0,
+            first_weight: 0,
+            second: 0,
+            second_weight: 0,
+            third: 0,
+            third_weight: 0,
+        },
+        held: false,
+        start: Point { x: 0, y: 0, d: 0 },
+        restarts: 0,
     }
 }
 
@@ -69,40 +48,38 @@ fn shorter(prefix: usize, n: usize) -> usize
     if prefix < n { prefix } else { n }
 }
 
-// The run of an accepted book, whose n rules are laid out.
-fn run_chain(
-    objective: Functional,
-    n: usize,
+// The run over a book's first `prefix` rules: the whole chain, if there are fewer. An accepted book's numbers are all in range, so that the engine plans it.
+pub fn run(
+    version: Version,
+    book: &[u8],
     prefix: usize,
-    records: &[u16],
-    entries: &[i64],
+    records: &mut [u16],
+    entries: &mut [i64],
 ) -> Findings
-    requires { ⌜ Covering objective n prefix (now entries) ⌝ }
-    ensures { λ r. ⌜ r ≡ findingsOf objective n (now (records .entry)) (walkOf leastXThenY zeroFloors objective (entriesOf (now (entries .entry)) 2 (min prefix n))) ⌝ }
+    requires { ⌜ Roomy (layoutOf version) (now book) (now records) (now entries) ⌝ }
+    ensures { λ r. ⌜ Runs (layoutOf version) (now (book .entry)) prefix r (now (records .exit)) ⌝ }
 {
-    let m = shorter(prefix, n);
-    let walk = walk_entries(objective, least_x_then_y(), zero_floors(), entries, m + 2);
-    Findings {
-        answer: Answer::Planned(finished(objective, walk, records)),
-        n,
-        view: viewed(walk),
+    let head = book::read(version, book, &mut *records, &mut entries[6..]);
+    let refusal = head.refusal;
+    let number = refusal.number;
+    let n = head.n;
+    if number != 0 {
+        return Findings {
+            refusal,
+            n,
+            solution: no_solution(),
+        };
     }
-}
-
-// The run over a book's first `prefix` rules: the whole chain, if there are fewer.
-pub fn run(book: &[u8], prefix: usize, records: &mut [u16], entries: &mut [i64]) -> Findings
-    requires { ⌜ Following (now book) (now records) (now entries) ⌝ }
-    ensures { λ r. ⌜ Runs (now (book .entry)) prefix r (now (records .exit)) ⌝ }
-{
-    let head = follow(book, &mut *records, &mut *entries);
-    let number = head.number;
-    if number == 0 {
-        run_chain(head.objective, head.n, prefix, records, entries)
-    } else {
-        Findings {
-            answer: Answer::Refused(number as usize, head.at as usize),
-            n: 0,
-            view: unseen(number, head.at),
-        }
+    match engine::solve(head.terms, &mut *entries, shorter(prefix, n)) {
+        Solved::Outside => Findings {
+            refusal,
+            n,
+            solution: no_solution(),
+        },
+        Solved::Walked(solution) => Findings {
+            refusal,
+            n,
+            solution,
+        },
     }
 }

@@ -14,7 +14,7 @@ use Rattle.lp.specs.declared.Ray.{Ray}
 use Rattle.lp.specs.declared.Tie.{Tie}
 use Rattle.lp.specs.Program.{functional, along}
 use Rattle.lp.specs.Outcome.{tieOrder, gainOrder}
-use Rattle.lp.specs.Document.{leastXThenY}
+use Rattle.lp.specs.Document.{leastXThenY, tie}
 use Rattle.theory.proofs.Solver.{equal, F, R, alongᵖ}
 use Rattle.theory.proofs.Direction.{Upward, Null, null-of-size, along-null, opposite}
 use Rattle.theory.proofs.Lexicographic.{Up, lexicographic, along-opposite}
@@ -115,6 +115,10 @@ least-x-then-y-good =
     go : (d : Ray) → (pos 0 <ᶻ d .dx) ⊎ ((d .dx ≡ pos 0) × (pos 0 <ᶻ d .dy)) → (along (leastXThenY .first) d <ᶻ pos 0) ⊎ ((along (leastXThenY .first) d ≡ pos 0) × (along (leastXThenY .second) d <ᶻ pos 0))
     go d (inl p) = inl (below (leastXThenY .first) d (d .dx) (least-x d) p)
     go d (inr (e, p)) = inr (least-x d ∙ ap negℤ e, below (leastXThenY .second) d (d .dy) (least-y d) p)
+
+-- the tie in force serves
+pub tie-good : GoodTie tie
+tie-good = least-x-then-y-good
 
 -- least x + y, then least x
 abbrev pub leastTotalThenX : Tie

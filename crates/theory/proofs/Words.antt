@@ -10,12 +10,13 @@ use Rattle.ints.proofs.Ring.{_⊕_, _⊖_, _⊗_, ⊝_, _≐_, con}
 use Rattle.ints.proofs.Order.{pos-nn, nn-zero, nn-sub, neg-nn, le-of-eq}
 use Rattle.lp.specs.declared.Constraint.{Constraint}
 use Rattle.lp.specs.declared.Functional.{Functional}
+use Rattle.lp.specs.declared.Floors.{Floors}
 use Rattle.lp.specs.declared.Point.{Point}
 use Rattle.lp.specs.declared.Ray.{Ray}
 use Rattle.lp.specs.Program.{along, rise, between, system}
 use Rattle.lp.specs.Outcome.{lawful, tieOrder}
 use Rattle.lp.specs.Textbook.{NoLater, LawfulDirection}
-use Rattle.lp.specs.Document.{leastXThenY, zeroFloors}
+use Rattle.lp.specs.Document.{tie}
 use Rattle.theory.proofs.Solver.{equal, nn-by, P, R, betweenᵖ}
 use Rattle.theory.proofs.Direction.{AtMost}
 use Rattle.theory.proofs.Lexicographic.{Up}
@@ -27,22 +28,22 @@ module _ (v w : Point) where
   abbrev d : Ray
   d = between w v
 
-  x-first : pos 0 ≤ᶻ along (leastXThenY .first) d → v .x *ℤ w .d ≤ᶻ w .x *ℤ v .d
+  x-first : pos 0 ≤ᶻ along (tie .first) d → v .x *ℤ w .d ≤ᶻ w .x *ℤ v .d
   x-first h =
       nn-sub (nn-by (P ∷ P ∷ []) (λ v w. w .x ⊗ v .d ⊖ v .x ⊗ w .d ≐ con (negsuc 0) ⊗ (betweenᵖ w v) .dx ⊕ con (pos 0) ⊗ (betweenᵖ w v) .dy) refl v w h)
 
-  y-next : pos 0 ≤ᶻ along (leastXThenY .second) d → v .y *ℤ w .d ≤ᶻ w .y *ℤ v .d
+  y-next : pos 0 ≤ᶻ along (tie .second) d → v .y *ℤ w .d ≤ᶻ w .y *ℤ v .d
   y-next h =
       nn-sub (nn-by (P ∷ P ∷ []) (λ v w. w .y ⊗ v .d ⊖ v .y ⊗ w .d ≐ con (pos 0) ⊗ (betweenᵖ w v) .dx ⊕ con (negsuc 0) ⊗ (betweenᵖ w v) .dy) refl v w h)
 
   -- where x is the same, the tie's first half is level
-  level : v .x *ℤ w .d ≡ w .x *ℤ v .d → along (leastXThenY .first) d ≡ pos 0
+  level : v .x *ℤ w .d ≡ w .x *ℤ v .d → along (tie .first) d ≡ pos 0
   level e =
       equal (P ∷ P ∷ []) (λ v w. con (negsuc 0) ⊗ (betweenᵖ w v) .dx ⊕ con (pos 0) ⊗ (betweenᵖ w v) .dy ≐ w .x ⊗ v .d ⊖ v .x ⊗ w .d) refl v w
       ∙ ap (λ z. w .x *ℤ v .d -ℤ z) e
       ∙ +ℤ-invr (w .x *ℤ v .d)
 
-  pub first-in-words : AtMost (Up (tieOrder leastXThenY)) w v → NoLater v w
+  pub first-in-words : AtMost (Up (tieOrder tie)) w v → NoLater v w
   first-in-words (inl more) =
       record { least-x = x-first (pos-nn more); then-least-y = λ e. clashℤ more (le-of-eq (level e)) }
   first-in-words (inr (same, inl more)) = record { least-x = x-first (nn-zero same); then-least-y = λ e. y-next (pos-nn more) }
@@ -51,14 +52,16 @@ module _ (v w : Point) where
 
 -- ---- lawful directions
 
-pub lawful-in-words : (rules : List Constraint) (f : Functional) (d : Ray) → T (lawful (system zeroFloors rules) f d) → LawfulDirection rules f d
-lawful-in-words rules f d t =
+pub lawful-in-words : (floors : Floors) (rules : List Constraint) (f : Functional) (d : Ray) →
+    T (lawful (system floors rules) f d) →
+    LawfulDirection rules f d
+lawful-in-words floors rules f d t =
     record {
       dx-not-negative = nn-by (R ∷ []) (λ d. d .dx ≐ ⊝ (con (negsuc 0) ⊗ d .dx ⊕ con (pos 0) ⊗ d .dy)) refl d (neg-nn (recedes _ (List·Memᴰ·head refl)));
       dy-not-negative = nn-by (R ∷ []) (λ d. d .dy ≐ ⊝ (con (pos 0) ⊗ d .dx ⊕ con (negsuc 0) ⊗ d .dy)) refl d (neg-nn (recedes _ (List·Memᴰ·tail (List·Memᴰ·head refl))));
       never-leaves = λ r i. recedes r (List·Memᴰ·tail (List·Memᴰ·tail i));
-      gains = lawful-gains (system zeroFloors rules) f d t;
+      gains = lawful-gains (system floors rules) f d t;
     }
   where
-    recedes : (r : Constraint) → List·Memᴰ r (system zeroFloors rules) → rise r d ≤ᶻ pos 0
-    recedes = lawful-recedes (system zeroFloors rules) f d t
+    recedes : (r : Constraint) → List·Memᴰ r (system floors rules) → rise r d ≤ᶻ pos 0
+    recedes = lawful-recedes (system floors rules) f d t
