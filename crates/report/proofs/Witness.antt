@@ -6,15 +6,30 @@ use native.Mathlib.Omega.{arith}
 use lib.ListN.{length, length-append}
 use lib.IntN.{ℤ, pos, negsuc}
 use mir.Syntax.{w64}
-use mir.Val.{SFits, ofZ}
+use mir.Val.{SFits, toZ, ofZ}
 use mir.Facts.{toZ-ofZ}
 use Rattle.lp.specs.declared.Certificate.{Certificate}
 use Rattle.lp.specs.Certificate.{Weighted, weighted, named}
-use Rattle.report.specs.Line.{number, integer, entry, entries, witness}
-use Rattle.report.specs.Append.{Appended}
+use Rattle.text.specs.Number.{number, integer}
+use Rattle.text.specs.Append.{Appended}
+use Rattle.text.proofs.Put.{spelt}
+use Rattle.report.specs.Line.{entry, entries, witness}
 use Rattle.ints.proofs.Bits.{read}
-use Rattle.report.proofs.Integer.{none-named, one-named}
-use Rattle.report.proofs.Put.{spelt}
+
+-- ---- the test of a weight
+
+is-zero : (z : ℤ) → SFits w64 z → ofZ w64 z ≡ 0 → z ≡ pos 0
+is-zero z f e = sym (toZ-ofZ {w = w64} f) ∙ ap (toZ w64) e
+
+pub none-named : (e : ℕ) (z : ℤ) → SFits w64 z → ofZ w64 z ≡ 0 → weighted e z ≡ []
+none-named e z f t = ap (weighted e) (is-zero z f t)
+
+pub one-named : (e : ℕ) (z : ℤ) → (ofZ w64 z ≡ 0 → ⊥) → weighted e z ≡ record { entry = e; weight = z } ∷ []
+one-named e (pos zero) t = absurd (t refl)
+one-named e (pos (suc n)) t = refl
+one-named e (negsuc n) t = refl
+
+-- ---- what an entry prints
 
 pub entry-record : (e : ℕ) → (e ≡ 0 → ⊥) → (e ≡ 1 → ⊥) → number (e - 1) ≡ entry e
 unfolding entry

@@ -3,7 +3,7 @@ use mathlib.Core.Path.{ap, sym}
 use native.Mathlib.Omega.{arith}
 use borrow.Author.Needs.{needs}
 use Rattle.report.specs.Line.{fields}
-use Rattle.report.proofs.Put.{spelt, roomier}
+use Rattle.text.proofs.Put.{spelt, roomier}
 use Rattle.report.proofs.append_plan.Statement.{statement}
 use Rattle.report.proofs.append_plan.Tie as tie
 
