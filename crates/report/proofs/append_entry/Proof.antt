@@ -28,10 +28,12 @@ returns-3 c =
     let second-test = number .before .before in
     let first-test = second-test .before in
     let start = first-test .before .before in
-    spelt (entry-record (start .args .index) (first-test .if1 .left) (second-test .if2 .left)) (number .append-number .ensures .fits (omega arith))
+    spelt
+    (entry-record (start .args .index) (first-test .if1 .left) (second-test .if2 .left))
+    (number .append-number .ensures .fits (omega arith))
 
 pub append-entry-spec : {M : Type 1} → statement M
 append-entry-spec =
     tie.close
-    (tie.spec (λ c. search needs) (λ c κs. search needs) (λ c. search needs) (λ c κs. search needs) (λ c. search needs) (λ c κs. search needs)
-    (λ c. search needs) returns (λ c. search needs) returns-2 (λ c. search needs) returns-3)
+    (tie.spec (λ c. search needs) (λ c κs. search needs) (λ c. search needs) (λ c κs. search needs) (λ c. search needs)
+    (λ c κs. search needs) (λ c. search needs) returns (λ c. search needs) returns-2 (λ c. search needs) returns-3)

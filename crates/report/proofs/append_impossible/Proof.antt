@@ -35,5 +35,5 @@ returns c =
 pub append-impossible-spec : {M : Type 1} → statement M
 append-impossible-spec =
     tie.close
-    (tie.spec (λ c. search needs) (λ c κs. search needs) (λ c κs. search needs) append-counts-requires append-witness-requires (λ c. search needs)
-    returns)
+    (tie.spec (λ c. search needs) (λ c κs. search needs) (λ c κs. search needs) append-counts-requires append-witness-requires
+    (λ c. search needs) returns)

@@ -35,5 +35,5 @@ returns c =
 pub append-unlimited-spec : {M : Type 1} → statement M
 append-unlimited-spec =
     tie.close
-    (tie.spec (λ c. search needs) (λ c κs. search needs) append-pair-requires append-direction-requires append-counts-requires (λ c. search needs)
-    returns)
+    (tie.spec (λ c. search needs) (λ c κs. search needs) append-pair-requires append-direction-requires append-counts-requires
+    (λ c. search needs) returns)

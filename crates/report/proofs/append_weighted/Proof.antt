@@ -10,7 +10,9 @@ use Rattle.report.proofs.append_weighted.Tie as tie
 returns : tie.Need-returns
 returns c =
     let start = c .before .before in
-    spelt (left-out (start .args .index) (start .args .weight) (start .fits .weight) (c .if1 .taken)) (nothing (start .args .out .now) (start .args .at) 42)
+    spelt
+    (left-out (start .args .index) (start .args .weight) (start .fits .weight) (c .if1 .taken))
+    (nothing (start .args .out .now) (start .args .at) 42)
 
 returns-2 : tie.Need-returns-2
 returns-2 c =
@@ -20,7 +22,9 @@ returns-2 c =
     let start = test .before .before in
     spelt
     (printed (start .args .index) (start .args .weight) (test .if1 .left))
-    (followed (entry .append-entry .ensures) (whole (start .args .weight) (start .fits .weight) (weight .append-integer .ensures .fits (omega arith))))
+    (followed
+    (entry .append-entry .ensures)
+    (whole (start .args .weight) (start .fits .weight) (weight .append-integer .ensures .fits (omega arith))))
 
 pub append-weighted-spec : {M : Type 1} → statement M
 append-weighted-spec =
