@@ -1,4 +1,4 @@
--- Answers with their lines, spelt out, and rows of a panel and typed texts with theirs. In a witness 0 is floor x, 1 is floor y, and r + 1 is the rule
+-- Answers with their lines, spelt out, and rows of a panel with theirs. In a witness 0 is floor x, 1 is floor y, and r + 1 is the rule
 -- in record r.
 use mathlib.Core.List.{List, [], _∷_}
 use Prim.Native.Nat.{ℕ}
@@ -8,10 +8,8 @@ use Rattle.lp.specs.declared.Outcome.{Outcome}
 use Rattle.lp.specs.declared.Outcome.the-variants.{Infeasible, Unbounded, Optimal}
 use Rattle.lp.specs.declared.Certificate.{Certificate}
 use Rattle.lp.specs.Program.{point, ray}
-use Rattle.typed_rules.specs.declared.Typed.{Typed}
-use Rattle.typed_rules.specs.declared.Typed.the-variants as typed
-use Rattle.report.specs.declared.Answer.{Answer}
-use Rattle.report.specs.declared.Answer.the-variants.{Refused, Planned}
+use Rattle.answers.specs.declared.Answer.{Answer}
+use Rattle.answers.specs.declared.Answer.the-variants.{Refused, Planned}
 use Rattle.report.specs.declared.panel.Row.{Row}
 
 pub record Example : Type 0 where
@@ -47,6 +45,9 @@ abbrev none : ℕ → ℕ → ℕ → Certificate → Answer
 none place moves opened witness =
     Planned (record { outcome = Infeasible; moves = moves; opened = opened; place = place; witness = witness })
 
+abbrev refusal : ℕ → ℕ → Answer
+refusal number at = Refused (record { number = number; at = at })
+
 abbrev pub examples : List Example
 examples =
     row (planned (Optimal (point (pos 2) (pos 3) (pos 1))) 1 1) "best 2 3 1 1 1\n"
@@ -56,8 +57,9 @@ examples =
     ∷ row (none 2 1 0 (weights 0 (pos 5) 2 (pos 1) 3 (pos 10))) "impossible 2 1 0 3 X 5 1 1 2 10\n"
     ∷ row (none 9 3 1 (weights 0 (pos 7) 1 (pos 8) 256 (pos 9))) "impossible 9 3 1 3 X 7 Y 8 255 9\n"
     ∷ row (none 1 1 0 (weights 2 (pos 1) 0 (pos 0) 0 (pos 0))) "impossible 1 1 0 1 1 1\n"
-    ∷ row (Refused 7 0) "refused 7 0\n"
-    ∷ row (Refused 10 18446744073709551615) "refused 10 18446744073709551615\n"
+    ∷ row (refusal 7 0) "refused 7 0\n"
+    ∷ row (refusal 10 255) "refused 10 255\n"
+    ∷ row (refusal 255 65535) "refused 255 65535\n"
     ∷ []
 
 -- ---- a panel's rows: label, numerator and denominator of the slack
@@ -76,19 +78,3 @@ rows =
 
 abbrev pub rowsSpelt : String
 rowsSpelt = "7 0 1\n300 9 5\n65535 -12 7\n1 6442057732999967233 2147352577\n2 -6442057732999967233 2147352577\n"
-
--- ---- typed texts: kind, a, b and c, or the refusal
-
-abbrev rule : ℕ → ℤ → ℤ → ℤ → Typed
-rule kind a b c = typed.Rule (record { kind = kind; a = a; b = b; c = c })
-
-pub record TypedExample : Type 0 where
-  pub typed : Typed
-  pub line : String
-
-abbrev pub typedExamples : List TypedExample
-typedExamples =
-    record { typed = rule 1 (pos 1) (pos 5) (pos 40); line = "rule 1 1 5 40\n" }
-    ∷ record { typed = rule 2 (negsuc 32766) (pos 0) (negsuc 999999999); line = "rule 2 -32767 0 -1000000000\n" }
-    ∷ record { typed = typed.Refused 13 0; line = "refused 13 0\n" }
-    ∷ []

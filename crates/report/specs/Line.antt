@@ -1,51 +1,19 @@
--- The printed line of document 01 as a list of bytes: decimal numbers with no leading zeros and no plus sign, one space between fields, one line
--- feed at the end.
+-- The printed line of an answer as a list of bytes: words and decimal numbers, one space between fields, one line feed at the end. It
+-- rests on the parts of a line (`text`).
 use mathlib.Core.List.{List, [], _∷_, _++_}
-use Prim.Native.Nat.{ℕ, zero, suc, _+_, _/_, _%_}
+use Prim.Native.Nat.{ℕ, zero, suc}
 use lib.ListN.{length}
-use lib.IntN.{ℤ, pos, negsuc}
 use Rattle.lp.specs.declared.Point.{Point}
 use Rattle.lp.specs.declared.Ray.{Ray}
 use Rattle.lp.specs.declared.Outcome.{Outcome}
 use Rattle.lp.specs.declared.Outcome.the-variants.{Infeasible, Unbounded, Optimal}
 use Rattle.lp.specs.declared.Certificate.{Certificate}
 use Rattle.lp.specs.Certificate.{Weighted, named}
-use Rattle.typed_rules.specs.Text.{text}
-use Rattle.report.specs.declared.Plan.{Plan}
-use Rattle.report.specs.declared.Answer.{Answer}
-use Rattle.report.specs.declared.Answer.the-variants.{Refused, Planned}
-
--- the byte of a digit: "0" is 48
-abbrev pub digit : ℕ → List ℕ
-digit r = (48 + r) ∷ []
-
--- two digits, for a number below 100
-abbrev pub twoDigits : ℕ → List ℕ
-twoDigits n = digit (n / 10) ++ digit (n % 10)
-
--- the digits of 10 · q + r, for a digit r; k bounds the number of steps
-abbrev pub digits : ℕ → ℕ → ℕ → List ℕ
-digits zero q r = digit r
-digits (suc k) zero r = digit r
-digits (suc k) (suc q) r = digits k (suc q / 10) (suc q % 10) ++ digit r
-
-unfoldable pub decimal : ℕ → List ℕ
-decimal n = digits n (n / 10) (n % 10)
-
-unfoldable pub signed : ℤ → List ℕ
-signed (pos n) = decimal n
-signed (negsuc n) = text "-" ++ decimal (suc n)
-
--- ---- fields: each after one space
-
-abbrev pub field : List ℕ → List ℕ
-field bytes = text " " ++ bytes
-
-unfoldable pub number : ℕ → List ℕ
-number n = field (decimal n)
-
-unfoldable pub integer : ℤ → List ℕ
-integer z = field (signed z)
+use Rattle.text.specs.Text.{text}
+use Rattle.text.specs.Number.{field, number, integer, refused}
+use Rattle.answers.specs.declared.Plan.{Plan}
+use Rattle.answers.specs.declared.Answer.{Answer}
+use Rattle.answers.specs.declared.Answer.the-variants.{Refused, Planned}
 
 -- X Y D
 unfoldable pub pair : Point → List ℕ
@@ -84,7 +52,7 @@ fields p Infeasible = text "impossible" ++ (number (p .place) ++ (counts p ++ wi
 
 unfoldable pub answerFields : Answer → List ℕ
 answerFields (Planned p) = fields p (p .outcome)
-answerFields (Refused n r) = text "refused" ++ (number n ++ number r)
+answerFields (Refused r) = refused (r .number) (r .at)
 
 unfoldable pub lineOf : Answer → List ℕ
 lineOf a = answerFields a ++ text "\n"

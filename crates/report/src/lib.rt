@@ -1,37 +1,22 @@
-// The answer to a book, and the line that shows it.
+// The line that shows the answer to a book. It rests on the parts of a line (crate `text`); the answer itself is `answers`'s.
+use answers::Answer;
+use answers::Plan;
 use lp::Certificate;
 use lp::Outcome;
 use lp::Point;
 use lp::Ray;
 use text::append_integer;
 use text::append_number;
+use text::append_refused;
 use text::append_word;
 ghost use mathlib.Core.Path.{_≡_};
 ghost use lib.ListN.{length};
+ghost use Rattle.text.specs.Append.{Room, Appended};
 ghost use Rattle.lp.specs.Certificate.{weighted, named};
 ghost use Rattle.report.specs.Line.{pair, direction, counts, entry, entries, witness, fields, answerFields};
-ghost use Rattle.report.specs.Append.{Room, Appended, Written};
+ghost use Rattle.report.specs.Written.{Written};
 
 pub mod panel;
-mod text;
-pub mod typed;
-
-// What an accepted book gets: its outcome, the two counts, and, where it is impossible, the place and a witness (else both zero). A witness's
-// entries rise: 0 is floor x, 1 is floor y, and r + 1 is the rule in record r. Entries that it does not use come last, and are zero
-// with their weights.
-pub struct Plan {
-    pub outcome: Outcome,
-    pub moves: usize,
-    pub opened: usize,
-    pub place: usize,
-    pub witness: Certificate,
-}
-
-// Refused, with number and record, or planned.
-pub enum Answer {
-    Refused(usize, usize),
-    Planned(Plan),
-}
 
 // A pair: X, Y and D. Here and below a local is named after what stands at its place.
 fn append_pair(v: Point, out: &mut [u8], at: usize) -> usize
@@ -145,16 +130,6 @@ fn append_impossible(plan: Plan, out: &mut [u8]) -> usize
     append_witness(plan.witness, out, entries)
 }
 
-// The line of a refused book, but for its line feed.
-fn append_refused(number: usize, index: usize, out: &mut [u8]) -> usize
-    requires { ⌜ Room (now out) 0 49 ⌝ }
-    ensures { λ r. ⌜ Appended (now (out .entry)) 0 (answerFields (Answer.Refused number index)) 49 (now (out .exit)) r ⌝ }
-{
-    let start = append_word(b"refused", out, 0);
-    let next = append_number(number, out, start);
-    append_number(index, out, next)
-}
-
 // The line of a plan, but for its line feed.
 fn append_plan(plan: Plan, out: &mut [u8]) -> usize
     requires { ⌜ Room (now out) 0 220 ⌝ }
@@ -174,12 +149,13 @@ fn append_fields(answer: Answer, out: &mut [u8]) -> usize
     ensures { λ r. ⌜ Appended (now (out .entry)) 0 (answerFields answer) 220 (now (out .exit)) r ⌝ }
 {
     match answer {
-        Answer::Refused(number, index) => append_refused(number, index, out),
+        Answer::Refused(refusal) => append_refused(refusal.number, refusal.at, out, 0),
         Answer::Planned(plan) => append_plan(plan, out),
     }
 }
 
-// The line of an answer, at the start of a buffer of at least 256 bytes, and its length. A smaller buffer is left as it is, and 0 handed back.
+// The line of an answer, at the start of a buffer of at least 256 bytes, and its length. A smaller buffer is left as it is, and 0
+// handed back.
 pub fn write_line(answer: Answer, out: &mut [u8]) -> usize
     ensures { λ r. ⌜ Written answer (now (out .entry)) (now (out .exit)) r ⌝ }
 {

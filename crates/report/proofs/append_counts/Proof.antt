@@ -1,7 +1,8 @@
 -- `report::append_counts` meets its contract. Two numbers in turn.
+use native.Mathlib.Omega.{arith}
 use borrow.Author.Needs.{needs}
 use Rattle.report.specs.Line.{counts}
-use Rattle.report.proofs.Put.{followed}
+use Rattle.text.proofs.Put.{followed}
 use Rattle.report.proofs.append_counts.Statement.{statement}
 use Rattle.report.proofs.append_counts.Tie as tie
 
@@ -10,7 +11,9 @@ unfolding counts
 returns c =
     let opened = c .before .before in
     let moves = opened .before .before .before .before in
-    followed (moves .append-number .ensures) (opened .append-number2 .ensures)
+    let first = moves .append-number .ensures .fits (omega arith) in
+    let second = opened .append-number2 .ensures .fits (omega arith) in
+    followed first second
 
 pub append-counts-spec : {M : Type 1} → statement M
 append-counts-spec =

@@ -3,7 +3,7 @@ use mathlib.Core.Path.{ap, sym}
 use native.Mathlib.Omega.{arith}
 use borrow.Author.Needs.{needs}
 use Rattle.report.specs.Line.{entry}
-use Rattle.report.proofs.Put.{roomier, spelt}
+use Rattle.text.proofs.Put.{roomier, spelt}
 use Rattle.report.proofs.Witness.{entry-record}
 use Rattle.report.proofs.append_entry.Statement.{statement}
 use Rattle.report.proofs.append_entry.Tie as tie
@@ -13,14 +13,14 @@ unfolding entry
 returns c =
     let word = c .before .before in
     let test = word .before .before .before in
-    roomier (omega arith) (spelt (ap entry (sym (test .if1 .taken))) (word .append-word .ensures))
+    roomier (omega arith) (spelt (ap entry (sym (test .if1 .taken))) (word .append-word .ensures .fits (omega arith)))
 
 returns-2 : tie.Need-returns-2
 unfolding entry
 returns-2 c =
     let word = c .before .before in
     let test = word .before .before .before in
-    roomier (omega arith) (spelt (ap entry (sym (test .if2 .taken))) (word .append-word2 .ensures))
+    roomier (omega arith) (spelt (ap entry (sym (test .if2 .taken))) (word .append-word2 .ensures .fits (omega arith)))
 
 returns-3 : tie.Need-returns-3
 returns-3 c =
@@ -28,10 +28,12 @@ returns-3 c =
     let second-test = number .before .before in
     let first-test = second-test .before in
     let start = first-test .before .before in
-    spelt (entry-record (start .args .index) (first-test .if1 .left) (second-test .if2 .left)) (number .append-number .ensures)
+    spelt
+    (entry-record (start .args .index) (first-test .if1 .left) (second-test .if2 .left))
+    (number .append-number .ensures .fits (omega arith))
 
 pub append-entry-spec : {M : Type 1} → statement M
 append-entry-spec =
     tie.close
-    (tie.spec (λ c. search needs) (λ c κs. search needs) (λ c. search needs) (λ c κs. search needs) (λ c. search needs) (λ c κs. search needs)
-    (λ c. search needs) returns (λ c. search needs) returns-2 (λ c. search needs) returns-3)
+    (tie.spec (λ c. search needs) (λ c κs. search needs) (λ c. search needs) (λ c κs. search needs) (λ c. search needs)
+    (λ c κs. search needs) (λ c. search needs) returns (λ c. search needs) returns-2 (λ c. search needs) returns-3)

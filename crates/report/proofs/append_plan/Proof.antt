@@ -3,7 +3,7 @@ use mathlib.Core.Path.{ap, sym}
 use native.Mathlib.Omega.{arith}
 use borrow.Author.Needs.{needs}
 use Rattle.report.specs.Line.{fields}
-use Rattle.report.proofs.Put.{spelt, roomier}
+use Rattle.text.proofs.Put.{spelt, roomier}
 use Rattle.report.proofs.append_plan.Statement.{statement}
 use Rattle.report.proofs.append_plan.Tie as tie
 
@@ -31,5 +31,5 @@ returns-3 c =
 pub append-plan-spec : {M : Type 1} → statement M
 append-plan-spec =
     tie.close
-    (tie.spec (λ c. search needs) (λ c κs. search needs) (λ c. search needs) (λ c κs. search needs) (λ c. search needs) (λ c κs. search needs)
-    (λ c. search needs) returns (λ c. search needs) returns-2 (λ c. search needs) returns-3)
+    (tie.spec (λ c. search needs) (λ c κs. search needs) (λ c. search needs) (λ c κs. search needs) (λ c. search needs)
+    (λ c κs. search needs) (λ c. search needs) returns (λ c. search needs) returns-2 (λ c. search needs) returns-3)

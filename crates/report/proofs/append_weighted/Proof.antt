@@ -1,7 +1,8 @@
 -- `report::append_weighted` meets its contract. A weight of 0 names no entry; any other names this one.
+use native.Mathlib.Omega.{arith}
 use borrow.Author.Needs.{needs}
-use Rattle.report.proofs.Put.{followed, spelt, nothing}
-use Rattle.report.proofs.Integer.{whole}
+use Rattle.text.proofs.Put.{followed, spelt, nothing}
+use Rattle.text.proofs.Integer.{whole}
 use Rattle.report.proofs.Witness.{left-out, printed}
 use Rattle.report.proofs.append_weighted.Statement.{statement}
 use Rattle.report.proofs.append_weighted.Tie as tie
@@ -9,7 +10,9 @@ use Rattle.report.proofs.append_weighted.Tie as tie
 returns : tie.Need-returns
 returns c =
     let start = c .before .before in
-    spelt (left-out (start .args .index) (start .args .weight) (start .fits .weight) (c .if1 .taken)) (nothing (start .args .out .now) (start .args .at) 42)
+    spelt
+    (left-out (start .args .index) (start .args .weight) (start .fits .weight) (c .if1 .taken))
+    (nothing (start .args .out .now) (start .args .at) 42)
 
 returns-2 : tie.Need-returns-2
 returns-2 c =
@@ -19,7 +22,9 @@ returns-2 c =
     let start = test .before .before in
     spelt
     (printed (start .args .index) (start .args .weight) (test .if1 .left))
-    (followed (entry .append-entry .ensures) (whole (start .args .weight) (start .fits .weight) (weight .append-integer .ensures)))
+    (followed
+    (entry .append-entry .ensures)
+    (whole (start .args .weight) (start .fits .weight) (weight .append-integer .ensures .fits (omega arith))))
 
 pub append-weighted-spec : {M : Type 1} → statement M
 append-weighted-spec =

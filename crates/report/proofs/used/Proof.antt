@@ -1,7 +1,7 @@
 -- `report::used` meets its contract. A weight of 0 names no entry; any other names one.
 use mathlib.Core.Path.{sym, ap}
 use lib.ListN.{length}
-use Rattle.report.proofs.Integer.{none-named, one-named}
+use Rattle.report.proofs.Witness.{none-named, one-named}
 use Rattle.report.proofs.used.Statement.{statement}
 use Rattle.report.proofs.used.Tie as tie
 

@@ -2,8 +2,8 @@
 use native.Mathlib.Omega.{arith}
 use borrow.Author.Needs.{needs}
 use Rattle.report.specs.Line.{lineOf}
-use Rattle.report.specs.Append.{lineRoom}
-use Rattle.report.proofs.Put.{too-small, filled, followed}
+use Rattle.report.specs.Written.{lineRoom}
+use Rattle.text.proofs.Put.{too-small, filled, followed}
 use Rattle.report.proofs.write_line.Statement.{statement}
 use Rattle.report.proofs.write_line.Tie as tie
 
@@ -17,7 +17,8 @@ unfolding lineOf
 returns-2 c =
     let feed = c .before .before in
     let fields = feed .before .before .before .before .before in
-    rw (feed .append-word .ensures .moved) at (filled {room = lineRoom} (omega arith) (omega arith) (followed (fields .append-fields .ensures) (feed .append-word .ensures)))
+    let last = feed .append-word .ensures .fits (omega arith) in
+    rw (last .moved) at (filled {room = lineRoom} (omega arith) (omega arith) (followed (fields .append-fields .ensures) last))
 
 pub write-line-spec : {M : Type 1} → statement M
 write-line-spec =

@@ -1,8 +1,8 @@
--- `report::text::append_two` meets its contract. Two digits in turn.
+-- `text::within::append_two` meets its contract. Two digits in turn.
 use borrow.Author.Needs.{needs}
-use Rattle.report.proofs.Put.{followed}
-use Rattle.report.proofs.text.append_two.Statement.{statement}
-use Rattle.report.proofs.text.append_two.Tie as tie
+use Rattle.text.proofs.Put.{followed}
+use Rattle.text.proofs.within.append_two.Statement.{statement}
+use Rattle.text.proofs.within.append_two.Tie as tie
 
 returns : tie.Need-returns
 returns c =

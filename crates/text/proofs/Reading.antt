@@ -6,8 +6,8 @@ use Prim.Native.Nat.{ℕ, zero, suc, _+_, _-_, _*_, _/_, _%_, _≤_, _<_}
 use native.Mathlib.Nat.{le-refl}
 use native.Mathlib.Omega.{arith}
 use lib.ListN.{length, getD, List·getD-append}
-use Rattle.report.specs.Line.{decimal}
-use Rattle.report.proofs.Decimal.{decimal-digit, decimal-more, decimal-longer, decimal-one, one-digit}
+use Rattle.text.specs.Number.{decimal}
+use Rattle.text.proofs.Decimal.{decimal-digit, decimal-more, decimal-longer, decimal-one, one-digit}
 
 -- the value of digits that follow those of n
 abbrev pub valueFrom : ℕ → List ℕ → ℕ
@@ -23,7 +23,10 @@ value-below zero n h = ap (valueFrom 0) (decimal-digit n (omega arith)) ∙ omeg
 value-below (suc k) n h =
     ⊎-elim
     (λ p. ap (valueFrom 0) (decimal-digit n p) ∙ omega arith)
-    (λ p. ap (valueFrom 0) (decimal-more n p) ∙ value-last 0 (decimal (n / 10)) (48 + n % 10) ∙ omega (arith, value-below k (n / 10) (omega arith)))
+    (λ p.
+    ap (valueFrom 0) (decimal-more n p)
+    ∙ value-last 0 (decimal (n / 10)) (48 + n % 10)
+    ∙ omega (arith, value-below k (n / 10) (omega arith)))
     (one-digit n)
 
 pub decimal-value : (n : ℕ) → valueFrom 0 (decimal n) ≡ n
@@ -43,7 +46,9 @@ digits-below zero n h = rw (decimal-digit n (omega arith)) (omega arith, omega a
 digits-below (suc k) n h =
     ⊎-elim
     (λ p. rw (decimal-digit n p) (omega arith, omega arith, tt))
-    (λ p. rw (decimal-more n p) (digits-last (decimal (n / 10)) (48 + n % 10) (digits-below k (n / 10) (omega arith)) (omega arith) (omega arith)))
+    (λ p.
+    rw (decimal-more n p)
+    (digits-last (decimal (n / 10)) (48 + n % 10) (digits-below k (n / 10) (omega arith)) (omega arith) (omega arith)))
     (one-digit n)
 
 pub decimal-digits : (n : ℕ) → Digits (decimal n)
@@ -57,7 +62,10 @@ first-below zero n h p = absurd (omega arith)
 first-below (suc k) n h p =
     ⊎-elim
     (λ q. rw (decimal-digit n q) (omega arith))
-    (λ q. rw (decimal-more n q) (rw (List·getD-append (decimal (n / 10)) ((48 + n % 10) ∷ []) 0 0 (some-digit (n / 10))) (first-below k (n / 10) (omega arith) (omega arith))))
+    (λ q.
+    rw (decimal-more n q)
+    (rw (List·getD-append (decimal (n / 10)) ((48 + n % 10) ∷ []) 0 0 (some-digit (n / 10)))
+    (first-below k (n / 10) (omega arith) (omega arith))))
     (one-digit n)
 
 -- "0" is byte 48

@@ -1,52 +1,52 @@
--- `report::text::append_decimal` meets its contract. The measure is the number. One digit or two are all; else the digits of the hundredth part come first,
--- and the last two after them.
+-- `text::within::put_decimal` meets its contract. The measure is the number. One digit or two are all; else the digits of the
+-- hundredth part come first, and the last two after them.
 use mathlib.Core.Path.{sym, ap}
 use native.Mathlib.Omega.{arith}
 use borrow.Author.Needs.{needs}
 use lib.ListN.{length}
-use Rattle.report.proofs.Decimal.{decimal-single, decimal-pair, decimal-hundred, decimal-one, decimal-two-longer}
-use Rattle.report.proofs.Put.{followed, exactly}
+use Rattle.text.proofs.Decimal.{decimal-single, decimal-pair, decimal-hundred, decimal-one, decimal-two-longer}
+use Rattle.text.proofs.Put.{followed, exactly}
 use Prim.Native.Nat.{ℕ, _<_}
 use borrow.Fn.Kinds.{In}
 use borrow.Fn.PlainCycle.{Measures, is, falls, and}
-use Rattle.report.proofs.text.append_decimal.Reads as append-decimal
-use Rattle.report.proofs.text.append_decimal.Kinds as append-decimal-kinds
-use Rattle.report.proofs.text.+append_decimal.Lts-append_decimal as append-decimal-lts
-use Rattle.report.proofs.text.append_byte.Reads as append-byte-reads
-use Rattle.report.proofs.text.append_two.Reads as append-two-reads
-use Rattle.report.proofs.text.+append_decimal.{statement}
-use Rattle.report.proofs.text.+append_decimal.Tie.{close}
+use Rattle.text.proofs.within.put_decimal.Reads as put-decimal
+use Rattle.text.proofs.within.put_decimal.Kinds as put-decimal-kinds
+use Rattle.text.proofs.within.+put_decimal.Lts-put_decimal as put-decimal-lts
+use Rattle.text.proofs.within.append_byte.Reads as append-byte-reads
+use Rattle.text.proofs.within.append_two.Reads as append-two-reads
+use Rattle.text.proofs.within.+put_decimal.{statement}
+use Rattle.text.proofs.within.+put_decimal.Tie.{close}
 
-abbrev μ-append-decimal : Measures 1 append-decimal-kinds.ps ℕ
-μ-append-decimal κs a = a .0
+abbrev μ-put-decimal : Measures 1 put-decimal-kinds.ps ℕ
+μ-put-decimal κs a = a .0
 
-abbrev append-decimal-at : ℕ → In 1 append-decimal-kinds.ps
-append-decimal-at t =
+abbrev put-decimal-at : ℕ → In 1 put-decimal-kinds.ps
+put-decimal-at t =
     and
     1
-    append-decimal-kinds.ps
-    (is 1 append-decimal-kinds.ps μ-append-decimal t)
-    append-decimal.Pre
+    put-decimal-kinds.ps
+    (is 1 put-decimal-kinds.ps μ-put-decimal t)
+    put-decimal.Pre
 
-abbrev append-decimal-below : ℕ → In 1 append-decimal-kinds.ps
-append-decimal-below t =
+abbrev put-decimal-below : ℕ → In 1 put-decimal-kinds.ps
+put-decimal-below t =
     and
     1
-    append-decimal-kinds.ps
-    (falls 1 append-decimal-kinds.ps _<_ μ-append-decimal t)
-    append-decimal.Pre
+    put-decimal-kinds.ps
+    (falls 1 put-decimal-kinds.ps _<_ μ-put-decimal t)
+    put-decimal.Pre
 
-pub +append-decimal-spec : {M : Type 1} → statement M
-+append-decimal-spec = close μ-append-decimal λ t. append-decimal-lts.spec (
+pub +put-decimal-spec : {M : Type 1} → statement M
++put-decimal-spec = close μ-put-decimal λ t. put-decimal-lts.spec (
   append-byte-reads.Asked,
   append-byte-reads.Learnt,
   append-two-reads.Asked,
   append-two-reads.Learnt,
-  append-decimal-below t,
-  append-decimal.Post,
+  put-decimal-below t,
+  put-decimal.Post,
 )
-    (append-decimal-at t)
-    append-decimal.Post
+    (put-decimal-at t)
+    put-decimal.Post
     (λ c. omega arith)
     (λ c. omega arith)
     (λ c κs.
@@ -76,4 +76,4 @@ pub +append-decimal-spec : {M : Type 1} → statement M
     let last = c .before .before in
     let digits = last .before .before .before .before in
     let start = digits .before .before .before .before .before in
-    exactly (sym (decimal-hundred (start .args .n) (omega arith))) (followed (digits .append-decimal .ensures) (last .append-two2 .ensures)))
+    exactly (sym (decimal-hundred (start .args .n) (omega arith))) (followed (digits .put-decimal .ensures) (last .append-two2 .ensures)))

@@ -11,7 +11,7 @@ use lib.ListN.{length, length-append}
 use mir.Syntax.{w16, w64}
 use mir.Val.{Fits}
 use borrow.Author.Tests.{ltb-true, ltb-false}
-use Rattle.report.specs.Line.{twoDigits, digits, decimal}
+use Rattle.text.specs.Number.{twoDigits, digits, decimal}
 
 -- more steps than the tenth part change nothing
 steps : (k m q r : ℕ) → q ≤ k → q ≤ m → digits k q r ≡ digits m q r
@@ -81,12 +81,16 @@ one-digit n = go (ltb n 10) refl
 -- below a power of ten
 pub decimal-short : (k n : ℕ) → n < 10 ^ suc k → length (decimal n) ≤ suc k
 decimal-short zero n h = omega (arith, decimal-one n (omega (arith, pow-succ' 10 zero)))
-decimal-short (suc k) n h = ⊎-elim (λ p. omega (arith, decimal-one n p)) (λ p. omega (arith, decimal-longer n p, decimal-short k (n / 10) (omega (arith, pow-succ' 10 (suc k))))) (one-digit n)
+decimal-short (suc k) n h =
+    ⊎-elim
+    (λ p. omega (arith, decimal-one n p))
+    (λ p. omega (arith, decimal-longer n p, decimal-short k (n / 10) (omega (arith, pow-succ' 10 (suc k)))))
+    (one-digit n)
 
--- any u64 has at most 20 digits
-pub decimal-usize : (n : ℕ) → Fits w64 n → length (decimal n) ≤ 20
-decimal-usize n h = decimal-short 19 n (lt-of-lt-of-le (h .fits) (lit≤ tt))
-
--- any u16 at most 5
+-- any u16 has at most 5 digits
 pub decimal-u16 : (n : ℕ) → Fits w16 n → length (decimal n) ≤ 5
 decimal-u16 n h = decimal-short 4 n (lt-of-lt-of-le (h .fits) (lit≤ tt))
+
+-- any u64 at most 20
+pub decimal-usize : (n : ℕ) → Fits w64 n → length (decimal n) ≤ 20
+decimal-usize n h = decimal-short 19 n (lt-of-lt-of-le (h .fits) (lit≤ tt))

@@ -1,11 +1,10 @@
--- What the functions that make a line promise: bytes are put into a lent buffer at a place, and nothing else of it changes.
+-- What a function that puts bytes into a lent buffer promises: they stand there from a place on, and nothing else of it changes; where
+-- the buffer has no room, all of it is as it was. It rests on lists alone.
 use mathlib.Core.Path.{_≡_}
 use mathlib.Core.List.{List, _++_}
 use Prim.Native.Nat.{ℕ, _+_, _≤_, _<_}
 use lib.ListN.{length, drop}
 use lib.Seq.{sets}
-use Rattle.report.specs.declared.Answer.{Answer}
-use Rattle.report.specs.Line.{lineOf}
 
 -- the buffer has room for so many bytes from a place on
 pub record Room (out : List ℕ) (at room : ℕ) : Type 0 where
@@ -22,18 +21,18 @@ pub record Appended (before : List ℕ) (at : ℕ) (bytes : List ℕ) (room : �
   pub moved : next ≡ at + length bytes
   pub small : length bytes ≤ room
 
--- a text written to a lent buffer: one below the room is left as it was, and 0 handed back; else the text stands at its start, every byte after it is as
--- it was, and its length is handed back
+-- bytes appended to a lent buffer that may be of any size, from any place on: where it has no room, it is left as it was, and the
+-- place handed back
+pub record Appends (before : List ℕ) (at : ℕ) (bytes : List ℕ) (room : ℕ) (after : List ℕ) (next : ℕ) : Type 0 where
+  pub fits : at + room ≤ length before → Appended before at bytes room after next
+  pub untouched : length before < at + room → after ≡ before
+  pub stays : length before < at + room → next ≡ at
+
+-- a text written to a lent buffer: one below the room is left as it was, and 0 handed back; else the text stands at its start, every byte
+-- after it is as it was, and its length is handed back
 pub record Fills (line : List ℕ) (room : ℕ) (before after : List ℕ) (count : ℕ) : Type 0 where
   pub untouched : length before < room → after ≡ before
   pub nothing : length before < room → count ≡ 0
   pub stands : room ≤ length before → after ≡ line ++ drop (length line) before
   pub counted : room ≤ length before → count ≡ length line
   pub enough : count ≤ room
-
--- the buffer's least size, enough for the line of any answer
-abbrev pub lineRoom : ℕ
-lineRoom = 256
-
-abbrev pub Written : Answer → List ℕ → List ℕ → ℕ → Type 0
-Written answer = Fills (lineOf answer) lineRoom
