@@ -1,12 +1,12 @@
 // The line of what a typed text reads as: `rule kind a b c`, or `refused number 0`.
-use crate::append_refused;
-use crate::text::append_integer;
-use crate::text::append_number;
-use crate::text::append_word;
+use text::append_integer;
+use text::append_number;
+use text::append_refused;
+use text::append_word;
 use typed_rules::Typed;
 use typed_rules::Written;
-ghost use Rattle.report.specs.Append.{Room, Appended};
-ghost use Rattle.report.specs.Typed.{ruleFields, typedFields, TypedWritten};
+ghost use Rattle.text.specs.Append.{Room, Appended};
+ghost use Rattle.typed_line.specs.Typed.{ruleFields, typedFields, TypedWritten};
 
 // The line of a rule, but for its line feed.
 fn append_rule(w: Written, out: &mut [u8]) -> usize
@@ -27,11 +27,12 @@ fn append_typed(t: Typed, out: &mut [u8]) -> usize
 {
     match t {
         Typed::Rule(w) => append_rule(w, out),
-        Typed::Refused(number, record) => append_refused(number, record, out),
+        Typed::Refused(refusal) => append_refused(refusal.number, refusal.at, out, 0),
     }
 }
 
-// The line of a typed text, at the start of a buffer of at least 96 bytes, and its length. A smaller buffer is left as it is, and 0 handed back.
+// The line of a typed text, at the start of a buffer of at least 96 bytes, and its length. A smaller buffer is left as it is, and 0
+// handed back.
 pub fn write_typed(t: Typed, out: &mut [u8]) -> usize
     ensures { λ r. ⌜ TypedWritten t (now (out .entry)) (now (out .exit)) r ⌝ }
 {

@@ -1,6 +1,6 @@
 -- Spaces say nothing: two lawful trees whose texts are equal but for spaces are equal but for spaces, and are answered alike.
 use mathlib.Core.Path.{_≡_, refl, ap, sym, _∙_}
-use mathlib.Core.Bool.{false}
+use mathlib.Core.Bool.{false, cond}
 use mathlib.Core.List.{List, [], _∷_, _++_}
 use Prim.Native.Nat.{ℕ, zero, suc}
 use lib.Dec.{eqb}
@@ -9,7 +9,7 @@ use native.Mathlib.Omega.{arith}
 use Rattle.typed_rules.specs.declared.Value.{Value}
 use Rattle.typed_rules.specs.Grammar.{Factor, Term, Side, Relation, Rule, number, rate-x, rate-y, minus, group, factor, times, term, plus, less, at-most, at-least, pad, spellFactor, spellTerm, spellSide, spellRelation, spell, Digits, none, more, LawfulFactor, LawfulTerm, LawfulSide, Lawful}
 use Rattle.typed_rules.specs.Value.{negated, sum, difference, product, valueFactor, valueTerm, valueSide, kindOf, conclude, valueRule}
-use Rattle.typed_rules.specs.Parser.{pickList, answer}
+use Rattle.typed_rules.specs.Parser.{answer}
 use Rattle.typed_rules.proofs.Complete.{unique-sides}
 use Rattle.typed_rules.proofs.Language.{answered}
 
@@ -37,7 +37,7 @@ bare r = record { left = bareSide (r .left); gap = 0; relation = r .relation; ri
 
 unfoldable pub erase : List ℕ → List ℕ
 erase [] = []
-erase (b ∷ s) = pickList (eqb b 32) (erase s) (b ∷ erase s)
+erase (b ∷ s) = cond (eqb b 32) (erase s) (b ∷ erase s)
 
 -- ---- the text of a tree without spaces
 

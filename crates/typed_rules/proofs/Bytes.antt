@@ -1,6 +1,6 @@
 -- Bytes of a text, spaces and digits: what the loops of tokens.rt keep, and numbers that stop growing beyond the limit.
 use mathlib.Core.Path.{_≡_, refl, ap, sym, _∙_}
-use mathlib.Core.Bool.{Bool, true, false, _&&_}
+use mathlib.Core.Bool.{Bool, true, false, cond, _&&_}
 use mathlib.Core.List.{List, [], _∷_}
 use Prim.Native.Nat.{ℕ, _+_, _*_, _-_, _≤_, _<_}
 use native.Mathlib.Numerals.{add-one}
@@ -11,7 +11,7 @@ use lib.Seq.{drop-cons}
 use borrow.Author.Tests.{leb-true, leb-false, lt-leb, eq-eqb, ne-eqb}
 use Rattle.typed_rules.specs.declared.Value.the-variants.{Beyond}
 use Rattle.typed_rules.specs.Value.{limit, decimal, numeral}
-use Rattle.typed_rules.specs.Parser.{first, tail, digit, skip, run, past, pickNumber}
+use Rattle.typed_rules.specs.Parser.{first, tail, digit, skip, run, past}
 use Rattle.typed_rules.specs.Limits.{grown, capped}
 use Rattle.typed_rules.specs.Contracts.{Skips, Lexes, Runs}
 use Rattle.typed_rules.proofs.Spaces.{skip-nil}
@@ -103,14 +103,14 @@ decimal-beyond n (d ∷ s) h = decimal-beyond (n * 10 + (d - 48)) s (omega arith
 capped-beyond : (n : ℕ) (s : List ℕ) → limit < n → numeral (capped n s) ≡ Beyond 15
 unfolding numeral capped
 capped-beyond n [] h = rw (lt-leb n limit h)
-capped-beyond n (d ∷ s) h = ap (λ m. numeral (capped m s)) (ap (λ t. pickNumber t (n * 10 + (d - 48)) n) (lt-leb n limit h)) ∙ capped-beyond n s h
+capped-beyond n (d ∷ s) h = ap (λ m. numeral (capped m s)) (ap (λ t. cond t (n * 10 + (d - 48)) n) (lt-leb n limit h)) ∙ capped-beyond n s h
 
 pub capped-numeral : (n : ℕ) (s : List ℕ) → numeral (capped n s) ≡ numeral (decimal n s)
 unfolding decimal capped
 capped-numeral n [] = refl
 capped-numeral n (d ∷ s) = go (leb n limit) refl (capped-numeral (n * 10 + (d - 48)) s)
   where
-    go : (t : Bool) → leb n limit ≡ t → numeral (capped (n * 10 + (d - 48)) s) ≡ numeral (decimal (n * 10 + (d - 48)) s) → numeral (capped (pickNumber t (n * 10 + (d - 48)) n) s) ≡ numeral (decimal (n * 10 + (d - 48)) s)
+    go : (t : Bool) → leb n limit ≡ t → numeral (capped (n * 10 + (d - 48)) s) ≡ numeral (decimal (n * 10 + (d - 48)) s) → numeral (capped (cond t (n * 10 + (d - 48)) n) s) ≡ numeral (decimal (n * 10 + (d - 48)) s)
     go true e h = h
     go false e h =
         let k = leb-false n limit e in

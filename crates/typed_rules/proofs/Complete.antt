@@ -1,6 +1,6 @@
 -- Completeness: the parser hands back every lawful tree from the text that the tree spells. So no two lawful trees spell the same text.
 use mathlib.Core.Path.{_≡_, refl, ap, sym, _∙_}
-use mathlib.Core.Bool.{Bool, true, false}
+use mathlib.Core.Bool.{Bool, true, false, cond}
 use mathlib.Core.List.{List, [], _∷_, _++_}
 use Prim.Native.Nat.{ℕ, zero, suc, _+_, _*_, _≤_, _<_}
 use native.Mathlib.Omega.{arith}
@@ -9,7 +9,7 @@ use lib.ListN.{length, length-append}
 use borrow.Author.Tests.{le-leb, ne-eqb}
 use Rattle.typed_rules.specs.declared.Value.{Value}
 use Rattle.typed_rules.specs.Grammar.{Factor, Term, Side, Relation, Rule, number, rate-x, rate-y, minus, group, factor, times, term, plus, less, at-most, at-least, pad, spellFactor, spellTerm, spellSide, spellRelation, spell, Digits, more, Number, LawfulFactor, LawfulTerm, LawfulSide, Lawful}
-use Rattle.typed_rules.specs.Parser.{Parsed, fail, got, bind, pickParsed, first, digit, lead, skip, run, past, next, beyond, closed, numberAt, factorBy, termBy, sideBy, sideOf, ended, rightOf, relationOf, parse}
+use Rattle.typed_rules.specs.Parser.{Parsed, fail, got, bind, first, digit, lead, skip, run, past, next, beyond, closed, numberAt, factorBy, termBy, sideBy, sideOf, ended, rightOf, relationOf, parse}
 use Rattle.typed_rules.proofs.Bytes.{run-digit, past-digit, run-other, past-other, run-none, past-none}
 use Rattle.typed_rules.proofs.Steps.{factor-digit, factor-x, factor-y, factor-minus, factor-group, factors-end, terms-end}
 use Rattle.typed_rules.proofs.Whole.{rule, right-got, relation-most, relation-least}
@@ -58,9 +58,9 @@ number-complete k d i (b ∷ ds) r n e =
     factor-digit k d s (ap digit (next-in i b (ds ++ r) (h .1)) ∙ h .0)
     ∙ ap (λ (j : ℕ). numberAt j (skip s)) (lead-in i b (ds ++ r) (h .1))
     ∙ ap (numberAt i) (skip-in i b (ds ++ r) (h .1))
-    ∙ ap (λ (q : List ℕ). pickParsed (leb (length q) 10) (got (number i q) (past (b ∷ (ds ++ r)))) fail) (z .0)
-    ∙ ap (λ (q : List ℕ). pickParsed (leb (length (b ∷ ds)) 10) (got (number i (b ∷ ds)) q) fail) (z .1)
-    ∙ ap (λ (t : Bool). pickParsed t (got (number i (b ∷ ds)) r) fail) (le-leb (length (b ∷ ds)) 10 (n .few))
+    ∙ ap (λ (q : List ℕ). cond (leb (length q) 10) (got (number i q) (past (b ∷ (ds ++ r)))) fail) (z .0)
+    ∙ ap (λ (q : List ℕ). cond (leb (length (b ∷ ds)) 10) (got (number i (b ∷ ds)) q) fail) (z .1)
+    ∙ ap (λ (t : Bool). cond t (got (number i (b ∷ ds)) r) fail) (le-leb (length (b ∷ ds)) 10 (n .few))
   where
     head : Digits (b ∷ ds) → (digit b ≡ true) × (eqb b 32 ≡ false)
     head (more l u h) = (digit-yes b l u, ne-eqb b 32 (λ e. absurd (omega (arith, l, e))))
@@ -100,7 +100,7 @@ group-complete k d i a j q r e =
     factor-group k (suc d) (pad i (40 ∷ q)) (next-in i 40 q refl)
     ∙ in-pad (λ n z. bind (sideBy k d z) (λ b w. closed n b w)) i 40 q refl
     ∙ ap (λ (p : Parsed Side). bind p (λ b w. closed i b w)) e
-    ∙ ap (λ (n : ℕ). pickParsed (eqb n 41) (got (group i a (lead (pad j (41 ∷ r)))) (beyond (pad j (41 ∷ r)))) fail) (next-in j 41 r refl)
+    ∙ ap (λ (n : ℕ). cond (eqb n 41) (got (group i a (lead (pad j (41 ∷ r)))) (beyond (pad j (41 ∷ r)))) fail) (next-in j 41 r refl)
     ∙ in-pad (λ n z. got (group i a n) z) j 41 r refl
 
 -- ---- chains

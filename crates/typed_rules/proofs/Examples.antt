@@ -7,7 +7,7 @@ use Rattle.typed_rules.specs.Grammar as G
 use Rattle.typed_rules.specs.Grammar.{number, rate-x, rate-y, minus, factor, times, term, less, at-most, spell, spellSide, spellTerm, spellFactor, spellRelation, pad}
 use Rattle.typed_rules.specs.Value.{checked, decimal, numeral, constant, multiplied, negated, sum, difference, product, valueFactor, valueTerm, valueSide, final, conclude, valueRule}
 use Rattle.typed_rules.specs.Parser.{answer, parse, got, relationOf, rightOf, sideOf, sideBy, moreTerms, termBy, moreFactors, factorBy, lead, skip, run, past}
-use Rattle.typed_rules.specs.Text.{text}
+use Rattle.text.specs.Text.{text}
 use Rattle.typed_rules.specs.Examples.{Example, examples}
 
 pub texts-as-read : map (λ (e : Example). answer (text (e .written))) examples ≡ map (λ (e : Example). e .reads) examples

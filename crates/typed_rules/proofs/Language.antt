@@ -1,16 +1,15 @@
 -- The language, read exactly. A text is answered with the value of the one lawful tree that spells it, or there is no such tree and it is refused 13.
 use mathlib.Core.Path.{_≡_, refl, ap, sym, _∙_, subst}
 use mathlib.Core.Logic.{_⊎_, inl, inr}
-use mathlib.Core.Bool.{Bool, true, false}
+use mathlib.Core.Bool.{Bool, true, false, cond}
 use mathlib.Core.List.{List, []}
 use Prim.Native.Nat.{ℕ, _≤_}
 use native.Mathlib.Omega.{arith}
 use lib.Dec.{leb}
 use lib.ListN.{length}
 use borrow.Author.Tests.{leb-true, leb-false, le-leb}
-use Rattle.typed_rules.specs.declared.Typed.the-variants.{Refused}
 use Rattle.typed_rules.specs.Grammar.{Rule, spell, Lawful}
-use Rattle.typed_rules.specs.Value.{valueRule, pickTyped}
+use Rattle.typed_rules.specs.Value.{valueRule, refusal}
 use Rattle.typed_rules.specs.Parser.{Parsed, fail, got, parse, judged, answer}
 use Rattle.typed_rules.proofs.Sound.{SoundRule, parse-sound}
 use Rattle.typed_rules.proofs.Complete.{parse-complete}
@@ -19,7 +18,7 @@ use Rattle.typed_rules.proofs.Complete.{parse-complete}
 pub answered : (r : Rule) → Lawful r → answer (spell r) ≡ valueRule r
 unfolding answer
 answered r l =
-    ap (λ (t : Bool). pickTyped t (judged (parse (spell r))) (Refused 13 0)) (le-leb (length (spell r)) 120 (l .short))
+    ap (λ (t : Bool). cond t (judged (parse (spell r))) (refusal 13)) (le-leb (length (spell r)) 120 (l .short))
     ∙ ap judged (parse-complete r (l .left) (l .right))
 
 -- a text of the language: the tree that spells it, and the answer
@@ -32,7 +31,7 @@ pub record Reads (s : List ℕ) : Type 0 where
 -- a text that no lawful tree spells
 pub record Refuses (s : List ℕ) : Type 0 where
   pub nothing : (r : Rule) → Lawful r → s ≡ spell r → ⊥
-  pub answer : answer s ≡ Refused 13 0
+  pub answer : answer s ≡ refusal 13
 
 too-long : (s : List ℕ) → leb (length s) 120 ≡ false → (r : Rule) → Lawful r → s ≡ spell r → ⊥
 too-long s e r l p = absurd (omega (arith, leb-false (length s) 120 e, ap length p, l .short))

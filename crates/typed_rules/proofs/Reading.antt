@@ -1,6 +1,6 @@
 -- The readers of numbers and factors against the parser: each case of the code gives what the reader promises, from what its callees promise.
 use mathlib.Core.Path.{_≡_, refl, ap, sym, _∙_, subst}
-use mathlib.Core.Bool.{Bool, true, false}
+use mathlib.Core.Bool.{Bool, true, false, cond}
 use mathlib.Core.List.{List}
 use Prim.Native.Nat.{ℕ, zero, suc, _+_, _-_, _≤_, _<_}
 use native.Mathlib.Omega.{arith}
@@ -17,7 +17,7 @@ use Rattle.typed_rules.specs.declared.Step.{Step}
 use Rattle.typed_rules.specs.declared.Step.the-variants.{Got, Fail}
 use Rattle.typed_rules.specs.Grammar.{Factor, Side, number, minus, group}
 use Rattle.typed_rules.specs.Value.{form, numeral, negated, valueFactor, valueSide}
-use Rattle.typed_rules.specs.Parser.{Parsed, fail, got, bind, pickParsed, first, digit, lead, run, past, next, beyond, inner, closed, numberAt, factorBy, sideBy}
+use Rattle.typed_rules.specs.Parser.{Parsed, fail, got, bind, first, digit, lead, run, past, next, beyond, inner, closed, numberAt, factorBy, sideBy}
 use Rattle.typed_rules.specs.Contracts.{Small, Valued, Lexes, Runs, valued, view, Moved, Enough, ReadsFactor, ReadsSide, ReadsNumber, turnedOf, closing, Onward, Closes}
 use Rattle.typed_rules.proofs.Values.{turned-small}
 use Rattle.typed_rules.proofs.Bytes.{run-some}
@@ -31,7 +31,7 @@ unfolding valueFactor
 number-yes {text} {at} {l} {w} d h v =
     record {
       same = λ i.
-          ap (λ (t : Bool). valued valueFactor (pickParsed t (got (number i (run (drop at text))) (past (drop at text))) fail)) (le-leb (length (run (drop at text))) 10 (omega (arith, d .count)))
+          ap (λ (t : Bool). valued valueFactor (cond t (got (number i (run (drop at text))) (past (drop at text))) fail)) (le-leb (length (run (drop at text))) 10 (omega (arith, d .count)))
           ∙ ap (λ (x : Value). got x (past (drop at text))) (sym (v .same ∙ d .same))
           ∙ ap (got w) (sym (d .goes-on));
       moved = record { small = v .small; low = omega (arith, d .count); high = d .high };
@@ -40,7 +40,7 @@ number-yes {text} {at} {l} {w} d h v =
 pub number-no : {text : List ℕ} {at : ℕ} {l : Digits} → Runs text at l → 10 < l .end - at → ReadsNumber text at Fail
 number-no {text} {at} {l} d h =
     record {
-      same = λ i. ap (λ (t : Bool). valued valueFactor (pickParsed t (got (number i (run (drop at text))) (past (drop at text))) fail)) (lt-leb (length (run (drop at text))) 10 (omega (arith, d .count)));
+      same = λ i. ap (λ (t : Bool). valued valueFactor (cond t (got (number i (run (drop at text))) (past (drop at text))) fail)) (lt-leb (length (run (drop at text))) 10 (omega (arith, d .count)));
       moved = tt;
     }
 
@@ -58,7 +58,7 @@ pub closed-no : {text : List ℕ} {s : Step} {v : Value} {n : ℕ} {l : Lexed} �
 closed-no {text} {v = v} {n = n} e x b =
     rw e
     (record {
-      same = ap (λ (t : Bool). pickParsed t (got v (beyond (drop n text))) fail) (other x 41 b);
+      same = ap (λ (t : Bool). cond t (got v (beyond (drop n text))) fail) (other x 41 b);
       onward = tt;
     })
 
@@ -93,7 +93,7 @@ unfolding valueFactor
 closed-all i fail = refl
 closed-all i (got a r) = go (eqb (next r) 41)
   where
-    go : (t : Bool) → valued valueFactor (pickParsed t (got (group i a (lead r)) (beyond r)) fail) ≡ pickParsed t (got (valueSide a) (beyond r)) fail
+    go : (t : Bool) → valued valueFactor (cond t (got (group i a (lead r)) (beyond r)) fail) ≡ cond t (got (valueSide a) (beyond r)) fail
     go true = refl
     go false = refl
 

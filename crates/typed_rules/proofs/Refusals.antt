@@ -2,7 +2,7 @@
 -- spells it, and refused 13 exactly if none does.
 use mathlib.Core.Path.{_≡_, refl, ap, sym, _∙_, subst}
 use mathlib.Core.Logic.{_⊎_, inl, inr, _↔_}
-use mathlib.Core.Bool.{Bool, true, false, _&&_}
+use mathlib.Core.Bool.{Bool, true, false, cond, _&&_}
 use mathlib.Core.List.{List}
 use Prim.Native.Nat.{ℕ, _≤_}
 use native.Mathlib.Omega.{arith}
@@ -13,11 +13,12 @@ use Rattle.typed_rules.specs.declared.Form.{Form}
 use Rattle.typed_rules.specs.declared.Value.{Value}
 use Rattle.typed_rules.specs.declared.Value.the-variants.{Linear, Beyond}
 use Rattle.typed_rules.specs.declared.Written.{Written}
+use Rattle.answers.specs.declared.Refusal.{Refusal}
 use Rattle.typed_rules.specs.declared.Typed.{Typed}
 use Rattle.typed_rules.specs.declared.Typed.the-variants.{Rule, Refused}
 use Rattle.typed_rules.specs.Grammar as G
 use Rattle.typed_rules.specs.Grammar.{number, rate-x, rate-y, minus, group, factor, times, term, plus, less, at-most, at-least}
-use Rattle.typed_rules.specs.Value.{inside, limit, form, either, checked, decimal, numeral, constant, multiplied, mulForms, addForms, subForms, negated, sum, difference, product, combine, valueFactor, valueTerm, valueSide, kindOf, pickTyped, written, final, conclude, valueRule}
+use Rattle.typed_rules.specs.Value.{inside, limit, form, checked, decimal, numeral, constant, multiplied, mulForms, addForms, subForms, negated, sum, difference, product, combine, valueFactor, valueTerm, valueSide, kindOf, refusal, written, final, conclude, valueRule}
 use Rattle.typed_rules.specs.Parser.{answer}
 use Rattle.typed_rules.proofs.Language.{answered, Reads, Refuses, language}
 
@@ -32,7 +33,7 @@ checked-plain : (f : Form) → Plain (checked f)
 unfolding checked
 checked-plain f = go (inside limit (f .a) && (inside limit (f .b) && inside limit (f .c)))
   where
-    go : (t : Bool) → Plain (either t (Linear f) (Beyond 15))
+    go : (t : Bool) → Plain (cond t (Linear f) (Beyond 15))
     go true = tt
     go false = inr refl
 
@@ -40,7 +41,7 @@ numeral-plain : (n : ℕ) → Plain (numeral n)
 unfolding numeral
 numeral-plain n = go (leb n limit)
   where
-    go : (t : Bool) → Plain (either t (Linear (form (pos 0) (pos 0) (pos n))) (Beyond 15))
+    go : (t : Bool) → Plain (cond t (Linear (form (pos 0) (pos 0) (pos n))) (Beyond 15))
     go true = tt
     go false = inr refl
 
@@ -48,7 +49,7 @@ multiplied-plain : (f g : Form) → Plain (multiplied f g)
 unfolding multiplied
 multiplied-plain f g = go (constant f) (constant g)
   where
-    go : (t u : Bool) → Plain (either t (checked (mulForms f g)) (either u (checked (mulForms f g)) (Beyond 14)))
+    go : (t u : Bool) → Plain (cond t (checked (mulForms f g)) (cond u (checked (mulForms f g)) (Beyond 14)))
     go true u = checked-plain (mulForms f g)
     go false true = checked-plain (mulForms f g)
     go false false = inl refl
@@ -107,13 +108,13 @@ pub record InRange (w : Written) : Type 0 where
 
 abbrev pub Sound : Typed → Type 0
 Sound (Rule w) = InRange w
-Sound (Refused n r) = Fault n × (r ≡ 0)
+Sound (Refused r) = Fault (r .number) × (r .at ≡ 0)
 
 final-sound : (w : Written) → Kind (w .kind) → Sound (final w)
 unfolding final
 final-sound w k = go (inside 32767 (w .a)) refl (inside 32767 (w .b)) refl (inside limit (w .c)) refl
   where
-    go : (s : Bool) → inside 32767 (w .a) ≡ s → (t : Bool) → inside 32767 (w .b) ≡ t → (u : Bool) → inside limit (w .c) ≡ u → Sound (pickTyped (s && (t && u)) (Rule w) (Refused 15 0))
+    go : (s : Bool) → inside 32767 (w .a) ≡ s → (t : Bool) → inside 32767 (w .b) ≡ t → (u : Bool) → inside limit (w .c) ≡ u → Sound (cond (s && (t && u)) (Rule w) (refusal 15))
     go true e true f true g = record { kind = k; a = leb-true (natAbs (w .a)) 32767 e; b = leb-true (natAbs (w .b)) 32767 f; c = leb-true (natAbs (w .c)) limit g }
     go true e true f false g = (inr refl, refl)
     go true e false f u g = (inr refl, refl)
@@ -135,10 +136,16 @@ pub value-sound : (r : G.Rule) → Sound (valueRule r)
 unfolding valueRule
 value-sound r = conclude-sound (kindOf (r .relation)) (kind-of (r .relation)) (valueSide (r .left)) (valueSide (r .right)) (side-plain (r .left)) (side-plain (r .right))
 
-thirteen : (t : Typed) → Sound t → t ≡ Refused 13 0 → ⊥
+thirteen : (t : Typed) → Sound t → t ≡ refusal 13 → ⊥
 thirteen (Rule w) h e = let z : _≡_ {A = ℕ} 0 1 = cc in omega arith
-thirteen (Refused n r) (inl h, k) e = let z : n ≡ 13 = cc in omega arith
-thirteen (Refused n r) (inr h, k) e = let z : n ≡ 13 = cc in omega arith
+thirteen (Refused r) (inl h, k) e =
+    let same : r ≡ record { number = 13; at = 0 } = cc in
+    let z : r .number ≡ 13 = ap (λ (s : Refusal). s .number) same in
+    omega arith
+thirteen (Refused r) (inr h, k) e =
+    let same : r ≡ record { number = 13; at = 0 } = cc in
+    let z : r .number ≡ 13 = ap (λ (s : Refusal). s .number) same in
+    omega arith
 
 -- ---- the language, in both directions
 
@@ -155,9 +162,9 @@ read-exactly s = ((λ h. tree h (language s)), (λ t. spelt-sound s (t .0) (t .1
     tree h (inr n) = absurd (thirteen (answer s) h (n .answer))
 
 -- 13 exactly if no lawful tree spells the text
-pub refused-13-exactly : (s : List ℕ) → (answer s ≡ Refused 13 0) ↔ ((r : G.Rule) → G.Lawful r → s ≡ G.spell r → ⊥)
+pub refused-13-exactly : (s : List ℕ) → (answer s ≡ refusal 13) ↔ ((r : G.Rule) → G.Lawful r → s ≡ G.spell r → ⊥)
 refused-13-exactly s = ((λ e r l p. thirteen (answer s) (spelt-sound s r l p) e), (λ none. refused none (language s)))
   where
-    refused : ((r : G.Rule) → G.Lawful r → s ≡ G.spell r → ⊥) → Reads s ⊎ Refuses s → answer s ≡ Refused 13 0
+    refused : ((r : G.Rule) → G.Lawful r → s ≡ G.spell r → ⊥) → Reads s ⊎ Refuses s → answer s ≡ refusal 13
     refused none (inl r) = absurd (none (r .tree) (r .lawful) (r .text))
     refused none (inr n) = n .answer

@@ -1,6 +1,6 @@
 -- Soundness: what the parser hands back is a lawful tree, and the text is what the tree spells.
 use mathlib.Core.Path.{_≡_, refl, ap, _∙_}
-use mathlib.Core.Bool.{Bool, true, false}
+use mathlib.Core.Bool.{Bool, true, false, cond}
 use mathlib.Core.List.{List, [], _∷_, _++_}
 use Prim.Native.Nat.{ℕ, zero, suc, _+_, _*_, _<_}
 use native.Mathlib.Omega.{arith}
@@ -9,7 +9,7 @@ use lib.ListN.{length}
 use borrow.Author.Tests.{leb-true, eqb-true}
 use Rattle.typed_rules.specs.declared.Value.{Value}
 use Rattle.typed_rules.specs.Grammar.{Factor, Term, Side, Relation, Rule, number, rate-x, rate-y, minus, group, at-most, at-least, pad, spellFactor, spellTerm, spellSide, spellRelation, spell, Digits, none, more, LawfulFactor, LawfulTerm, LawfulSide}
-use Rattle.typed_rules.specs.Parser.{Parsed, fail, got, bind, pickParsed, pickNumber, pickList, first, tail, digit, lead, skip, run, past, next, beyond, inner, closed, numberAt, factorBy, termBy, moreFactors, sideBy, moreTerms, sideOf, ended, rightOf, relationOf, parse}
+use Rattle.typed_rules.specs.Parser.{Parsed, fail, got, bind, first, tail, digit, lead, skip, run, past, next, beyond, inner, closed, numberAt, factorBy, termBy, moreFactors, sideBy, moreTerms, sideOf, ended, rightOf, relationOf, parse}
 use Rattle.typed_rules.proofs.Bytes.{digit-range, run-some}
 use Rattle.typed_rules.proofs.Chain.{Chain, Begins, Joins, one-factor, one-term, by-star, by-plus, by-minus}
 use Rattle.typed_rules.proofs.Whole.{rule}
@@ -22,7 +22,7 @@ unfolding lead skip pad
 led [] = refl
 led (b ∷ s) = go (eqb b 32) refl (led s)
   where
-    go : (t : Bool) → eqb b 32 ≡ t → s ≡ pad (lead s) (skip s) → b ∷ s ≡ pad (pickNumber t (suc (lead s)) 0) (pickList t (skip s) (b ∷ s))
+    go : (t : Bool) → eqb b 32 ≡ t → s ≡ pad (lead s) (skip s) → b ∷ s ≡ pad (cond t (suc (lead s)) 0) (cond t (skip s) (b ∷ s))
     go true e h = ap (λ (c : ℕ). c ∷ s) (eqb-true b 32 e) ∙ ap (λ (q : List ℕ). 32 ∷ q) h
     go false e h = refl
 
@@ -41,7 +41,7 @@ unfolding run past
 ran [] = refl
 ran (b ∷ s) = go (digit b) (ran s)
   where
-    go : (t : Bool) → s ≡ run s ++ past s → b ∷ s ≡ pickList t (b ∷ run s) [] ++ pickList t (past s) (b ∷ s)
+    go : (t : Bool) → s ≡ run s ++ past s → b ∷ s ≡ cond t (b ∷ run s) [] ++ cond t (past s) (b ∷ s)
     go true h = ap (λ (q : List ℕ). b ∷ q) h
     go false h = refl
 
@@ -50,7 +50,7 @@ unfolding run
 run-digits [] = none
 run-digits (b ∷ s) = go (digit b) refl (run-digits s)
   where
-    go : (t : Bool) → digit b ≡ t → Digits (run s) → Digits (pickList t (b ∷ run s) [])
+    go : (t : Bool) → digit b ≡ t → Digits (run s) → Digits (cond t (b ∷ run s) [])
     go true e h = more (digit-range b e .0) (digit-range b e .1) h
     go false e h = none
 
@@ -77,7 +77,7 @@ number-sound : (d : ℕ) (s : List ℕ) → digit (next s) ≡ true → SoundFac
 unfolding spellFactor LawfulFactor
 number-sound d s e = go (leb (length (run (skip s))) 10) refl
   where
-    go : (t : Bool) → leb (length (run (skip s))) 10 ≡ t → SoundFactor d s (pickParsed t (got (number (lead s) (run (skip s))) (past (skip s))) fail)
+    go : (t : Bool) → leb (length (run (skip s))) 10 ≡ t → SoundFactor d s (cond t (got (number (lead s) (run (skip s))) (past (skip s))) fail)
     go true h =
         record {
           text = led s ∙ ap (pad (lead s)) (ran (skip s));
@@ -104,7 +104,7 @@ unfolding spellFactor LawfulFactor
 group-sound d s e fail h = tt
 group-sound d s e (got a r) h = go (eqb (next r) 41) refl
   where
-    go : (t : Bool) → eqb (next r) 41 ≡ t → SoundFactor (suc d) s (pickParsed t (got (group (lead s) a (lead r)) (beyond r)) fail)
+    go : (t : Bool) → eqb (next r) 41 ≡ t → SoundFactor (suc d) s (cond t (got (group (lead s) a (lead r)) (beyond r)) fail)
     go true f =
         record {
           text = item s 40 (omega arith) e ∙ ap (λ (q : List ℕ). pad (lead s) (40 ∷ q)) (h .text ∙ ap (spellSide a) (item r 41 (omega arith) (eqb-true (next r) 41 f)));
@@ -117,7 +117,7 @@ inner-sound zero s e f h = tt
 inner-sound (suc d) s e f h = group-sound d s e (f d) (h d)
 
 -- a test's two branches
-branch : {A : Type 0} (Q : Parsed A → Type 0) (t : Bool) (l r : Parsed A) → (t ≡ true → Q l) → (t ≡ false → Q r) → Q (pickParsed t l r)
+branch : {A : Type 0} (Q : Parsed A → Type 0) (t : Bool) (l r : Parsed A) → (t ≡ true → Q l) → (t ≡ false → Q r) → Q (cond t l r)
 branch Q true l r f g = f refl
 branch Q false l r f g = g refl
 
@@ -211,7 +211,7 @@ right-sound s a i k w l e = go (eqb (first w) 61) refl
     after f fail h = tt
     after f (got b q) h = ended-sound s q a i k b l (h .law) (e f ∙ ap (λ (x : List ℕ). spellSide a (pad i (spellRelation k x))) (h .text)) (skip q) refl
 
-    go : (t : Bool) → eqb (first w) 61 ≡ t → SoundRule s (pickParsed t (bind (sideOf (tail w)) (λ b r. ended (skip r) (rule a i k b (lead r)))) fail)
+    go : (t : Bool) → eqb (first w) 61 ≡ t → SoundRule s (cond t (bind (sideOf (tail w)) (λ b r. ended (skip r) (rule a i k b (lead r)))) fail)
     go true f = after (eqb-true (first w) 61 f) (sideOf (tail w)) (side-of-sound (tail w))
     go false f = tt
 

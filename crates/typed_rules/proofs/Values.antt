@@ -19,8 +19,7 @@ use Rattle.typed_rules.specs.declared.Pair.{Pair}
 use Rattle.typed_rules.specs.declared.Pair.the-variants.{Forms, First}
 use Rattle.typed_rules.specs.declared.Written.{Written}
 use Rattle.typed_rules.specs.declared.Typed.{Typed}
-use Rattle.typed_rules.specs.declared.Typed.the-variants.{Refused}
-use Rattle.typed_rules.specs.Value.{inside, limit, form, checked, numeral, negForm, combine, written, final, conclude}
+use Rattle.typed_rules.specs.Value.{inside, limit, form, checked, numeral, negForm, combine, written, final, conclude, refusal}
 use Rattle.typed_rules.specs.Contracts.{SmallForm, SmallForms, Small, pairOf, SmallIn, Paired, Valued}
 
 -- ---- numbers
@@ -131,7 +130,7 @@ combine-pair op (Linear f) (Linear g) = refl
 combine-pair op (Linear f) (Beyond n) = refl
 combine-pair op (Beyond n) w = refl
 
-conclude-pair : (k : ℕ) (v w : Value) → conclude k v w ≡ joined (λ f g. final (written k f g)) (λ n. Refused n 0) (pairOf v w)
+conclude-pair : (k : ℕ) (v w : Value) → conclude k v w ≡ joined (λ f g. final (written k f g)) (λ n. refusal n) (pairOf v w)
 unfolding conclude
 conclude-pair k (Linear f) (Linear g) = refl
 conclude-pair k (Linear f) (Beyond n) = refl
@@ -144,8 +143,8 @@ module _ {v w : Value} {p : Pair} (x : Paired v w p) where
   pub combined : (op : Form → Form → Value) {q : Pair} {r : Value} → p ≡ q → Valued (joined op Beyond q) r → Valued (combine op v w) r
   combined op e h = same-value (sym (combine-pair op v w ∙ ap (joined op Beyond) (sym (x .same) ∙ e))) h
 
-  pub concluded : (k : ℕ) {q : Pair} {r : Typed} → p ≡ q → r ≡ joined (λ f g. final (written k f g)) (λ n. Refused n 0) q → r ≡ conclude k v w
-  concluded k e h = h ∙ sym (conclude-pair k v w ∙ ap (joined (λ f g. final (written k f g)) (λ n. Refused n 0)) (sym (x .same) ∙ e))
+  pub concluded : (k : ℕ) {q : Pair} {r : Typed} → p ≡ q → r ≡ joined (λ f g. final (written k f g)) (λ n. refusal n) q → r ≡ conclude k v w
+  concluded k e h = h ∙ sym (conclude-pair k v w ∙ ap (joined (λ f g. final (written k f g)) (λ n. refusal n)) (sym (x .same) ∙ e))
 
 pub refused : {n : ℕ} → Valued (Beyond n) (Beyond n)
 refused = record { same = refl; small = tt }

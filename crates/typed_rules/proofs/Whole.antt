@@ -12,9 +12,8 @@ use Rattle.typed_rules.specs.declared.Lexed.{Lexed}
 use Rattle.typed_rules.specs.declared.Step.{Step}
 use Rattle.typed_rules.specs.declared.Step.the-variants.{Got, Fail}
 use Rattle.typed_rules.specs.declared.Typed.{Typed}
-use Rattle.typed_rules.specs.declared.Typed.the-variants.{Refused}
 use Rattle.typed_rules.specs.Grammar.{Side, Relation, Rule, at-most, at-least}
-use Rattle.typed_rules.specs.Value.{conclude, kindOf, valueSide, valueRule}
+use Rattle.typed_rules.specs.Value.{conclude, kindOf, valueSide, valueRule, refusal}
 use Rattle.typed_rules.specs.Parser.{Parsed, fail, got, bind, first, tail, lead, skip, next, beyond, sideOf, ended, rightOf, relationOf, parse, judged}
 use Rattle.typed_rules.specs.Contracts.{Skips, Lexes, valued, view, ReadsSide, JudgesRight, Judges}
 use Rattle.typed_rules.proofs.Bytes.{here}
@@ -85,7 +84,7 @@ module _ (text : List ℕ) (at : ℕ) {b : ℕ} (x : b ≡ first (drop at text))
       )
 
 module _ {text : List ℕ} {at kind : ℕ} {v : Value} {b : ℕ} (x : b ≡ first (drop at text)) where
-  pub right-more : {s : Step} {w : Value} {n e : ℕ} → b ≡ 61 → s ≡ Got w n → ReadsSide text (at + 1) 8 s → Skips text n e → e < length text → JudgesRight text at kind v (Refused 13 0)
+  pub right-more : {s : Step} {w : Value} {n e : ℕ} → b ≡ 61 → s ≡ Got w n → ReadsSide text (at + 1) 8 s → Skips text n e → e < length text → JudgesRight text at kind v (refusal 13)
   right-more {e = e} y g f k h =
       record { same = λ a i r p q. sym (ap judged (right-reads text at x y (getD text e 0 ∷ drop (e + 1) text) f g k (here text e h) a i r .1)) }
 
@@ -102,7 +101,7 @@ module _ {text : List ℕ} {at kind : ℕ} {v : Value} {b : ℕ} (x : b ≡ firs
             ∙ sym (ap judged (z .1));
       }
 
-  pub right-fails : {s : Step} → b ≡ 61 → s ≡ Fail → ReadsSide text (at + 1) 8 s → JudgesRight text at kind v (Refused 13 0)
+  pub right-fails : {s : Step} → b ≡ 61 → s ≡ Fail → ReadsSide text (at + 1) 8 s → JudgesRight text at kind v (refusal 13)
   right-fails {s} y g f =
       record {
         same = λ a i r p q.
@@ -110,7 +109,7 @@ module _ {text : List ℕ} {at kind : ℕ} {v : Value} {b : ℕ} (x : b ≡ firs
             sym (ap judged (right-none a i r (drop at text) (equals text at x y) (ap sideOf (sym (right-tail text at x y)) ∙ z)));
       }
 
-  pub right-no : (b ≡ 61 → ⊥) → JudgesRight text at kind v (Refused 13 0)
+  pub right-no : (b ≡ 61 → ⊥) → JudgesRight text at kind v (refusal 13)
   right-no y =
       record { same = λ a i r p q. sym (ap judged (right-other a i r (drop at text) (ap (λ (z : ℕ). eqb z 61) (sym x) ∙ ne-eqb b 61 y))) }
 
@@ -132,7 +131,7 @@ module _ {text : List ℕ} {at : ℕ} {v : Value} {l : Lexed} (x : Lexes text at
   pub judges-least : {t : Typed} → l .byte ≡ 62 → JudgesRight text (l .next) 2 v t → Judges text at v t
   judges-least b = judges at-least (λ a. relation-least a (drop at text) (sym (x .same) ∙ b))
 
-  pub judges-other : (l .byte ≡ 60 → ⊥) → (l .byte ≡ 62 → ⊥) → Judges text at v (Refused 13 0)
+  pub judges-other : (l .byte ≡ 60 → ⊥) → (l .byte ≡ 62 → ⊥) → Judges text at v (refusal 13)
   judges-other b c = record { same = λ a y. sym (ap judged (relation-other a (drop at text) (other x 60 b) (other x 62 c))) }
 
 -- ---- the whole
@@ -143,7 +142,7 @@ text-got {text} {s} g f j =
     let z = inv-got valueSide (sideOf (drop 0 text)) (side-of text 0 s f ∙ ap (view text) g) in
     j .same (z .0) (z .2) ∙ sym (ap (λ (p : Parsed Side). judged (bind p (λ a r. relationOf a r))) (z .1))
 
-pub text-fails : {text : List ℕ} {s : Step} → s ≡ Fail → ReadsSide text 0 8 s → Refused 13 0 ≡ judged (parse text)
+pub text-fails : {text : List ℕ} {s : Step} → s ≡ Fail → ReadsSide text 0 8 s → refusal 13 ≡ judged (parse text)
 unfolding parse
 text-fails {text} {s} g f =
     let z = inv-fail valueSide (sideOf (drop 0 text)) (side-of text 0 s f ∙ ap (view text) g) in

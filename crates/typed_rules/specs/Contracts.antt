@@ -1,5 +1,6 @@
 -- What the private functions promise. A place in the text stands for the text from there on.
 use mathlib.Core.Path.{_≡_}
+use mathlib.Core.Bool.{cond}
 use mathlib.Core.List.{List}
 use Prim.Native.Nat.{ℕ, suc, _+_, _*_, _-_, _≤_, _<_}
 use lib.Dec.{eqb}
@@ -18,7 +19,7 @@ use Rattle.typed_rules.specs.declared.Step.the-variants.{Got, Fail}
 use Rattle.typed_rules.specs.declared.Typed.{Typed}
 use Rattle.typed_rules.specs.Grammar.{Side, Relation}
 use Rattle.typed_rules.specs.Value.{limit, decimal, numeral, negated, valueFactor, valueTerm, valueSide, kindOf}
-use Rattle.typed_rules.specs.Parser.{Parsed, fail, got, skip, run, past, next, beyond, bind, pickParsed, numberAt, factorBy, termBy, moreFactors, sideBy, moreTerms, relationOf, rightOf, judged}
+use Rattle.typed_rules.specs.Parser.{Parsed, fail, got, skip, run, past, next, beyond, bind, numberAt, factorBy, termBy, moreFactors, sideBy, moreTerms, relationOf, rightOf, judged}
 
 -- ---- numbers
 
@@ -166,7 +167,7 @@ Placed text Fail = Unit {0}
 
 -- the text after a parenthesis that must come next
 abbrev pub closing : Parsed Value → Parsed Value
-closing p = bind p (λ v r. pickParsed (eqb (next r) 41) (got v (beyond r)) fail)
+closing p = bind p (λ v r. cond (eqb (next r) 41) (got v (beyond r)) fail)
 
 abbrev pub Onward : Step → Step → ℕ → Type 0
 Onward (Got v n) (Got w m) len = (w ≡ v) × (n < m) × (m ≤ len)

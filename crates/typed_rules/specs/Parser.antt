@@ -1,14 +1,13 @@
 -- The parser as a function of texts: side, term and factor call each other, and the remaining text falls. It hands back the tree that it read. A call takes one
 -- unit of fuel, of which three for each byte and three more are enough.
-use mathlib.Core.Bool.{Bool, true, false, _&&_}
+use mathlib.Core.Bool.{Bool, true, false, cond, _&&_}
 use mathlib.Core.List.{List, [], _∷_}
 use Prim.Native.Nat.{ℕ, zero, suc, _+_, _*_}
 use lib.Dec.{leb, eqb}
 use lib.ListN.{length}
 use Rattle.typed_rules.specs.declared.Typed.{Typed}
-use Rattle.typed_rules.specs.declared.Typed.the-variants.{Refused}
 use Rattle.typed_rules.specs.Grammar.{Factor, Term, Side, Relation, Rule, number, rate-x, rate-y, minus, group, factor, times, term, plus, less, at-most, at-least}
-use Rattle.typed_rules.specs.Value.{valueRule, pickTyped}
+use Rattle.typed_rules.specs.Value.{refusal, valueRule}
 
 -- what was read, with the text after it
 pub data Parsed (A : Type 0) : Type 0 where
@@ -18,10 +17,6 @@ pub data Parsed (A : Type 0) : Type 0 where
 abbrev pub bind : {A B : Type 0} → Parsed A → (A → List ℕ → Parsed B) → Parsed B
 bind fail f = fail
 bind (got a r) f = f a r
-
-abbrev pub pickParsed : {A : Type 0} → Bool → Parsed A → Parsed A → Parsed A
-pickParsed true l r = l
-pickParsed false l r = r
 
 -- ---- bytes
 
@@ -38,34 +33,26 @@ digit b = leb 48 b && leb b 57
 
 -- ---- spaces: how many there are, and the text after them
 
-abbrev pub pickNumber : Bool → ℕ → ℕ → ℕ
-pickNumber true l r = l
-pickNumber false l r = r
-
-abbrev pub pickList : Bool → List ℕ → List ℕ → List ℕ
-pickList true l r = l
-pickList false l r = r
-
 unfoldable pub lead : List ℕ → ℕ
 lead [] = 0
-lead (b ∷ s) = pickNumber (eqb b 32) (suc (lead s)) 0
+lead (b ∷ s) = cond (eqb b 32) (suc (lead s)) 0
 
 unfoldable pub skip : List ℕ → List ℕ
 skip [] = []
-skip (b ∷ s) = pickList (eqb b 32) (skip s) (b ∷ s)
+skip (b ∷ s) = cond (eqb b 32) (skip s) (b ∷ s)
 
 -- ---- digits: as many as there are, and the text after them
 
 unfoldable pub run : List ℕ → List ℕ
 run [] = []
-run (b ∷ s) = pickList (digit b) (b ∷ run s) []
+run (b ∷ s) = cond (digit b) (b ∷ run s) []
 
 unfoldable pub past : List ℕ → List ℕ
 past [] = []
-past (b ∷ s) = pickList (digit b) (past s) (b ∷ s)
+past (b ∷ s) = cond (digit b) (past s) (b ∷ s)
 
 abbrev pub numberAt : ℕ → List ℕ → Parsed Factor
-numberAt i s = pickParsed (leb (length (run s)) 10) (got (number i (run s)) (past s)) fail
+numberAt i s = cond (leb (length (run s)) 10) (got (number i (run s)) (past s)) fail
 
 -- ---- the next item: its first byte, and the text after that
 
@@ -81,17 +68,17 @@ inner zero f = fail
 inner (suc d) f = f d
 
 abbrev pub closed : ℕ → Side → List ℕ → Parsed Factor
-closed i a r = pickParsed (eqb (next r) 41) (got (group i a (lead r)) (beyond r)) fail
+closed i a r = cond (eqb (next r) 41) (got (group i a (lead r)) (beyond r)) fail
 
 unfoldable mutual
   pub factorBy : ℕ → ℕ → List ℕ → Parsed Factor
   factorBy zero d s = fail
   factorBy (suc k) d s =
-      pickParsed (digit (next s)) (numberAt (lead s) (skip s))
-      (pickParsed (eqb (next s) 120) (got (rate-x (lead s)) (beyond s))
-      (pickParsed (eqb (next s) 121) (got (rate-y (lead s)) (beyond s))
-      (pickParsed (eqb (next s) 45) (bind (factorBy k d (beyond s)) (λ f r. got (minus (lead s) f) r))
-      (pickParsed (eqb (next s) 40) (bind (inner d (λ e. sideBy k e (beyond s))) (λ a r. closed (lead s) a r)) fail))))
+      cond (digit (next s)) (numberAt (lead s) (skip s))
+      (cond (eqb (next s) 120) (got (rate-x (lead s)) (beyond s))
+      (cond (eqb (next s) 121) (got (rate-y (lead s)) (beyond s))
+      (cond (eqb (next s) 45) (bind (factorBy k d (beyond s)) (λ f r. got (minus (lead s) f) r))
+      (cond (eqb (next s) 40) (bind (inner d (λ e. sideBy k e (beyond s))) (λ a r. closed (lead s) a r)) fail))))
 
   pub termBy : ℕ → ℕ → List ℕ → Parsed Term
   termBy zero d s = fail
@@ -100,7 +87,7 @@ unfoldable mutual
   pub moreFactors : ℕ → ℕ → Term → List ℕ → Parsed Term
   moreFactors zero d t s = fail
   moreFactors (suc k) d t s =
-      pickParsed (eqb (next s) 42) (bind (factorBy k d (beyond s)) (λ f r. moreFactors k d (times t (lead s) f) r)) (got t s)
+      cond (eqb (next s) 42) (bind (factorBy k d (beyond s)) (λ f r. moreFactors k d (times t (lead s) f) r)) (got t s)
 
   pub sideBy : ℕ → ℕ → List ℕ → Parsed Side
   sideBy zero d s = fail
@@ -109,8 +96,8 @@ unfoldable mutual
   pub moreTerms : ℕ → ℕ → Side → List ℕ → Parsed Side
   moreTerms zero d a s = fail
   moreTerms (suc k) d a s =
-      pickParsed (eqb (next s) 43) (bind (termBy k d (beyond s)) (λ t r. moreTerms k d (plus a (lead s) t) r))
-      (pickParsed (eqb (next s) 45) (bind (termBy k d (beyond s)) (λ t r. moreTerms k d (less a (lead s) t) r)) (got a s))
+      cond (eqb (next s) 43) (bind (termBy k d (beyond s)) (λ t r. moreTerms k d (plus a (lead s) t) r))
+      (cond (eqb (next s) 45) (bind (termBy k d (beyond s)) (λ t r. moreTerms k d (less a (lead s) t) r)) (got a s))
 
 -- ---- a whole text
 
@@ -124,23 +111,23 @@ ended (b ∷ s) r = fail
 -- what stands after < or >: the = and the right side
 unfoldable pub rightOf : Side → ℕ → Relation → List ℕ → Parsed Rule
 rightOf a i k s =
-    pickParsed (eqb (first s) 61)
+    cond (eqb (first s) 61)
     (bind (sideOf (tail s)) (λ b r. ended (skip r) (record { left = a; gap = i; relation = k; right = b; end = lead r })))
     fail
 
 unfoldable pub relationOf : Side → List ℕ → Parsed Rule
 relationOf a r =
-    pickParsed (eqb (next r) 60) (rightOf a (lead r) at-most (beyond r))
-    (pickParsed (eqb (next r) 62) (rightOf a (lead r) at-least (beyond r)) fail)
+    cond (eqb (next r) 60) (rightOf a (lead r) at-most (beyond r))
+    (cond (eqb (next r) 62) (rightOf a (lead r) at-least (beyond r)) fail)
 
 -- the rule that a text spells, if it spells one
 unfoldable pub parse : List ℕ → Parsed Rule
 parse s = bind (sideOf s) (λ a r. relationOf a r)
 
 abbrev pub judged : Parsed Rule → Typed
-judged fail = Refused 13 0
+judged fail = refusal 13
 judged (got r s) = valueRule r
 
 -- what a text reads as: 13 if it is too long or spells no rule, else the value of its rule
 unfoldable pub answer : List ℕ → Typed
-answer s = pickTyped (leb (length s) 120) (judged (parse s)) (Refused 13 0)
+answer s = cond (leb (length s) 120) (judged (parse s)) (refusal 13)

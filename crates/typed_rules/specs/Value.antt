@@ -1,6 +1,6 @@
 -- The value of a tree: the form a·x + b·y + c that it comes to, or the refusal, 14 or 15, of the first number or operation concerned: the left operand, then the
 -- right operand, then the operation itself, 14 before 15. Of a rule: the left side, then the right, then the final a, b and c.
-use mathlib.Core.Bool.{Bool, true, false, _&&_}
+use mathlib.Core.Bool.{Bool, true, false, cond, _&&_}
 use mathlib.Core.List.{List, [], _∷_}
 use Prim.Native.Nat.{ℕ, _+_, _*_, _-_}
 use lib.Dec.{leb}
@@ -24,13 +24,9 @@ limit = 1000000000
 abbrev pub form : ℤ → ℤ → ℤ → Form
 form a b c = record { a = a; b = b; c = c }
 
-abbrev pub either : Bool → Value → Value → Value
-either true l r = l
-either false l r = r
-
 -- a form whose numbers are at most 1,000,000,000 either way, else 15
 unfoldable pub checked : Form → Value
-checked f = either (inside limit (f .a) && (inside limit (f .b) && inside limit (f .c))) (Linear f) (Beyond 15)
+checked f = cond (inside limit (f .a) && (inside limit (f .b) && inside limit (f .c))) (Linear f) (Beyond 15)
 
 -- ---- numbers
 
@@ -40,7 +36,7 @@ decimal n [] = n
 decimal n (d ∷ s) = decimal (n * 10 + (d - 48)) s
 
 unfoldable pub numeral : ℕ → Value
-numeral n = either (leb n limit) (Linear (form (pos 0) (pos 0) (pos n))) (Beyond 15)
+numeral n = cond (leb n limit) (Linear (form (pos 0) (pos 0) (pos n))) (Beyond 15)
 
 -- ---- operations on forms
 
@@ -59,7 +55,7 @@ unfoldable pub constant : Form → Bool
 constant f = inside 0 (f .a) && inside 0 (f .b)
 
 unfoldable pub multiplied : Form → Form → Value
-multiplied f g = either (constant f) (checked (mulForms f g)) (either (constant g) (checked (mulForms f g)) (Beyond 14))
+multiplied f g = cond (constant f) (checked (mulForms f g)) (cond (constant g) (checked (mulForms f g)) (Beyond 14))
 
 abbrev pub negForm : Form → Form
 negForm f = form (pos 0 -ℤ f .a) (pos 0 -ℤ f .b) (pos 0 -ℤ f .c)
@@ -111,9 +107,9 @@ abbrev pub kindOf : G.Relation → ℕ
 kindOf at-most = 1
 kindOf at-least = 2
 
-abbrev pub pickTyped : Bool → Typed → Typed → Typed
-pickTyped true l r = l
-pickTyped false l r = r
+-- a refusal names no record
+abbrev pub refusal : ℕ → Typed
+refusal n = Refused (record { number = n; at = 0 })
 
 -- a and b are the left coefficients less the right, c the right constant less the left
 abbrev pub written : ℕ → Form → Form → Written
@@ -121,11 +117,11 @@ written k f g = record { kind = k; a = f .a -ℤ g .a; b = f .b -ℤ g .b; c = g
 
 -- a and b at most 32,767 and c at most 1,000,000,000 either way, else 15
 unfoldable pub final : Written → Typed
-final w = pickTyped (inside 32767 (w .a) && (inside 32767 (w .b) && inside limit (w .c))) (Rule w) (Refused 15 0)
+final w = cond (inside 32767 (w .a) && (inside 32767 (w .b) && inside limit (w .c))) (Rule w) (refusal 15)
 
 abbrev pub then : (Form → Typed) → Value → Typed
 then op (Linear f) = op f
-then op (Beyond n) = Refused n 0
+then op (Beyond n) = refusal n
 
 unfoldable pub conclude : ℕ → Value → Value → Typed
 conclude k l r = then (λ f. then (λ g. final (written k f g)) r) l

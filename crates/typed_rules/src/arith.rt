@@ -4,6 +4,7 @@ use crate::Pair;
 use crate::Typed;
 use crate::Value;
 use crate::Written;
+use answers::Refusal;
 ghost use mathlib.Core.Path.{_≡_};
 ghost use mathlib.Core.Bool.{_&&_};
 ghost use lib.IntN.{pos, _+ℤ_, _-ℤ_, _*ℤ_};
@@ -216,7 +217,7 @@ fn last(w: Written) -> Typed
     if in_range(w) {
         Typed::Rule(w)
     } else {
-        Typed::Refused(15, 0)
+        Typed::Refused(Refusal { number: 15, at: 0 })
     }
 }
 
@@ -239,6 +240,6 @@ pub fn conclude(kind: usize, v: Value, w: Value) -> Typed
 {
     match paired(v, w) {
         Pair::Forms(f, g) => finished(kind, f, g),
-        Pair::First(n) => Typed::Refused(n, 0),
+        Pair::First(n) => Typed::Refused(Refusal { number: n, at: 0 }),
     }
 }

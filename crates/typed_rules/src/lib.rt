@@ -3,6 +3,7 @@ mod arith;
 mod readers;
 mod tokens;
 
+use answers::Refusal;
 use readers::read_text;
 ghost use mathlib.Core.Path.{_≡_};
 ghost use Rattle.typed_rules.specs.Parser.{answer};
@@ -17,13 +18,13 @@ pub struct Form {
 // The value of a part of a text: a form, or the refusal of the first number or operation concerned.
 pub enum Value {
     Linear(Form),
-    Beyond(usize),
+    Beyond(u8),
 }
 
 // The operands of an operation: two forms, or the refusal that comes first.
 pub enum Pair {
     Forms(Form, Form),
-    First(usize),
+    First(u8),
 }
 
 // The first byte that is no space, or 0 at the end; where it stands, and where the text goes on after it.
@@ -53,10 +54,10 @@ pub struct Written {
     pub c: i64,
 }
 
-// What a text reads as: the rule, or the number of the refusal and record 0.
+// What a text reads as: the rule, or the refusal, which names record 0.
 pub enum Typed {
     Rule(Written),
-    Refused(usize, usize),
+    Refused(Refusal),
 }
 
 // What a text reads as.
@@ -66,6 +67,6 @@ pub fn read_rule(text: &[u8]) -> Typed
     if text.len() <= 120 {
         read_text(text)
     } else {
-        Typed::Refused(13, 0)
+        Typed::Refused(Refusal { number: 13, at: 0 })
     }
 }

@@ -14,6 +14,7 @@ use crate::tokens::digit;
 use crate::tokens::digits;
 use crate::tokens::lex;
 use crate::tokens::skip;
+use answers::Refusal;
 ghost use mathlib.Core.Path.{_≡_};
 ghost use Prim.Native.Nat.{_≤_};
 ghost use lib.ListN.{length};
@@ -158,15 +159,15 @@ fn right(text: &[u8], at: usize, kind: usize, v: Value) -> Typed
             Step::Got(w, n) => {
                 let end = skip(text, n);
                 if end < text.len() {
-                    Typed::Refused(13, 0)
+                    Typed::Refused(Refusal { number: 13, at: 0 })
                 } else {
                     conclude(kind, v, w)
                 }
             }
-            Step::Fail => Typed::Refused(13, 0),
+            Step::Fail => Typed::Refused(Refusal { number: 13, at: 0 }),
         }
     } else {
-        Typed::Refused(13, 0)
+        Typed::Refused(Refusal { number: 13, at: 0 })
     }
 }
 
@@ -181,7 +182,7 @@ fn relation(text: &[u8], at: usize, v: Value) -> Typed
     } else if l.byte == 62 {
         right(text, l.next, 2, v)
     } else {
-        Typed::Refused(13, 0)
+        Typed::Refused(Refusal { number: 13, at: 0 })
     }
 }
 
@@ -191,6 +192,6 @@ pub fn read_text(text: &[u8]) -> Typed
 {
     match side(text, 0, 8) {
         Step::Got(v, n) => relation(text, n, v),
-        Step::Fail => Typed::Refused(13, 0),
+        Step::Fail => Typed::Refused(Refusal { number: 13, at: 0 }),
     }
 }

@@ -4,7 +4,7 @@ use lib.Seq.{length-take-le}
 use borrow.Author.Needs.{needs}
 use Rattle.typed_rules.specs.declared.Typed.{Typed}
 use Rattle.typed_rules.specs.Parser.{answer}
-use Rattle.report.specs.Typed.{TypedWritten}
+use Rattle.typed_line.specs.Typed.{TypedWritten}
 use Rattle.typed_line.proofs.typed_line.Statement.{statement}
 use Rattle.typed_line.proofs.typed_line.Tie as tie
 

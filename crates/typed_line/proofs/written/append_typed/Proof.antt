@@ -1,11 +1,11 @@
--- `report::typed::append_typed` meets its contract. Each arm of the match is given what it is for.
+-- `typed_line::written::append_typed` meets its contract. Each arm of the match is given what it is for.
 use mathlib.Core.Path.{ap, sym}
 use native.Mathlib.Omega.{arith}
-use Rattle.report.proofs.Put.{spelt, roomier}
-use Rattle.report.specs.Typed.{typedFields}
+use Rattle.text.proofs.Put.{spelt, roomier}
+use Rattle.typed_line.specs.Typed.{typedFields}
 use borrow.Author.Needs.{needs}
-use Rattle.report.proofs.typed.append_typed.Statement.{statement}
-use Rattle.report.proofs.typed.append_typed.Tie as tie
+use Rattle.typed_line.proofs.written.append_typed.Statement.{statement}
+use Rattle.typed_line.proofs.written.append_typed.Tie as tie
 
 returns : tie.Need-returns
 unfolding typedFields
@@ -17,10 +17,10 @@ returns-2 : tie.Need-returns-2
 unfolding typedFields
 returns-2 c =
     let line = c .before .before in
-    spelt (ap typedFields (sym (line .before .before .before .t2 .given .1))) (roomier (omega arith) (line .append-refused .ensures))
+    spelt (ap typedFields (sym (line .before .before .before .t2 .given .1))) (roomier (omega arith) (line .append-refused .ensures .fits (omega arith)))
 
 pub append-typed-spec : {M : Type 1} → statement M
 append-typed-spec =
     tie.close
-    (tie.spec (λ c. search needs) (λ c κs. search needs) (λ c. search needs) (λ c κs. search needs) (λ c. search needs) returns (λ c. search needs)
-    returns-2)
+    (tie.spec (λ c. search needs) (λ c κs. search needs) (λ c. search needs) (λ c κs. search needs) (λ c. search needs) returns
+    (λ c. search needs) returns-2)

@@ -1,10 +1,10 @@
--- `report::typed::write_typed` meets its contract. A small buffer is left alone; else the fields and the line feed make up the line.
+-- `typed_line::written::write_typed` meets its contract. A small buffer is left alone; else the fields and the line feed make up the line.
 use native.Mathlib.Omega.{arith}
 use borrow.Author.Needs.{needs}
-use Rattle.report.specs.Typed.{typedLine, typedRoom}
-use Rattle.report.proofs.Put.{too-small, filled, followed}
-use Rattle.report.proofs.typed.write_typed.Statement.{statement}
-use Rattle.report.proofs.typed.write_typed.Tie as tie
+use Rattle.typed_line.specs.Typed.{typedLine, typedRoom}
+use Rattle.text.proofs.Put.{too-small, filled, followed}
+use Rattle.typed_line.proofs.written.write_typed.Statement.{statement}
+use Rattle.typed_line.proofs.written.write_typed.Tie as tie
 
 returns : tie.Need-returns
 returns c =
@@ -16,7 +16,7 @@ unfolding typedLine
 returns-2 c =
     let feed = c .before .before in
     let fields = feed .before .before .before .before .before in
-    filled {room = typedRoom} (omega arith) (omega arith) (followed (fields .append-typed .ensures) (feed .append-word .ensures))
+    filled {room = typedRoom} (omega arith) (omega arith) (followed (fields .append-typed .ensures) (feed .append-word .ensures .fits (omega arith)))
 
 pub write-typed-spec : {M : Type 1} → statement M
 write-typed-spec =
