@@ -25,6 +25,7 @@ use Rattle.book.proofs.Bounds.{rules-small, terms-small}
 use Rattle.answers.specs.declared.Answer.{Answer}
 use Rattle.answers.specs.declared.Answer.the-variants.{Refused, Planned}
 use Rattle.answers.specs.declared.Plan.{Plan}
+use Rattle.answers.specs.declared.Refusal.{Refusal}
 use Rattle.answers.specs.Refusal.{refusal}
 use Rattle.model.specs.Bounds.{SmallOutcome}
 use Rattle.theory.proofs.Ties.{tie-good}
@@ -63,9 +64,8 @@ module _ (L : Layout) (s : List ℕ) (a : Answer) (promise : Answers L s a) wher
       go : (x : Reading) → readOf L s ≡ x → a ≡ Refused (refusal k i) → Applies L s k i
       go (refused n r) e q =
           let same : Refused (refusal n r) ≡ Refused (refusal k i) = sym (refused-answered n r e) ∙ q in
-          let first : n ≡ k = cc in
-          let second : r ≡ i = cc in
-          subst (λ m. Applies L s k m) second (subst (λ m. Applies L s m r) first (refusal-applies L s e))
+          let inner : refusal n r ≡ refusal k i = cc in
+          subst (λ (x : Refusal). Applies L s (x .number) (x .at)) inner (refusal-applies L s e)
       go (accepted t es) e q = absurd (subst (AnsweredBy (accepted t es)) q (subst (λ x. AnsweredBy x a) e (promise .answered)))
 
   -- none applies exactly if the book is planned
