@@ -1,4 +1,5 @@
--- What is written to a lent buffer, and that nothing else of it changes: the line of a plan, the lines of a panel, the start pair after a prefix.
+-- What is written to a lent buffer, and that nothing else of it changes: the line of a plan, and the start pair after a prefix. (The lines of a panel are the
+-- planner's own promise.)
 use mathlib.Core.Path.{_≡_}
 use mathlib.Core.List.{List}
 use mathlib.Core.Bool.{cond}
@@ -7,25 +8,19 @@ use lib.ListN.{length, set}
 use lib.Dec.{eqb}
 use lib.IntN.{ℤ}
 use Rattle.lp.specs.declared.Point.{Point}
-use Rattle.book.specs.Layout.{v1}
+use Rattle.records.specs.Layout.{Layout}
 use Rattle.book.specs.Reading.{readOf}
-use Rattle.report.specs.declared.Answer.{Answer}
-use Rattle.report.specs.Append.{Written}
-use Rattle.report.specs.Panel.{Shown}
+use Rattle.answers.specs.declared.Answer.{Answer}
+use Rattle.report.specs.Written.{Written}
 use Rattle.planner.specs.declared.StartView.{StartView}
 use Rattle.planner.specs.Planning.{Answers}
-use Rattle.planner.specs.Panel.{panelOf}
 use Rattle.planner.specs.View.{viewOf}
 
 -- the promise of the printed line: it is that of an answer to the book, which is one as `plan` promises
-pub record PlanLine (s before after : List ℕ) (count : ℕ) : Type 0 where
+pub record PlanLine (L : Layout) (s before after : List ℕ) (count : ℕ) : Type 0 where
   pub answer : Answer
-  pub answers : Answers s answer
+  pub answers : Answers L s answer
   pub written : Written answer before after count
-
--- the promise of a panel's lines
-pub record PanelLines (s before after : List ℕ) (count : ℕ) : Type 0 where
-  pub written : Shown (panelOf (readOf v1 s)) before after count
 
 -- a point as three numbers at the start of a run
 abbrev pub putPoint : List ℤ → Point → List ℤ
@@ -34,13 +29,17 @@ putPoint l v = set (set (set l 0 (v .x)) 1 (v .y)) 2 (v .d)
 pub record PointRoom (l : List ℤ) : Type 0 where
   pub room : 3 ≤ length l
 
--- what is handed back of a view: the count of an accepted book, which is at most 255; of a refused one its number and record, so that it is 65,536 or more
+-- what is handed back of a view: the count of an accepted book, which is below the number of records; of a refused one its number and record, so that it is 65,536
+-- or more
 abbrev pub toldOf : StartView → ℕ
-toldOf v = cond (eqb (v .number) 0) (v .restarts) (65536 * v .number + v .at)
+toldOf v = cond (eqb (v .refusal .number) 0) (v .restarts) (65536 * v .refusal .number + v .refusal .at)
 
 -- the promise of the view: a refused book, and fewer than three numbers, leave what is lent as it was
-pub record StartWritten (s : List ℕ) (k : ℕ) (before after : List ℤ) (count : ℕ) : Type 0 where
-  pub written : viewOf (readOf v1 s) k .number ≡ 0 → 3 ≤ length before → after ≡ putPoint before (viewOf (readOf v1 s) k .point)
-  pub refused-untouched : (viewOf (readOf v1 s) k .number ≡ 0 → ⊥) → after ≡ before
+pub record StartWritten (L : Layout) (s : List ℕ) (k : ℕ) (before after : List ℤ) (count : ℕ) : Type 0 where
+  pub written :
+      viewOf (readOf L s) k .refusal .number ≡ 0 →
+      3 ≤ length before →
+      after ≡ putPoint before (viewOf (readOf L s) k .point)
+  pub refused-untouched : (viewOf (readOf L s) k .refusal .number ≡ 0 → ⊥) → after ≡ before
   pub short-untouched : length before < 3 → after ≡ before
-  pub told : count ≡ toldOf (viewOf (readOf v1 s) k)
+  pub told : count ≡ toldOf (viewOf (readOf L s) k)

@@ -3,12 +3,14 @@
 use lp::Point;
 use planner::StartView;
 ghost use mathlib.Core.Path.{_≡_};
-ghost use Rattle.vishalneq.specs.Loaded.{PlanLine, PanelLines, putPoint, PointRoom, toldOf, StartWritten};
+ghost use Rattle.records.specs.Layout.{v1};
+ghost use Rattle.planner.specs.Panel.{Panels};
+ghost use Rattle.vishalneq.specs.Loaded.{PlanLine, putPoint, PointRoom, toldOf, StartWritten};
 
 // The line of a book: written at the start of a buffer of at least 256 bytes, with its length. A smaller buffer is left as it is, and 0 handed back.
 #[no_mangle]
 pub extern "C" fn vishalneq_plan_line(book: &[u8], out: &mut [u8]) -> usize
-    ensures { λ r. ⌜ PlanLine (now (book .entry)) (now (out .entry)) (now (out .exit)) r ⌝ }
+    ensures { λ r. ⌜ PlanLine v1 (now (book .entry)) (now (out .entry)) (now (out .exit)) r ⌝ }
 {
     report::write_line(planner::plan(book), out)
 }
@@ -17,9 +19,9 @@ pub extern "C" fn vishalneq_plan_line(book: &[u8], out: &mut [u8]) -> usize
 // handed back.
 #[no_mangle]
 pub extern "C" fn vishalneq_panel_lines(book: &[u8], out: &mut [u8]) -> usize
-    ensures { λ r. ⌜ PanelLines (now (book .entry)) (now (out .entry)) (now (out .exit)) r ⌝ }
+    ensures { λ r. ⌜ Panels v1 (now (book .entry)) (now (out .entry)) (now (out .exit)) r ⌝ }
 {
-    report::panel::write_panel(planner::slacks(book), out)
+    planner::panel_lines(book, out)
 }
 
 // X, Y and D, at the start of a run of numbers.
@@ -39,11 +41,12 @@ fn put_point(out: &mut [i64], v: Point)
 fn told(seen: StartView) -> usize
     ensures { λ r. ⌜ r ≡ toldOf seen ⌝ }
 {
-    let cause = seen.number;
+    let refusal = seen.refusal;
+    let cause = refusal.number;
     if cause == 0 {
         seen.restarts
     } else {
-        65536 * cause as usize + seen.at as usize
+        65536 * cause as usize + refusal.at as usize
     }
 }
 
@@ -51,11 +54,12 @@ fn told(seen: StartView) -> usize
 // count is handed back. A refused book leaves the buffer as it is, and so does a smaller buffer; of a refused book 65,536 times its number plus its record is handed back.
 #[no_mangle]
 pub extern "C" fn vishalneq_start_after(book: &[u8], prefix: usize, out: &mut [i64]) -> usize
-    ensures { λ r. ⌜ StartWritten (now (book .entry)) prefix (now (out .entry)) (now (out .exit)) r ⌝ }
+    ensures { λ r. ⌜ StartWritten v1 (now (book .entry)) prefix (now (out .entry)) (now (out .exit)) r ⌝ }
 {
     let seen = planner::start_after(book, prefix);
     let answer = told(seen);
-    let number = seen.number;
+    let refusal = seen.refusal;
+    let number = refusal.number;
     if number == 0 {
         if out.len() >= 3 {
             put_point(out, seen.point);

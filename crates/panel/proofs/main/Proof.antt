@@ -8,7 +8,7 @@ use Rattle.panel.proofs.main.Tie as tie
 
 slice-aggregate-write-all : tie.Need-slice-aggregate-write-all
 slice-aggregate-write-all c =
-    sym (length-take-le (c .before .before .vishalneq-panel-lines .result) (c .before .before .vishalneq-panel-lines .last .1 .0) (omega (arith, c .before .before .vishalneq-panel-lines .ensures .written .enough)))
+    sym (length-take-le (c .before .before .vishalneq-panel-lines .result) (c .before .before .vishalneq-panel-lines .last .1 .0) (omega (arith, c .before .before .vishalneq-panel-lines .ensures .enough)))
 
 pub main-spec : {M : Type 1} → statement M
 main-spec =
