@@ -6,9 +6,10 @@ use Prim.Native.Nat.{ℕ, zero, suc}
 use lib.Dec.{eqb}
 use borrow.Author.Tests.{ne-eqb}
 use native.Mathlib.Omega.{arith}
-use Rattle.typed_rules.specs.declared.Value.{Value}
+use Rattle.forms.specs.declared.Value.{Value}
 use Rattle.typed_rules.specs.Grammar.{Factor, Term, Side, Relation, Rule, number, rate-x, rate-y, minus, group, factor, times, term, plus, less, at-most, at-least, pad, spellFactor, spellTerm, spellSide, spellRelation, spell, Digits, none, more, LawfulFactor, LawfulTerm, LawfulSide, Lawful}
-use Rattle.typed_rules.specs.Value.{negated, sum, difference, product, valueFactor, valueTerm, valueSide, kindOf, conclude, valueRule}
+use Rattle.forms.specs.Value.{negated, sum, difference, product, conclude}
+use Rattle.typed_rules.specs.Value.{valueFactor, valueTerm, valueSide, kindOf, valueRule}
 use Rattle.typed_rules.specs.Parser.{answer}
 use Rattle.typed_rules.proofs.Complete.{unique-sides}
 use Rattle.typed_rules.proofs.Language.{answered}

@@ -9,8 +9,9 @@ use lib.Dec.{leb}
 use lib.ListN.{length, drop, getD, drop-of-length-le}
 use lib.Seq.{drop-cons}
 use borrow.Author.Tests.{leb-true, leb-false, lt-leb, eq-eqb, ne-eqb}
-use Rattle.typed_rules.specs.declared.Value.the-variants.{Beyond}
-use Rattle.typed_rules.specs.Value.{limit, decimal, numeral}
+use Rattle.forms.specs.declared.Value.the-variants.{Beyond}
+use Rattle.text.specs.Number.{valueFrom}
+use Rattle.forms.specs.Value.{limit, numeral}
 use Rattle.typed_rules.specs.Parser.{first, tail, digit, skip, run, past}
 use Rattle.typed_rules.specs.Limits.{grown, capped}
 use Rattle.typed_rules.specs.Contracts.{Skips, Lexes, Runs}
@@ -95,26 +96,26 @@ lex-end s at start h k =
 
 -- ---- numbers that stop growing
 
-decimal-beyond : (n : ℕ) (s : List ℕ) → limit < n → numeral (decimal n s) ≡ Beyond 15
-unfolding numeral decimal
-decimal-beyond n [] h = rw (lt-leb n limit h)
-decimal-beyond n (d ∷ s) h = decimal-beyond (n * 10 + (d - 48)) s (omega arith)
+valueFrom-beyond : (n : ℕ) (s : List ℕ) → limit < n → numeral (valueFrom n s) ≡ Beyond 15
+unfolding numeral valueFrom
+valueFrom-beyond n [] h = rw (lt-leb n limit h)
+valueFrom-beyond n (d ∷ s) h = valueFrom-beyond (n * 10 + (d - 48)) s (omega arith)
 
 capped-beyond : (n : ℕ) (s : List ℕ) → limit < n → numeral (capped n s) ≡ Beyond 15
 unfolding numeral capped
 capped-beyond n [] h = rw (lt-leb n limit h)
 capped-beyond n (d ∷ s) h = ap (λ m. numeral (capped m s)) (ap (λ t. cond t (n * 10 + (d - 48)) n) (lt-leb n limit h)) ∙ capped-beyond n s h
 
-pub capped-numeral : (n : ℕ) (s : List ℕ) → numeral (capped n s) ≡ numeral (decimal n s)
-unfolding decimal capped
+pub capped-numeral : (n : ℕ) (s : List ℕ) → numeral (capped n s) ≡ numeral (valueFrom n s)
+unfolding valueFrom capped
 capped-numeral n [] = refl
 capped-numeral n (d ∷ s) = go (leb n limit) refl (capped-numeral (n * 10 + (d - 48)) s)
   where
-    go : (t : Bool) → leb n limit ≡ t → numeral (capped (n * 10 + (d - 48)) s) ≡ numeral (decimal (n * 10 + (d - 48)) s) → numeral (capped (cond t (n * 10 + (d - 48)) n) s) ≡ numeral (decimal (n * 10 + (d - 48)) s)
+    go : (t : Bool) → leb n limit ≡ t → numeral (capped (n * 10 + (d - 48)) s) ≡ numeral (valueFrom (n * 10 + (d - 48)) s) → numeral (capped (cond t (n * 10 + (d - 48)) n) s) ≡ numeral (valueFrom (n * 10 + (d - 48)) s)
     go true e h = h
     go false e h =
         let k = leb-false n limit e in
-        capped-beyond n s k ∙ sym (decimal-beyond (n * 10 + (d - 48)) s (omega (arith, k)))
+        capped-beyond n s k ∙ sym (valueFrom-beyond (n * 10 + (d - 48)) s (omega (arith, k)))
 
 -- ---- digits
 

@@ -6,9 +6,10 @@ use mathlib.Core.List.{List, _∷_}
 use Prim.Native.Nat.{ℕ, suc, _≤_, _<_}
 use native.Mathlib.Omega.{arith}
 use lib.Dec.{eqb}
-use Rattle.typed_rules.specs.declared.Value.{Value}
+use Rattle.forms.specs.declared.Value.{Value}
 use Rattle.typed_rules.specs.Grammar.{Factor, Term, Side, factor, times, term, plus, less, pad, spellFactor, spellTerm, spellSide, LawfulFactor, LawfulTerm, LawfulSide}
-use Rattle.typed_rules.specs.Value.{sum, difference, product, valueFactor, valueTerm, valueSide}
+use Rattle.forms.specs.Value.{sum, difference, product}
+use Rattle.typed_rules.specs.Value.{valueFactor, valueTerm, valueSide}
 use Rattle.typed_rules.specs.Parser.{Parsed, bind, lead, next, beyond, factorBy, termBy, moreFactors, sideBy, moreTerms}
 use Rattle.typed_rules.proofs.Steps.{term-step, side-step, factors-star, terms-plus, terms-less}
 

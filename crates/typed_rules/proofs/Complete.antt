@@ -7,7 +7,7 @@ use native.Mathlib.Omega.{arith}
 use lib.Dec.{leb, eqb}
 use lib.ListN.{length, length-append}
 use borrow.Author.Tests.{le-leb, ne-eqb}
-use Rattle.typed_rules.specs.declared.Value.{Value}
+use Rattle.forms.specs.declared.Value.{Value}
 use Rattle.typed_rules.specs.Grammar.{Factor, Term, Side, Relation, Rule, number, rate-x, rate-y, minus, group, factor, times, term, plus, less, at-most, at-least, pad, spellFactor, spellTerm, spellSide, spellRelation, spell, Digits, more, Number, LawfulFactor, LawfulTerm, LawfulSide, Lawful}
 use Rattle.typed_rules.specs.Parser.{Parsed, fail, got, bind, first, digit, lead, skip, run, past, next, beyond, closed, numberAt, factorBy, termBy, sideBy, sideOf, ended, rightOf, relationOf, parse}
 use Rattle.typed_rules.proofs.Bytes.{run-digit, past-digit, run-other, past-other, run-none, past-none}

@@ -2,16 +2,18 @@
 use mathlib.Core.Path.{_≡_, refl}
 use mathlib.Core.List.{map, [], _∷_}
 use lib.IntN.{pos, negℤ}
-use Rattle.typed_rules.specs.declared.Typed.the-variants.{Rule}
+use Rattle.forms.specs.declared.Typed.the-variants.{Rule}
 use Rattle.typed_rules.specs.Grammar as G
 use Rattle.typed_rules.specs.Grammar.{number, rate-x, rate-y, minus, factor, times, term, less, at-most, spell, spellSide, spellTerm, spellFactor, spellRelation, pad}
-use Rattle.typed_rules.specs.Value.{checked, decimal, numeral, constant, multiplied, negated, sum, difference, product, valueFactor, valueTerm, valueSide, final, conclude, valueRule}
+use Rattle.text.specs.Number.{valueFrom}
+use Rattle.forms.specs.Value.{limited, numeral, constant, multiplied, negated, sum, difference, product, final, conclude}
+use Rattle.typed_rules.specs.Value.{valueFactor, valueTerm, valueSide, valueRule}
 use Rattle.typed_rules.specs.Parser.{answer, parse, got, relationOf, rightOf, sideOf, sideBy, moreTerms, termBy, moreFactors, factorBy, lead, skip, run, past}
 use Rattle.text.specs.Text.{text}
 use Rattle.typed_rules.specs.Examples.{Example, examples}
 
 pub texts-as-read : map (λ (e : Example). answer (text (e .written))) examples ≡ map (λ (e : Example). e .reads) examples
-unfolding answer parse relationOf rightOf sideOf sideBy moreTerms termBy moreFactors factorBy lead skip run past checked decimal numeral constant multiplied negated sum difference product valueFactor valueTerm valueSide final conclude valueRule
+unfolding answer parse relationOf rightOf sideOf sideBy moreTerms termBy moreFactors factorBy lead skip run past limited valueFrom numeral constant multiplied negated sum difference product valueFactor valueTerm valueSide final conclude valueRule
 texts-as-read = refl
 
 -- The tree of -2*x - y -3<=4: the minus belongs to the 2, the product is a factor of the sum, and the first difference is taken first.
@@ -29,7 +31,7 @@ unfolding spell spellSide spellTerm spellFactor spellRelation pad
 tree-spells = refl
 
 pub tree-value : valueRule tree ≡ Rule (record { kind = 1; a = negℤ (pos 2); b = negℤ (pos 1); c = pos 7 })
-unfolding checked decimal numeral constant multiplied negated sum difference product valueFactor valueTerm valueSide final conclude valueRule
+unfolding limited valueFrom numeral constant multiplied negated sum difference product valueFactor valueTerm valueSide final conclude valueRule
 tree-value = refl
 
 pub tree-read : parse (text "-2*x - y -3<=4") ≡ got tree []

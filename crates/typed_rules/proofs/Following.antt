@@ -4,7 +4,7 @@ use mathlib.Core.List.{List}
 use Prim.Native.Nat.{ℕ, zero, suc, _<_}
 use native.Mathlib.Omega.{arith}
 use lib.ListN.{drop}
-use Rattle.typed_rules.specs.declared.Value.{Value}
+use Rattle.forms.specs.declared.Value.{Value}
 use Rattle.typed_rules.specs.declared.Lexed.{Lexed}
 use Rattle.typed_rules.specs.declared.Step.{Step}
 use Rattle.typed_rules.specs.declared.Step.the-variants.{Got, Fail}

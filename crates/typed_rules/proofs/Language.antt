@@ -9,7 +9,8 @@ use lib.Dec.{leb}
 use lib.ListN.{length}
 use borrow.Author.Tests.{leb-true, leb-false, le-leb}
 use Rattle.typed_rules.specs.Grammar.{Rule, spell, Lawful}
-use Rattle.typed_rules.specs.Value.{valueRule, refusal}
+use Rattle.forms.specs.Value.{refusal}
+use Rattle.typed_rules.specs.Value.{valueRule}
 use Rattle.typed_rules.specs.Parser.{Parsed, fail, got, parse, judged, answer}
 use Rattle.typed_rules.proofs.Sound.{SoundRule, parse-sound}
 use Rattle.typed_rules.proofs.Complete.{parse-complete}

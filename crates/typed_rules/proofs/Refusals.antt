@@ -9,16 +9,18 @@ use native.Mathlib.Omega.{arith}
 use lib.Dec.{leb}
 use lib.IntN.{pos, natAbs}
 use borrow.Author.Tests.{leb-true}
-use Rattle.typed_rules.specs.declared.Form.{Form}
-use Rattle.typed_rules.specs.declared.Value.{Value}
-use Rattle.typed_rules.specs.declared.Value.the-variants.{Linear, Beyond}
-use Rattle.typed_rules.specs.declared.Written.{Written}
+use Rattle.forms.specs.declared.Form.{Form}
+use Rattle.forms.specs.declared.Value.{Value}
+use Rattle.forms.specs.declared.Value.the-variants.{Linear, Beyond}
+use Rattle.forms.specs.declared.Written.{Written}
 use Rattle.answers.specs.declared.Refusal.{Refusal}
-use Rattle.typed_rules.specs.declared.Typed.{Typed}
-use Rattle.typed_rules.specs.declared.Typed.the-variants.{Rule, Refused}
+use Rattle.forms.specs.declared.Typed.{Typed}
+use Rattle.forms.specs.declared.Typed.the-variants.{Rule, Refused}
 use Rattle.typed_rules.specs.Grammar as G
 use Rattle.typed_rules.specs.Grammar.{number, rate-x, rate-y, minus, group, factor, times, term, plus, less, at-most, at-least}
-use Rattle.typed_rules.specs.Value.{inside, limit, form, checked, decimal, numeral, constant, multiplied, mulForms, addForms, subForms, negated, sum, difference, product, combine, valueFactor, valueTerm, valueSide, kindOf, refusal, written, final, conclude, valueRule}
+use Rattle.text.specs.Number.{valueFrom}
+use Rattle.forms.specs.Value.{inside, limit, form, limited, numeral, constant, multiplied, mulForms, addForms, subForms, negated, sum, difference, product, combine, refusal, written, final, conclude}
+use Rattle.typed_rules.specs.Value.{valueFactor, valueTerm, valueSide, kindOf, valueRule}
 use Rattle.typed_rules.specs.Parser.{answer}
 use Rattle.typed_rules.proofs.Language.{answered, Reads, Refuses, language}
 
@@ -29,9 +31,9 @@ abbrev pub Plain : Value → Type 0
 Plain (Linear f) = Unit {0}
 Plain (Beyond n) = Fault n
 
-checked-plain : (f : Form) → Plain (checked f)
-unfolding checked
-checked-plain f = go (inside limit (f .a) && (inside limit (f .b) && inside limit (f .c)))
+limited-plain : (f : Form) → Plain (limited f)
+unfolding limited
+limited-plain f = go (inside limit (f .a) && (inside limit (f .b) && inside limit (f .c)))
   where
     go : (t : Bool) → Plain (cond t (Linear f) (Beyond 15))
     go true = tt
@@ -49,9 +51,9 @@ multiplied-plain : (f g : Form) → Plain (multiplied f g)
 unfolding multiplied
 multiplied-plain f g = go (constant f) (constant g)
   where
-    go : (t u : Bool) → Plain (cond t (checked (mulForms f g)) (cond u (checked (mulForms f g)) (Beyond 14)))
-    go true u = checked-plain (mulForms f g)
-    go false true = checked-plain (mulForms f g)
+    go : (t u : Bool) → Plain (cond t (limited (mulForms f g)) (cond u (limited (mulForms f g)) (Beyond 14)))
+    go true u = limited-plain (mulForms f g)
+    go false true = limited-plain (mulForms f g)
     go false false = inl refl
 
 combine-plain : (op : Form → Form → Value) → ((f g : Form) → Plain (op f g)) → (v w : Value) → Plain v → Plain w → Plain (combine op v w)
@@ -71,17 +73,17 @@ product-plain v w p q = combine-plain multiplied multiplied-plain v w p q
 
 sum-plain : (v w : Value) → Plain v → Plain w → Plain (sum v w)
 unfolding sum
-sum-plain v w p q = combine-plain (λ f g. checked (addForms f g)) (λ f g. checked-plain (addForms f g)) v w p q
+sum-plain v w p q = combine-plain (λ f g. limited (addForms f g)) (λ f g. limited-plain (addForms f g)) v w p q
 
 difference-plain : (v w : Value) → Plain v → Plain w → Plain (difference v w)
 unfolding difference
-difference-plain v w p q = combine-plain (λ f g. checked (subForms f g)) (λ f g. checked-plain (subForms f g)) v w p q
+difference-plain v w p q = combine-plain (λ f g. limited (subForms f g)) (λ f g. limited-plain (subForms f g)) v w p q
 
 mutual
   unfolding valueFactor
 
   factor-plain : (f : G.Factor) → Plain (valueFactor f)
-  factor-plain (number i ds) = numeral-plain (decimal 0 ds)
+  factor-plain (number i ds) = numeral-plain (valueFrom 0 ds)
   factor-plain (rate-x i) = tt
   factor-plain (rate-y i) = tt
   factor-plain (minus i f) = negated-plain (valueFactor f) (factor-plain f)

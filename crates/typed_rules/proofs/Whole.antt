@@ -7,13 +7,14 @@ use native.Mathlib.Omega.{arith}
 use lib.Dec.{ltb, eqb}
 use lib.ListN.{length, drop, length-drop, drop-of-length-le, getD}
 use borrow.Author.Tests.{ltb-true, ltb-false, ne-eqb}
-use Rattle.typed_rules.specs.declared.Value.{Value}
+use Rattle.forms.specs.declared.Value.{Value}
 use Rattle.typed_rules.specs.declared.Lexed.{Lexed}
 use Rattle.typed_rules.specs.declared.Step.{Step}
 use Rattle.typed_rules.specs.declared.Step.the-variants.{Got, Fail}
-use Rattle.typed_rules.specs.declared.Typed.{Typed}
+use Rattle.forms.specs.declared.Typed.{Typed}
 use Rattle.typed_rules.specs.Grammar.{Side, Relation, Rule, at-most, at-least}
-use Rattle.typed_rules.specs.Value.{conclude, kindOf, valueSide, valueRule, refusal}
+use Rattle.forms.specs.Value.{conclude, refusal}
+use Rattle.typed_rules.specs.Value.{kindOf, valueSide, valueRule}
 use Rattle.typed_rules.specs.Parser.{Parsed, fail, got, bind, first, tail, lead, skip, next, beyond, sideOf, ended, rightOf, relationOf, parse, judged}
 use Rattle.typed_rules.specs.Contracts.{Skips, Lexes, valued, view, ReadsSide, JudgesRight, Judges}
 use Rattle.typed_rules.proofs.Bytes.{here}

@@ -5,9 +5,10 @@ use mathlib.Core.List.{List, [], _∷_}
 use Prim.Native.Nat.{ℕ, zero, suc, _+_, _*_}
 use lib.Dec.{leb, eqb}
 use lib.ListN.{length}
-use Rattle.typed_rules.specs.declared.Typed.{Typed}
+use Rattle.forms.specs.declared.Typed.{Typed}
 use Rattle.typed_rules.specs.Grammar.{Factor, Term, Side, Relation, Rule, number, rate-x, rate-y, minus, group, factor, times, term, plus, less, at-most, at-least}
-use Rattle.typed_rules.specs.Value.{refusal, valueRule}
+use Rattle.forms.specs.Value.{refusal}
+use Rattle.typed_rules.specs.Value.{valueRule}
 
 -- what was read, with the text after it
 pub data Parsed (A : Type 0) : Type 0 where
