@@ -12,10 +12,11 @@ use borrow.Author.Tests.{leb-true, leb-false, lt-leb, eq-eqb, ne-eqb}
 use Rattle.forms.specs.declared.Value.the-variants.{Beyond}
 use Rattle.text.specs.Number.{valueFrom}
 use Rattle.forms.specs.Value.{limit, numeral}
-use Rattle.typed_rules.specs.Parser.{first, tail, digit, skip, run, past}
+use Rattle.language.specs.Parser.{first, tail, digit, skip, run, past}
 use Rattle.typed_rules.specs.Limits.{grown, capped}
 use Rattle.typed_rules.specs.Contracts.{Skips, Lexes, Runs}
-use Rattle.typed_rules.proofs.Spaces.{skip-nil}
+use Rattle.language.proofs.Spaces.{skip-nil}
+use Rattle.language.proofs.Digits.{run-digit, past-digit, run-other, past-other, run-none, past-none}
 
 pub here : (s : List ℕ) (i : ℕ) → i < length s → drop i s ≡ getD s i 0 ∷ drop (i + 1) s
 here s i h = drop-cons s i 0 h ∙ ap (λ (k : ℕ). getD s i 0 ∷ drop k s) (sym (add-one i))
@@ -128,30 +129,6 @@ pub record Running (text : List ℕ) (at number i : ℕ) : Type 0 where
 pub run-start : (s : List ℕ) (at : ℕ) → at ≤ length s → Running s at 0 at
 run-start s at h = record { same = refl; goes-on = refl; count = refl; high = h }
 
-pub run-digit : (b : ℕ) (s : List ℕ) → digit b ≡ true → run (b ∷ s) ≡ b ∷ run s
-unfolding run
-run-digit b s e = rw e
-
-pub past-digit : (b : ℕ) (s : List ℕ) → digit b ≡ true → past (b ∷ s) ≡ past s
-unfolding past
-past-digit b s e = rw e
-
-pub run-other : (b : ℕ) (s : List ℕ) → digit b ≡ false → run (b ∷ s) ≡ []
-unfolding run
-run-other b s e = rw e
-
-pub past-other : (b : ℕ) (s : List ℕ) → digit b ≡ false → past (b ∷ s) ≡ b ∷ s
-unfolding past
-past-other b s e = rw e
-
-pub run-none : run [] ≡ []
-unfolding run
-run-none = refl
-
-pub past-none : past [] ≡ []
-unfolding past
-past-none = refl
-
 capped-cons : (n d : ℕ) (s : List ℕ) → capped n (d ∷ s) ≡ capped (grown n d) s
 unfolding capped
 capped-cons n d s = refl
@@ -188,15 +165,3 @@ pub run-end : (s : List ℕ) (at number i : ℕ) → length s ≤ i → Running 
 run-end s at number i h k =
     stopped s at number i (ap run (drop-of-length-le s h) ∙ run-none)
     (ap past (drop-of-length-le s h) ∙ past-none ∙ sym (drop-of-length-le s h)) k
-
-pub digit-range : (b : ℕ) → digit b ≡ true → (48 ≤ b) × (b ≤ 57)
-digit-range b e = go (leb 48 b) refl e
-  where
-    go : (t : Bool) → leb 48 b ≡ t → t && leb b 57 ≡ true → (48 ≤ b) × (b ≤ 57)
-    go true h e = (leb-true 48 b h, leb-true b 57 e)
-    go false h e = absurd (let z : _≡_ {A = ℕ} 0 1 = cc in omega arith)
-
--- where the first byte is a digit, there is a digit
-pub run-some : (s : List ℕ) → digit (first s) ≡ true → 1 ≤ length (run s)
-run-some [] e = absurd (let z : _≡_ {A = ℕ} 0 1 = cc in omega arith)
-run-some (b ∷ s) e = rw (run-digit b s e) (omega arith)

@@ -12,7 +12,7 @@ use Rattle.forms.specs.declared.Value.{Value}
 use Rattle.typed_rules.specs.declared.Lexed.{Lexed}
 use Rattle.typed_rules.specs.declared.Step.{Step}
 use Rattle.typed_rules.specs.declared.Step.the-variants.{Got, Fail}
-use Rattle.typed_rules.specs.Parser.{next}
+use Rattle.language.specs.Parser.{next}
 use Rattle.forms.specs.Value.{held}
 use Rattle.forms.specs.Small.{Small}
 use Rattle.forms.proofs.Held.{held-both}

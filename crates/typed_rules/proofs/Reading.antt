@@ -15,16 +15,16 @@ use Rattle.typed_rules.specs.declared.Lexed.{Lexed}
 use Rattle.typed_rules.specs.declared.Digits.{Digits}
 use Rattle.typed_rules.specs.declared.Step.{Step}
 use Rattle.typed_rules.specs.declared.Step.the-variants.{Got, Fail}
-use Rattle.typed_rules.specs.Grammar.{Factor, Side, number, minus, group}
+use Rattle.language.specs.Grammar.{Factor, Side, number, minus, group}
 use Rattle.forms.specs.Value.{form, numeral, negated}
-use Rattle.typed_rules.specs.Value.{valueFactor, valueSide}
-use Rattle.typed_rules.specs.Parser.{Parsed, fail, got, bind, first, digit, lead, run, past, next, beyond, inner, closed, numberAt, factorBy, sideBy}
+use Rattle.language.specs.Value.{valueFactor, valueSide}
+use Rattle.language.specs.Parser.{Parsed, fail, got, bind, first, digit, lead, run, past, next, beyond, inner, closed, numberAt, factorBy, sideBy}
 use Rattle.forms.specs.Small.{Small, Valued}
 use Rattle.typed_rules.specs.Contracts.{Lexes, Runs, valued, view, Moved, Enough, ReadsFactor, ReadsSide, ReadsNumber, opposedOf, closing, Onward, Closes}
 use Rattle.forms.proofs.Values.{negated-small}
-use Rattle.typed_rules.proofs.Bytes.{run-some}
+use Rattle.language.proofs.Digits.{run-some}
 use Rattle.typed_rules.proofs.Places.{moved-on, spent, other}
-use Rattle.typed_rules.proofs.Steps.{factor-digit, factor-x, factor-y, factor-minus, factor-group, factor-other}
+use Rattle.language.proofs.Steps.{factor-digit, factor-x, factor-y, factor-minus, factor-group, factor-other}
 
 -- ---- numbers
 

@@ -12,11 +12,11 @@ use Rattle.typed_rules.specs.declared.Step.{Step}
 use Rattle.typed_rules.specs.declared.Step.the-variants.{Got, Fail}
 use Rattle.forms.specs.declared.Typed.{Typed}
 use Rattle.forms.specs.Small.{Small}
-use Rattle.typed_rules.specs.Grammar.{Side, Relation}
+use Rattle.language.specs.Grammar.{Side, Relation}
 use Rattle.text.specs.Number.{valueFrom}
 use Rattle.forms.specs.Value.{numeral, negated}
-use Rattle.typed_rules.specs.Value.{valueFactor, valueTerm, valueSide, kindOf}
-use Rattle.typed_rules.specs.Parser.{Parsed, fail, got, skip, run, past, next, beyond, bind, numberAt, factorBy, termBy, moreFactors, sideBy, moreTerms, relationOf, rightOf, judged}
+use Rattle.language.specs.Value.{valueFactor, valueTerm, valueSide, kindOf}
+use Rattle.language.specs.Parser.{Parsed, fail, got, skip, run, past, next, beyond, bind, numberAt, factorBy, termBy, moreFactors, sideBy, moreTerms, relationOf, rightOf, judged}
 
 -- ---- bytes
 

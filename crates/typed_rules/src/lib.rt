@@ -7,7 +7,7 @@ use forms::Typed;
 use forms::Value;
 use readers::read_text;
 ghost use mathlib.Core.Path.{_≡_};
-ghost use Rattle.typed_rules.specs.Parser.{answer};
+ghost use Rattle.language.specs.Parser.{answer};
 
 // The first byte that is no space, or 0 at the end; where it stands, and where the text goes on after it.
 pub struct Lexed {

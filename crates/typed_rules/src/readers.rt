@@ -18,7 +18,7 @@ use forms::sum;
 ghost use mathlib.Core.Path.{_≡_};
 ghost use Prim.Native.Nat.{_≤_};
 ghost use lib.ListN.{length};
-ghost use Rattle.typed_rules.specs.Parser.{parse, judged};
+ghost use Rattle.language.specs.Parser.{parse, judged};
 ghost use Rattle.typed_rules.specs.Contracts.{ReadsNumber, SmallStep, opposedOf, Placed, Closes, Follows, ReadsFactor, ReadsTerm, ReadsSide, ReadsFactors, ReadsTerms, Judges, JudgesRight};
 
 // A number of at most 10 digits.

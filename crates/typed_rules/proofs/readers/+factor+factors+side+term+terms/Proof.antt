@@ -8,7 +8,7 @@ use native.Mathlib.Omega.{arith}
 use lib.ListN.{length}
 use borrow.Author.Needs.{needs}
 use Rattle.forms.specs.Value.{sum, difference, product}
-use Rattle.typed_rules.proofs.Chain.{one-factor, one-term, by-star, by-plus, by-minus}
+use Rattle.language.proofs.Chain.{one-factor, one-term, by-star, by-plus, by-minus}
 use Rattle.typed_rules.proofs.Places.{small-step, placed, call-same, call-next, call-first, call-more, plainly}
 use Rattle.typed_rules.proofs.Reading.{reads-number, reads-x, reads-y, reads-minus, reads-deep, reads-group, reads-other}
 use Rattle.typed_rules.proofs.Following.{reads-whole, whole-fails, reads-joined, joined-fails, factors-stop, terms-stop}

@@ -4,8 +4,8 @@ use mathlib.Core.Bool.{true, false}
 use mathlib.Core.List.{List}
 use Prim.Native.Nat.{ℕ, suc}
 use lib.Dec.{eqb}
-use Rattle.typed_rules.specs.Grammar.{Term, Side, rate-x, rate-y, minus, factor, times, term, plus, less}
-use Rattle.typed_rules.specs.Parser.{fail, got, bind, digit, lead, skip, next, beyond, inner, closed, numberAt, factorBy, termBy, moreFactors, sideBy, moreTerms}
+use Rattle.language.specs.Grammar.{Term, Side, rate-x, rate-y, minus, factor, times, term, plus, less}
+use Rattle.language.specs.Parser.{fail, got, bind, digit, lead, skip, next, beyond, inner, closed, numberAt, factorBy, termBy, moreFactors, sideBy, moreTerms}
 
 module _ (k d : ℕ) (s : List ℕ) where
   pub factor-digit : digit (next s) ≡ true → factorBy (suc k) d s ≡ numberAt (lead s) (skip s)

@@ -102,7 +102,7 @@ unfoldable mutual
   LawfulSide (less s i t) d = LawfulSide s d × LawfulTerm t d
 
 -- a rule of the language: parentheses at most 8 deep, at most 120 bytes
-pub record Lawful (r : Rule) : Type 0 where
+pub record LawfulRule (r : Rule) : Type 0 where
   pub left : LawfulSide (r .left) 8
   pub right : LawfulSide (r .right) 8
   pub short : length (spell r) ≤ 120

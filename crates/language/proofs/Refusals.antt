@@ -16,13 +16,13 @@ use Rattle.forms.specs.declared.Written.{Written}
 use Rattle.answers.specs.declared.Refusal.{Refusal}
 use Rattle.forms.specs.declared.Typed.{Typed}
 use Rattle.forms.specs.declared.Typed.the-variants.{Rule, Refused}
-use Rattle.typed_rules.specs.Grammar as G
-use Rattle.typed_rules.specs.Grammar.{number, rate-x, rate-y, minus, group, factor, times, term, plus, less, at-most, at-least}
+use Rattle.language.specs.Grammar as G
+use Rattle.language.specs.Grammar.{number, rate-x, rate-y, minus, group, factor, times, term, plus, less, at-most, at-least}
 use Rattle.text.specs.Number.{valueFrom}
 use Rattle.forms.specs.Value.{inside, limit, form, limited, numeral, constant, multiplied, mulForms, addForms, subForms, negated, sum, difference, product, combine, refusal, written, final, conclude}
-use Rattle.typed_rules.specs.Value.{valueFactor, valueTerm, valueSide, kindOf, valueRule}
-use Rattle.typed_rules.specs.Parser.{answer}
-use Rattle.typed_rules.proofs.Language.{answered, Reads, Refuses, language}
+use Rattle.language.specs.Value.{valueFactor, valueTerm, valueSide, kindOf, valueRule}
+use Rattle.language.specs.Parser.{answer}
+use Rattle.language.proofs.Language.{answered, Reads, Refuses, language}
 
 abbrev pub Fault : ℕ → Type 0
 Fault n = (n ≡ 14) ⊎ (n ≡ 15)
@@ -152,21 +152,21 @@ thirteen (Refused r) (inr h, k) e =
 -- ---- the language, in both directions
 
 -- what a lawful tree spells is accepted, or refused 14 or 15
-spelt-sound : (s : List ℕ) (r : G.Rule) → G.Lawful r → s ≡ G.spell r → Sound (answer s)
+spelt-sound : (s : List ℕ) (r : G.Rule) → G.LawfulRule r → s ≡ G.spell r → Sound (answer s)
 spelt-sound s r l p = subst Sound (sym (ap answer p ∙ answered r l)) (value-sound r)
 
 -- accepted, or refused 14 or 15, exactly if some lawful tree spells the text
-pub read-exactly : (s : List ℕ) → Sound (answer s) ↔ ((r : G.Rule) × G.Lawful r × (s ≡ G.spell r))
+pub read-exactly : (s : List ℕ) → Sound (answer s) ↔ ((r : G.Rule) × G.LawfulRule r × (s ≡ G.spell r))
 read-exactly s = ((λ h. tree h (language s)), (λ t. spelt-sound s (t .0) (t .1) (t .2)))
   where
-    tree : Sound (answer s) → Reads s ⊎ Refuses s → (r : G.Rule) × G.Lawful r × (s ≡ G.spell r)
+    tree : Sound (answer s) → Reads s ⊎ Refuses s → (r : G.Rule) × G.LawfulRule r × (s ≡ G.spell r)
     tree h (inl r) = (r .tree, r .lawful, r .text)
     tree h (inr n) = absurd (thirteen (answer s) h (n .answer))
 
 -- 13 exactly if no lawful tree spells the text
-pub refused-13-exactly : (s : List ℕ) → (answer s ≡ refusal 13) ↔ ((r : G.Rule) → G.Lawful r → s ≡ G.spell r → ⊥)
+pub refused-13-exactly : (s : List ℕ) → (answer s ≡ refusal 13) ↔ ((r : G.Rule) → G.LawfulRule r → s ≡ G.spell r → ⊥)
 refused-13-exactly s = ((λ e r l p. thirteen (answer s) (spelt-sound s r l p) e), (λ none. refused none (language s)))
   where
-    refused : ((r : G.Rule) → G.Lawful r → s ≡ G.spell r → ⊥) → Reads s ⊎ Refuses s → answer s ≡ refusal 13
+    refused : ((r : G.Rule) → G.LawfulRule r → s ≡ G.spell r → ⊥) → Reads s ⊎ Refuses s → answer s ≡ refusal 13
     refused none (inl r) = absurd (none (r .tree) (r .lawful) (r .text))
     refused none (inr n) = n .answer

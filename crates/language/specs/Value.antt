@@ -7,8 +7,8 @@ use Rattle.forms.specs.declared.Value.{Value}
 use Rattle.forms.specs.declared.Value.the-variants.{Linear}
 use Rattle.forms.specs.declared.Typed.{Typed}
 use Rattle.forms.specs.Value.{form, numeral, negated, sum, difference, product, conclude}
-use Rattle.typed_rules.specs.Grammar as G
-use Rattle.typed_rules.specs.Grammar.{number, rate-x, rate-y, minus, group, factor, times, term, plus, less, at-most, at-least}
+use Rattle.language.specs.Grammar as G
+use Rattle.language.specs.Grammar.{number, rate-x, rate-y, minus, group, factor, times, term, plus, less, at-most, at-least}
 
 unfoldable mutual
   pub valueFactor : G.Factor → Value

@@ -3,14 +3,14 @@ use mathlib.Core.Path.{_≡_, refl}
 use mathlib.Core.List.{map, [], _∷_}
 use lib.IntN.{pos, negℤ}
 use Rattle.forms.specs.declared.Typed.the-variants.{Rule}
-use Rattle.typed_rules.specs.Grammar as G
-use Rattle.typed_rules.specs.Grammar.{number, rate-x, rate-y, minus, factor, times, term, less, at-most, spell, spellSide, spellTerm, spellFactor, spellRelation, pad}
+use Rattle.language.specs.Grammar as G
+use Rattle.language.specs.Grammar.{number, rate-x, rate-y, minus, factor, times, term, less, at-most, spell, spellSide, spellTerm, spellFactor, spellRelation, pad}
 use Rattle.text.specs.Number.{valueFrom}
 use Rattle.forms.specs.Value.{limited, numeral, constant, multiplied, negated, sum, difference, product, final, conclude}
-use Rattle.typed_rules.specs.Value.{valueFactor, valueTerm, valueSide, valueRule}
-use Rattle.typed_rules.specs.Parser.{answer, parse, got, relationOf, rightOf, sideOf, sideBy, moreTerms, termBy, moreFactors, factorBy, lead, skip, run, past}
+use Rattle.language.specs.Value.{valueFactor, valueTerm, valueSide, valueRule}
+use Rattle.language.specs.Parser.{answer, parse, got, relationOf, rightOf, sideOf, sideBy, moreTerms, termBy, moreFactors, factorBy, lead, skip, run, past}
 use Rattle.text.specs.Text.{text}
-use Rattle.typed_rules.specs.Examples.{Example, examples}
+use Rattle.language.specs.Examples.{Example, examples}
 
 pub texts-as-read : map (λ (e : Example). answer (text (e .written))) examples ≡ map (λ (e : Example). e .reads) examples
 unfolding answer parse relationOf rightOf sideOf sideBy moreTerms termBy moreFactors factorBy lead skip run past limited valueFrom numeral constant multiplied negated sum difference product valueFactor valueTerm valueSide final conclude valueRule

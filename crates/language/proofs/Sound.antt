@@ -8,11 +8,11 @@ use lib.Dec.{leb, eqb}
 use lib.ListN.{length}
 use borrow.Author.Tests.{leb-true, eqb-true}
 use Rattle.forms.specs.declared.Value.{Value}
-use Rattle.typed_rules.specs.Grammar.{Factor, Term, Side, Relation, Rule, number, rate-x, rate-y, minus, group, at-most, at-least, pad, spellFactor, spellTerm, spellSide, spellRelation, spell, Digits, none, more, LawfulFactor, LawfulTerm, LawfulSide}
-use Rattle.typed_rules.specs.Parser.{Parsed, fail, got, bind, first, tail, digit, lead, skip, run, past, next, beyond, inner, closed, numberAt, factorBy, termBy, moreFactors, sideBy, moreTerms, sideOf, ended, rightOf, relationOf, parse}
-use Rattle.typed_rules.proofs.Bytes.{digit-range, run-some}
-use Rattle.typed_rules.proofs.Chain.{Chain, Begins, Joins, one-factor, one-term, by-star, by-plus, by-minus}
-use Rattle.typed_rules.proofs.Whole.{rule}
+use Rattle.language.specs.Grammar.{Factor, Term, Side, Relation, Rule, number, rate-x, rate-y, minus, group, at-most, at-least, pad, spellFactor, spellTerm, spellSide, spellRelation, spell, Digits, none, more, LawfulFactor, LawfulTerm, LawfulSide}
+use Rattle.language.specs.Parser.{Parsed, fail, got, bind, first, tail, digit, lead, skip, run, past, next, beyond, inner, closed, numberAt, factorBy, termBy, moreFactors, sideBy, moreTerms, sideOf, ended, rightOf, relationOf, parse}
+use Rattle.language.proofs.Digits.{digit-range, run-some}
+use Rattle.language.proofs.Chain.{Chain, Begins, Joins, one-factor, one-term, by-star, by-plus, by-minus}
+use Rattle.language.proofs.Rules.{rule}
 
 -- ---- bytes
 

@@ -8,13 +8,13 @@ use lib.Dec.{leb, eqb}
 use lib.ListN.{length, length-append}
 use borrow.Author.Tests.{le-leb, ne-eqb}
 use Rattle.forms.specs.declared.Value.{Value}
-use Rattle.typed_rules.specs.Grammar.{Factor, Term, Side, Relation, Rule, number, rate-x, rate-y, minus, group, factor, times, term, plus, less, at-most, at-least, pad, spellFactor, spellTerm, spellSide, spellRelation, spell, Digits, more, Number, LawfulFactor, LawfulTerm, LawfulSide, Lawful}
-use Rattle.typed_rules.specs.Parser.{Parsed, fail, got, bind, first, digit, lead, skip, run, past, next, beyond, closed, numberAt, factorBy, termBy, sideBy, sideOf, ended, rightOf, relationOf, parse}
-use Rattle.typed_rules.proofs.Bytes.{run-digit, past-digit, run-other, past-other, run-none, past-none}
-use Rattle.typed_rules.proofs.Steps.{factor-digit, factor-x, factor-y, factor-minus, factor-group, factors-end, terms-end}
-use Rattle.typed_rules.proofs.Whole.{rule, right-got, relation-most, relation-least}
-use Rattle.typed_rules.proofs.Chain.{Chain, Begins, Joins, terms, sides, one-factor, one-term, by-star, by-plus, by-minus}
-use Rattle.typed_rules.proofs.Spaces.{lead-pad, skip-pad, skip-nil, lead-nil, first-spaces, skip-in, next-in, lead-in, length-pad, first-pad, in-pad, not-next}
+use Rattle.language.specs.Grammar.{Factor, Term, Side, Relation, Rule, number, rate-x, rate-y, minus, group, factor, times, term, plus, less, at-most, at-least, pad, spellFactor, spellTerm, spellSide, spellRelation, spell, Digits, more, Number, LawfulFactor, LawfulTerm, LawfulSide, LawfulRule}
+use Rattle.language.specs.Parser.{Parsed, fail, got, bind, first, digit, lead, skip, run, past, next, beyond, closed, numberAt, factorBy, termBy, sideBy, sideOf, ended, rightOf, relationOf, parse}
+use Rattle.language.proofs.Digits.{run-digit, past-digit, run-other, past-other, run-none, past-none}
+use Rattle.language.proofs.Steps.{factor-digit, factor-x, factor-y, factor-minus, factor-group, factors-end, terms-end}
+use Rattle.language.proofs.Rules.{rule, right-got, relation-most, relation-least}
+use Rattle.language.proofs.Chain.{Chain, Begins, Joins, terms, sides, one-factor, one-term, by-star, by-plus, by-minus}
+use Rattle.language.proofs.Spaces.{lead-pad, skip-pad, skip-nil, lead-nil, first-spaces, skip-in, next-in, lead-in, length-pad, first-pad, in-pad, not-next}
 
 -- ---- lengths
 
@@ -246,5 +246,5 @@ pub unique-sides : (r q : Rule) → LawfulSide (r .left) 8 → LawfulSide (r .ri
 unique-sides r q a b c d e = same-rule (sym (parse-complete r a b) ∙ ap parse e ∙ parse-complete q c d)
 
 -- each text in one way: two lawful trees that spell the same text are equal
-pub unique : (r q : Rule) → Lawful r → Lawful q → spell r ≡ spell q → r ≡ q
+pub unique : (r q : Rule) → LawfulRule r → LawfulRule q → spell r ≡ spell q → r ≡ q
 unique r q l m e = unique-sides r q (l .left) (l .right) (m .left) (m .right) e

@@ -7,12 +7,12 @@ use lib.Dec.{eqb}
 use borrow.Author.Tests.{ne-eqb}
 use native.Mathlib.Omega.{arith}
 use Rattle.forms.specs.declared.Value.{Value}
-use Rattle.typed_rules.specs.Grammar.{Factor, Term, Side, Relation, Rule, number, rate-x, rate-y, minus, group, factor, times, term, plus, less, at-most, at-least, pad, spellFactor, spellTerm, spellSide, spellRelation, spell, Digits, none, more, LawfulFactor, LawfulTerm, LawfulSide, Lawful}
+use Rattle.language.specs.Grammar.{Factor, Term, Side, Relation, Rule, number, rate-x, rate-y, minus, group, factor, times, term, plus, less, at-most, at-least, pad, spellFactor, spellTerm, spellSide, spellRelation, spell, Digits, none, more, LawfulFactor, LawfulTerm, LawfulSide, LawfulRule}
 use Rattle.forms.specs.Value.{negated, sum, difference, product, conclude}
-use Rattle.typed_rules.specs.Value.{valueFactor, valueTerm, valueSide, kindOf, valueRule}
-use Rattle.typed_rules.specs.Parser.{answer}
-use Rattle.typed_rules.proofs.Complete.{unique-sides}
-use Rattle.typed_rules.proofs.Language.{answered}
+use Rattle.language.specs.Value.{valueFactor, valueTerm, valueSide, kindOf, valueRule}
+use Rattle.language.specs.Parser.{answer}
+use Rattle.language.proofs.Complete.{unique-sides}
+use Rattle.language.proofs.Language.{answered}
 
 -- ---- a tree and a text without spaces
 
@@ -153,11 +153,11 @@ bare-worth r =
 
 -- ---- each text in one way, spaces aside
 
-pub unique-bare : (r q : Rule) → Lawful r → Lawful q → erase (spell r) ≡ erase (spell q) → bare r ≡ bare q
+pub unique-bare : (r q : Rule) → LawfulRule r → LawfulRule q → erase (spell r) ≡ erase (spell q) → bare r ≡ bare q
 unique-bare r q l m e =
     unique-sides (bare r) (bare q) (bare-side (r .left) 8 (l .left)) (bare-side (r .right) 8 (l .right)) (bare-side (q .left) 8 (m .left)) (bare-side (q .right) 8 (m .right))
     (sym (bare-spells r (l .left) (l .right)) ∙ e ∙ bare-spells q (m .left) (m .right))
 
-pub answered-alike : (r q : Rule) → Lawful r → Lawful q → erase (spell r) ≡ erase (spell q) → answer (spell r) ≡ answer (spell q)
+pub answered-alike : (r q : Rule) → LawfulRule r → LawfulRule q → erase (spell r) ≡ erase (spell q) → answer (spell r) ≡ answer (spell q)
 answered-alike r q l m e =
     answered r l ∙ sym (bare-worth r) ∙ ap valueRule (unique-bare r q l m e) ∙ bare-worth q ∙ sym (answered q m)

@@ -6,8 +6,8 @@ use Prim.Native.Nat.{ℕ, zero, suc, _+_}
 use native.Mathlib.Omega.{arith}
 use lib.Dec.{eqb}
 use lib.ListN.{length}
-use Rattle.typed_rules.specs.Grammar.{pad}
-use Rattle.typed_rules.specs.Parser.{first, tail, digit, lead, skip, next, beyond}
+use Rattle.language.specs.Grammar.{pad}
+use Rattle.language.specs.Parser.{first, tail, digit, lead, skip, next, beyond}
 
 pub lead-pad : (i : ℕ) (q : List ℕ) → lead q ≡ 0 → lead (pad i q) ≡ i
 unfolding lead pad

@@ -6,9 +6,9 @@ use Prim.Native.Nat.{ℕ, zero, suc, _+_, _*_}
 use lib.Dec.{leb, eqb}
 use lib.ListN.{length}
 use Rattle.forms.specs.declared.Typed.{Typed}
-use Rattle.typed_rules.specs.Grammar.{Factor, Term, Side, Relation, Rule, number, rate-x, rate-y, minus, group, factor, times, term, plus, less, at-most, at-least}
+use Rattle.language.specs.Grammar.{Factor, Term, Side, Relation, Rule, number, rate-x, rate-y, minus, group, factor, times, term, plus, less, at-most, at-least}
 use Rattle.forms.specs.Value.{refusal}
-use Rattle.typed_rules.specs.Value.{valueRule}
+use Rattle.language.specs.Value.{valueRule}
 
 -- what was read, with the text after it
 pub data Parsed (A : Type 0) : Type 0 where

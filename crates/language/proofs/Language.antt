@@ -8,15 +8,15 @@ use native.Mathlib.Omega.{arith}
 use lib.Dec.{leb}
 use lib.ListN.{length}
 use borrow.Author.Tests.{leb-true, leb-false, le-leb}
-use Rattle.typed_rules.specs.Grammar.{Rule, spell, Lawful}
+use Rattle.language.specs.Grammar.{Rule, spell, LawfulRule}
 use Rattle.forms.specs.Value.{refusal}
-use Rattle.typed_rules.specs.Value.{valueRule}
-use Rattle.typed_rules.specs.Parser.{Parsed, fail, got, parse, judged, answer}
-use Rattle.typed_rules.proofs.Sound.{SoundRule, parse-sound}
-use Rattle.typed_rules.proofs.Complete.{parse-complete}
+use Rattle.language.specs.Value.{valueRule}
+use Rattle.language.specs.Parser.{Parsed, fail, got, parse, judged, answer}
+use Rattle.language.proofs.Sound.{SoundRule, parse-sound}
+use Rattle.language.proofs.Complete.{parse-complete}
 
 -- what a lawful tree spells is answered with the tree's value
-pub answered : (r : Rule) → Lawful r → answer (spell r) ≡ valueRule r
+pub answered : (r : Rule) → LawfulRule r → answer (spell r) ≡ valueRule r
 unfolding answer
 answered r l =
     ap (λ (t : Bool). cond t (judged (parse (spell r))) (refusal 13)) (le-leb (length (spell r)) 120 (l .short))
@@ -25,19 +25,19 @@ answered r l =
 -- a text of the language: the tree that spells it, and the answer
 pub record Reads (s : List ℕ) : Type 0 where
   pub tree : Rule
-  pub lawful : Lawful tree
+  pub lawful : LawfulRule tree
   pub text : s ≡ spell tree
   pub answer : answer s ≡ valueRule tree
 
 -- a text that no lawful tree spells
 pub record Refuses (s : List ℕ) : Type 0 where
-  pub nothing : (r : Rule) → Lawful r → s ≡ spell r → ⊥
+  pub nothing : (r : Rule) → LawfulRule r → s ≡ spell r → ⊥
   pub answer : answer s ≡ refusal 13
 
-too-long : (s : List ℕ) → leb (length s) 120 ≡ false → (r : Rule) → Lawful r → s ≡ spell r → ⊥
+too-long : (s : List ℕ) → leb (length s) 120 ≡ false → (r : Rule) → LawfulRule r → s ≡ spell r → ⊥
 too-long s e r l p = absurd (omega (arith, leb-false (length s) 120 e, ap length p, l .short))
 
-unspelt : (s : List ℕ) → parse s ≡ fail → (r : Rule) → Lawful r → s ≡ spell r → ⊥
+unspelt : (s : List ℕ) → parse s ≡ fail → (r : Rule) → LawfulRule r → s ≡ spell r → ⊥
 unspelt s e r l p =
     let c : _≡_ {A = Parsed Rule} fail (got r []) = sym e ∙ ap parse p ∙ parse-complete r (l .left) (l .right) in
     let z : _≡_ {A = ℕ} 0 1 = cc in

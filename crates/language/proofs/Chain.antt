@@ -7,11 +7,11 @@ use Prim.Native.Nat.{ℕ, suc, _≤_, _<_}
 use native.Mathlib.Omega.{arith}
 use lib.Dec.{eqb}
 use Rattle.forms.specs.declared.Value.{Value}
-use Rattle.typed_rules.specs.Grammar.{Factor, Term, Side, factor, times, term, plus, less, pad, spellFactor, spellTerm, spellSide, LawfulFactor, LawfulTerm, LawfulSide}
+use Rattle.language.specs.Grammar.{Factor, Term, Side, factor, times, term, plus, less, pad, spellFactor, spellTerm, spellSide, LawfulFactor, LawfulTerm, LawfulSide}
 use Rattle.forms.specs.Value.{sum, difference, product}
-use Rattle.typed_rules.specs.Value.{valueFactor, valueTerm, valueSide}
-use Rattle.typed_rules.specs.Parser.{Parsed, bind, lead, next, beyond, factorBy, termBy, moreFactors, sideBy, moreTerms}
-use Rattle.typed_rules.proofs.Steps.{term-step, side-step, factors-star, terms-plus, terms-less}
+use Rattle.language.specs.Value.{valueFactor, valueTerm, valueSide}
+use Rattle.language.specs.Parser.{Parsed, bind, lead, next, beyond, factorBy, termBy, moreFactors, sideBy, moreTerms}
+use Rattle.language.proofs.Steps.{term-step, side-step, factors-star, terms-plus, terms-less}
 
 -- items A and the wholes B made of them; an item needs the fuel `extra` beyond three for each byte, a whole one more
 pub record Chain (A B : Type 0) : Type 1 where
