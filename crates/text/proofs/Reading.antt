@@ -6,19 +6,16 @@ use Prim.Native.Nat.{ℕ, zero, suc, _+_, _-_, _*_, _/_, _%_, _≤_, _<_}
 use native.Mathlib.Nat.{le-refl}
 use native.Mathlib.Omega.{arith}
 use lib.ListN.{length, getD, List·getD-append}
-use Rattle.text.specs.Number.{decimal}
+use Rattle.text.specs.Number.{decimal, valueFrom}
 use Rattle.text.proofs.Decimal.{decimal-digit, decimal-more, decimal-longer, decimal-one, one-digit}
 
--- the value of digits that follow those of n
-abbrev pub valueFrom : ℕ → List ℕ → ℕ
-valueFrom n [] = n
-valueFrom n (b ∷ l) = valueFrom (10 * n + (b - 48)) l
-
-value-last : (n : ℕ) (l : List ℕ) (b : ℕ) → valueFrom n (l ++ (b ∷ [])) ≡ 10 * valueFrom n l + (b - 48)
+value-last : (n : ℕ) (l : List ℕ) (b : ℕ) → valueFrom n (l ++ (b ∷ [])) ≡ valueFrom n l * 10 + (b - 48)
+unfolding valueFrom
 value-last n [] b = refl
-value-last n (a ∷ l) b = value-last (10 * n + (a - 48)) l b
+value-last n (a ∷ l) b = value-last (n * 10 + (a - 48)) l b
 
 value-below : (k n : ℕ) → n ≤ k → valueFrom 0 (decimal n) ≡ n
+unfolding valueFrom
 value-below zero n h = ap (valueFrom 0) (decimal-digit n (omega arith)) ∙ omega arith
 value-below (suc k) n h =
     ⊎-elim

@@ -1,7 +1,7 @@
 -- Numbers as bytes: decimal, with no leading zeros and no plus sign. A field of a line stands after one space. It rests on the bytes
 -- of a text (Text).
 use mathlib.Core.List.{List, [], _∷_, _++_}
-use Prim.Native.Nat.{ℕ, zero, suc, _+_, _/_, _%_}
+use Prim.Native.Nat.{ℕ, zero, suc, _+_, _-_, _*_, _/_, _%_}
 use lib.IntN.{ℤ, pos, negsuc}
 use Rattle.text.specs.Text.{text}
 
@@ -21,6 +21,11 @@ digits (suc k) (suc q) r = digits k (suc q / 10) (suc q % 10) ++ digit r
 
 unfoldable pub decimal : ℕ → List ℕ
 decimal n = digits n (n / 10) (n % 10)
+
+-- the number that digits write, after a number already written
+unfoldable pub valueFrom : ℕ → List ℕ → ℕ
+valueFrom n [] = n
+valueFrom n (d ∷ s) = valueFrom (n * 10 + (d - 48)) s
 
 unfoldable pub signed : ℤ → List ℕ
 signed (pos n) = decimal n

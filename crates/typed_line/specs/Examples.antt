@@ -3,9 +3,9 @@ use mathlib.Core.List.{List, [], _∷_}
 use Prim.Native.Nat.{ℕ}
 use Prim.Native.String.{String}
 use lib.IntN.{ℤ, pos, negsuc}
-use Rattle.typed_rules.specs.declared.Typed.{Typed}
-use Rattle.typed_rules.specs.declared.Typed.the-variants.{Rule}
-use Rattle.typed_rules.specs.Value.{refusal}
+use Rattle.forms.specs.declared.Typed.{Typed}
+use Rattle.forms.specs.declared.Typed.the-variants.{Rule}
+use Rattle.forms.specs.Value.{refusal}
 
 pub record Example : Type 0 where
   pub typed : Typed

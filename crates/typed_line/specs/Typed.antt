@@ -5,9 +5,9 @@ use Prim.Native.Nat.{ℕ}
 use Rattle.text.specs.Text.{text}
 use Rattle.text.specs.Number.{number, integer, refused}
 use Rattle.text.specs.Append.{Fills}
-use Rattle.typed_rules.specs.declared.Written.{Written}
-use Rattle.typed_rules.specs.declared.Typed.{Typed}
-use Rattle.typed_rules.specs.declared.Typed.the-variants.{Rule, Refused}
+use Rattle.forms.specs.declared.Written.{Written}
+use Rattle.forms.specs.declared.Typed.{Typed}
+use Rattle.forms.specs.declared.Typed.the-variants.{Rule, Refused}
 
 unfoldable pub ruleFields : Written → List ℕ
 ruleFields w = text "rule" ++ (number (w .kind) ++ (integer (w .a) ++ (integer (w .b) ++ integer (w .c))))

@@ -1,7 +1,7 @@
 // The line of an input: a line feed at its end is not part of the text, which is read as a rule or refused.
 use typed_rules::read_rule;
 use written::write_typed;
-ghost use Rattle.typed_rules.specs.Parser.{answer};
+ghost use Rattle.language.specs.Parser.{answer};
 ghost use Rattle.typed_line.specs.Feed.{withoutFeed, TextLength};
 ghost use Rattle.typed_line.specs.Typed.{TypedWritten};
 

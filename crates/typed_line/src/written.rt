@@ -1,10 +1,10 @@
 // The line of what a typed text reads as: `rule kind a b c`, or `refused number 0`.
+use forms::Typed;
+use forms::Written;
 use text::append_integer;
 use text::append_number;
 use text::append_refused;
 use text::append_word;
-use typed_rules::Typed;
-use typed_rules::Written;
 ghost use Rattle.text.specs.Append.{Room, Appended};
 ghost use Rattle.typed_line.specs.Typed.{ruleFields, typedFields, TypedWritten};
 

@@ -9,12 +9,14 @@ use lib.Dec.{leb}
 use lib.ListN.{length, drop, getD, drop-of-length-le}
 use lib.Seq.{drop-cons}
 use borrow.Author.Tests.{leb-true, leb-false, lt-leb, eq-eqb, ne-eqb}
-use Rattle.typed_rules.specs.declared.Value.the-variants.{Beyond}
-use Rattle.typed_rules.specs.Value.{limit, decimal, numeral}
-use Rattle.typed_rules.specs.Parser.{first, tail, digit, skip, run, past}
+use Rattle.forms.specs.declared.Value.the-variants.{Beyond}
+use Rattle.text.specs.Number.{valueFrom}
+use Rattle.forms.specs.Value.{limit, numeral}
+use Rattle.language.specs.Parser.{first, tail, digit, skip, run, past}
 use Rattle.typed_rules.specs.Limits.{grown, capped}
 use Rattle.typed_rules.specs.Contracts.{Skips, Lexes, Runs}
-use Rattle.typed_rules.proofs.Spaces.{skip-nil}
+use Rattle.language.proofs.Spaces.{skip-nil}
+use Rattle.language.proofs.Digits.{run-digit, past-digit, run-other, past-other, run-none, past-none}
 
 pub here : (s : List ℕ) (i : ℕ) → i < length s → drop i s ≡ getD s i 0 ∷ drop (i + 1) s
 here s i h = drop-cons s i 0 h ∙ ap (λ (k : ℕ). getD s i 0 ∷ drop k s) (sym (add-one i))
@@ -95,26 +97,26 @@ lex-end s at start h k =
 
 -- ---- numbers that stop growing
 
-decimal-beyond : (n : ℕ) (s : List ℕ) → limit < n → numeral (decimal n s) ≡ Beyond 15
-unfolding numeral decimal
-decimal-beyond n [] h = rw (lt-leb n limit h)
-decimal-beyond n (d ∷ s) h = decimal-beyond (n * 10 + (d - 48)) s (omega arith)
+valueFrom-beyond : (n : ℕ) (s : List ℕ) → limit < n → numeral (valueFrom n s) ≡ Beyond 15
+unfolding numeral valueFrom
+valueFrom-beyond n [] h = rw (lt-leb n limit h)
+valueFrom-beyond n (d ∷ s) h = valueFrom-beyond (n * 10 + (d - 48)) s (omega arith)
 
 capped-beyond : (n : ℕ) (s : List ℕ) → limit < n → numeral (capped n s) ≡ Beyond 15
 unfolding numeral capped
 capped-beyond n [] h = rw (lt-leb n limit h)
 capped-beyond n (d ∷ s) h = ap (λ m. numeral (capped m s)) (ap (λ t. cond t (n * 10 + (d - 48)) n) (lt-leb n limit h)) ∙ capped-beyond n s h
 
-pub capped-numeral : (n : ℕ) (s : List ℕ) → numeral (capped n s) ≡ numeral (decimal n s)
-unfolding decimal capped
+pub capped-numeral : (n : ℕ) (s : List ℕ) → numeral (capped n s) ≡ numeral (valueFrom n s)
+unfolding valueFrom capped
 capped-numeral n [] = refl
 capped-numeral n (d ∷ s) = go (leb n limit) refl (capped-numeral (n * 10 + (d - 48)) s)
   where
-    go : (t : Bool) → leb n limit ≡ t → numeral (capped (n * 10 + (d - 48)) s) ≡ numeral (decimal (n * 10 + (d - 48)) s) → numeral (capped (cond t (n * 10 + (d - 48)) n) s) ≡ numeral (decimal (n * 10 + (d - 48)) s)
+    go : (t : Bool) → leb n limit ≡ t → numeral (capped (n * 10 + (d - 48)) s) ≡ numeral (valueFrom (n * 10 + (d - 48)) s) → numeral (capped (cond t (n * 10 + (d - 48)) n) s) ≡ numeral (valueFrom (n * 10 + (d - 48)) s)
     go true e h = h
     go false e h =
         let k = leb-false n limit e in
-        capped-beyond n s k ∙ sym (decimal-beyond (n * 10 + (d - 48)) s (omega (arith, k)))
+        capped-beyond n s k ∙ sym (valueFrom-beyond (n * 10 + (d - 48)) s (omega (arith, k)))
 
 -- ---- digits
 
@@ -126,30 +128,6 @@ pub record Running (text : List ℕ) (at number i : ℕ) : Type 0 where
 
 pub run-start : (s : List ℕ) (at : ℕ) → at ≤ length s → Running s at 0 at
 run-start s at h = record { same = refl; goes-on = refl; count = refl; high = h }
-
-pub run-digit : (b : ℕ) (s : List ℕ) → digit b ≡ true → run (b ∷ s) ≡ b ∷ run s
-unfolding run
-run-digit b s e = rw e
-
-pub past-digit : (b : ℕ) (s : List ℕ) → digit b ≡ true → past (b ∷ s) ≡ past s
-unfolding past
-past-digit b s e = rw e
-
-pub run-other : (b : ℕ) (s : List ℕ) → digit b ≡ false → run (b ∷ s) ≡ []
-unfolding run
-run-other b s e = rw e
-
-pub past-other : (b : ℕ) (s : List ℕ) → digit b ≡ false → past (b ∷ s) ≡ b ∷ s
-unfolding past
-past-other b s e = rw e
-
-pub run-none : run [] ≡ []
-unfolding run
-run-none = refl
-
-pub past-none : past [] ≡ []
-unfolding past
-past-none = refl
 
 capped-cons : (n d : ℕ) (s : List ℕ) → capped n (d ∷ s) ≡ capped (grown n d) s
 unfolding capped
@@ -187,15 +165,3 @@ pub run-end : (s : List ℕ) (at number i : ℕ) → length s ≤ i → Running 
 run-end s at number i h k =
     stopped s at number i (ap run (drop-of-length-le s h) ∙ run-none)
     (ap past (drop-of-length-le s h) ∙ past-none ∙ sym (drop-of-length-le s h)) k
-
-pub digit-range : (b : ℕ) → digit b ≡ true → (48 ≤ b) × (b ≤ 57)
-digit-range b e = go (leb 48 b) refl e
-  where
-    go : (t : Bool) → leb 48 b ≡ t → t && leb b 57 ≡ true → (48 ≤ b) × (b ≤ 57)
-    go true h e = (leb-true 48 b h, leb-true b 57 e)
-    go false h e = absurd (let z : _≡_ {A = ℕ} 0 1 = cc in omega arith)
-
--- where the first byte is a digit, there is a digit
-pub run-some : (s : List ℕ) → digit (first s) ≡ true → 1 ≤ length (run s)
-run-some [] e = absurd (let z : _≡_ {A = ℕ} 0 1 = cc in omega arith)
-run-some (b ∷ s) e = rw (run-digit b s e) (omega arith)

@@ -4,14 +4,14 @@ use mathlib.Core.List.{List}
 use Prim.Native.Nat.{ℕ, zero, suc, _<_}
 use native.Mathlib.Omega.{arith}
 use lib.ListN.{drop}
-use Rattle.typed_rules.specs.declared.Value.{Value}
+use Rattle.forms.specs.declared.Value.{Value}
 use Rattle.typed_rules.specs.declared.Lexed.{Lexed}
 use Rattle.typed_rules.specs.declared.Step.{Step}
 use Rattle.typed_rules.specs.declared.Step.the-variants.{Got, Fail}
-use Rattle.typed_rules.specs.Parser.{Parsed, fail, got, bind, lead}
+use Rattle.language.specs.Parser.{Parsed, fail, got, bind, lead}
 use Rattle.typed_rules.specs.Contracts.{Lexes, valued, view, Reached, Enough, ReadsPart, Follows, ReadsOn, ReadsFactors, ReadsTerms}
-use Rattle.typed_rules.proofs.Steps.{factors-end, terms-end}
-use Rattle.typed_rules.proofs.Chain.{Chain, Begins, Joins, terms, sides}
+use Rattle.language.proofs.Steps.{factors-end, terms-end}
+use Rattle.language.proofs.Chain.{Chain, Begins, Joins, terms, sides}
 use Rattle.typed_rules.proofs.Parsed.{inv-got, inv-fail}
 use Rattle.typed_rules.proofs.Places.{moved-on, reached, spent, other}
 

@@ -3,8 +3,8 @@ use mathlib.Core.Path.{_≡_, refl, sym}
 use mathlib.Core.List.{List}
 use Prim.Native.Nat.{ℕ}
 use native.Mathlib.Omega.{arith}
-use Rattle.typed_rules.specs.declared.Value.{Value}
-use Rattle.typed_rules.specs.Parser.{Parsed, fail, got}
+use Rattle.forms.specs.declared.Value.{Value}
+use Rattle.language.specs.Parser.{Parsed, fail, got}
 use Rattle.typed_rules.specs.Contracts.{valued}
 
 clash : {A B : Type 0} {a : A} {r : List ℕ} → _≡_ {A = Parsed A} fail (got a r) → B

@@ -8,12 +8,15 @@ use native.Mathlib.Omega.{arith}
 use lib.Dec.{eqb}
 use lib.ListN.{length, drop}
 use borrow.Author.Tests.{ne-eqb}
-use Rattle.typed_rules.specs.declared.Value.{Value}
+use Rattle.forms.specs.declared.Value.{Value}
 use Rattle.typed_rules.specs.declared.Lexed.{Lexed}
 use Rattle.typed_rules.specs.declared.Step.{Step}
 use Rattle.typed_rules.specs.declared.Step.the-variants.{Got, Fail}
-use Rattle.typed_rules.specs.Parser.{next}
-use Rattle.typed_rules.specs.Contracts.{Small, Smalls, Lexes, Reached, Moved, Enough, Follows, SmallStep, Placed}
+use Rattle.language.specs.Parser.{next}
+use Rattle.forms.specs.Value.{held}
+use Rattle.forms.specs.Small.{Small}
+use Rattle.forms.proofs.Held.{held-both}
+use Rattle.typed_rules.specs.Contracts.{Lexes, Reached, Moved, Enough, Follows, SmallStep, Placed}
 
 -- ---- how far
 
@@ -71,9 +74,14 @@ call-more {text} {at} {l} {n = n} x e w h b k =
     let f = x .falls b in
     (omega (arith, lower (length text) at n 0 (omega (arith, f, p .low)) (p .high) (omega arith)), record { high = p .high; small = k })
 
--- the values of both are small
-pub call-both : (text : List ℕ) (low : ℕ) {s : Step} {v w : Value} {n : ℕ} → Small v → s ≡ Got w n → Moved text low s → Smalls v w
-call-both text low h e m = record { left = h; right = reached text low e m .small }
+-- the values of both are within the limit, so that an operation on them is the plain one
+pub plainly : {A : Type 0} (op : Value → Value → A) (text : List ℕ) (low : ℕ) {s : Step} {v w : Value} {n : ℕ} {r : A} →
+    Small v →
+    s ≡ Got w n →
+    Moved text low s →
+    r ≡ op (held v) (held w) →
+    r ≡ op v w
+plainly op text low h e m p = p ∙ held-both op h (reached text low e m .small)
 
 -- ---- the next byte is another
 

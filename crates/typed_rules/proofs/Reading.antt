@@ -9,20 +9,22 @@ use lib.IntN.{pos}
 use lib.ListN.{length, drop}
 use borrow.Author.Tests.{le-leb, lt-leb}
 use Rattle.ints.proofs.Machine.{within-numeral}
-use Rattle.typed_rules.specs.declared.Value.{Value}
-use Rattle.typed_rules.specs.declared.Value.the-variants.{Linear, Beyond}
+use Rattle.forms.specs.declared.Value.{Value}
+use Rattle.forms.specs.declared.Value.the-variants.{Linear, Beyond}
 use Rattle.typed_rules.specs.declared.Lexed.{Lexed}
 use Rattle.typed_rules.specs.declared.Digits.{Digits}
 use Rattle.typed_rules.specs.declared.Step.{Step}
 use Rattle.typed_rules.specs.declared.Step.the-variants.{Got, Fail}
-use Rattle.typed_rules.specs.Grammar.{Factor, Side, number, minus, group}
-use Rattle.typed_rules.specs.Value.{form, numeral, negated, valueFactor, valueSide}
-use Rattle.typed_rules.specs.Parser.{Parsed, fail, got, bind, first, digit, lead, run, past, next, beyond, inner, closed, numberAt, factorBy, sideBy}
-use Rattle.typed_rules.specs.Contracts.{Small, Valued, Lexes, Runs, valued, view, Moved, Enough, ReadsFactor, ReadsSide, ReadsNumber, turnedOf, closing, Onward, Closes}
-use Rattle.typed_rules.proofs.Values.{turned-small}
-use Rattle.typed_rules.proofs.Bytes.{run-some}
+use Rattle.language.specs.Grammar.{Factor, Side, number, minus, group}
+use Rattle.forms.specs.Value.{form, numeral, negated}
+use Rattle.language.specs.Value.{valueFactor, valueSide}
+use Rattle.language.specs.Parser.{Parsed, fail, got, bind, first, digit, lead, run, past, next, beyond, inner, closed, numberAt, factorBy, sideBy}
+use Rattle.forms.specs.Small.{Small, Valued}
+use Rattle.typed_rules.specs.Contracts.{Lexes, Runs, valued, view, Moved, Enough, ReadsFactor, ReadsSide, ReadsNumber, opposedOf, closing, Onward, Closes}
+use Rattle.forms.proofs.Values.{negated-small}
+use Rattle.language.proofs.Digits.{run-some}
 use Rattle.typed_rules.proofs.Places.{moved-on, spent, other}
-use Rattle.typed_rules.proofs.Steps.{factor-digit, factor-x, factor-y, factor-minus, factor-group, factor-other}
+use Rattle.language.proofs.Steps.{factor-digit, factor-x, factor-y, factor-minus, factor-group, factor-other}
 
 -- ---- numbers
 
@@ -75,18 +77,18 @@ unfolding valueFactor
 minus-all i fail = refl
 minus-all i (got f r) = refl
 
-turned-view : (text : List ℕ) (r : Step) → negating (view text r) ≡ view text (turnedOf r)
-turned-view text (Got v n) = refl
-turned-view text Fail = refl
+opposed-view : (text : List ℕ) (r : Step) → negating (view text r) ≡ view text (opposedOf r)
+opposed-view text (Got v n) = refl
+opposed-view text Fail = refl
 
 small-negated : (v : Value) → Small v → Small (negated v)
 unfolding negated
-small-negated (Linear f) h = turned-small h refl
+small-negated (Linear f) h = negated-small h refl
 small-negated (Beyond n) h = tt
 
-turned-moved : (text : List ℕ) (low high : ℕ) (r : Step) → low ≤ high → Moved text high r → Moved text low (turnedOf r)
-turned-moved text low high (Got v n) h m = record { small = small-negated v (m .small); low = omega (arith, m .low); high = m .high }
-turned-moved text low high Fail h m = tt
+opposed-moved : (text : List ℕ) (low high : ℕ) (r : Step) → low ≤ high → Moved text high r → Moved text low (opposedOf r)
+opposed-moved text low high (Got v n) h m = record { small = small-negated v (m .small); low = omega (arith, m .low); high = m .high }
+opposed-moved text low high Fail h m = tt
 
 closed-all : (i : ℕ) (p : Parsed Side) → valued valueFactor (bind p (λ a r. closed i a r)) ≡ closing (valued valueSide p)
 unfolding valueFactor
@@ -142,17 +144,17 @@ module _ {text : List ℕ} {at : ℕ} {l : Lexed} (x : Lexes text at l) {depth :
       reads-rate (Linear (form (pos 0) (pos 1) (pos 0))) (record { a = within-numeral tt; b = within-numeral tt; c = within-numeral tt }) (omega (arith, b))
       (λ k. ap (valued valueFactor) (factor-y k depth (drop at text) (sym (x .same) ∙ b)))
 
-  pub reads-minus : {s r : Step} → l .byte ≡ 45 → ReadsFactor text (l .next) depth s → r ≡ turnedOf s → ReadsFactor text at depth r
+  pub reads-minus : {s r : Step} → l .byte ≡ 45 → ReadsFactor text (l .next) depth s → r ≡ opposedOf s → ReadsFactor text at depth r
   reads-minus {s} b f z =
       rw z
-      (reads-factor text at depth (turnedOf s)
+      (reads-factor text at depth (opposedOf s)
       (λ k e.
       ap (valued valueFactor) (factor-minus k depth (drop at text) (sym (x .same) ∙ b))
       ∙ minus-all (lead (drop at text)) (factorBy k depth (beyond (drop at text)))
       ∙ ap (λ (q : List ℕ). negating (valued valueFactor (factorBy k depth q))) (sym (x .goes-on))
       ∙ ap negating (f .same k (spent text at (l .next) 0 k (x .falls (omega (arith, b))) (x .high) (omega arith) e))
-      ∙ turned-view text s)
-      (turned-moved text (suc at) (suc (l .next)) s (omega (arith, x .falls (omega (arith, b)))) (f .moved)))
+      ∙ opposed-view text s)
+      (opposed-moved text (suc at) (suc (l .next)) s (omega (arith, x .falls (omega (arith, b)))) (f .moved)))
 
   pub reads-group : {s r : Step} → l .byte ≡ 40 → (depth ≡ 0 → ⊥) → ReadsSide text (l .next) (depth - 1) s → Closes text s r → ReadsFactor text at depth r
   reads-group {s} {r} b h f c =

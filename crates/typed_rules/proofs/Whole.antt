@@ -7,15 +7,17 @@ use native.Mathlib.Omega.{arith}
 use lib.Dec.{ltb, eqb}
 use lib.ListN.{length, drop, length-drop, drop-of-length-le, getD}
 use borrow.Author.Tests.{ltb-true, ltb-false, ne-eqb}
-use Rattle.typed_rules.specs.declared.Value.{Value}
+use Rattle.forms.specs.declared.Value.{Value}
 use Rattle.typed_rules.specs.declared.Lexed.{Lexed}
 use Rattle.typed_rules.specs.declared.Step.{Step}
 use Rattle.typed_rules.specs.declared.Step.the-variants.{Got, Fail}
-use Rattle.typed_rules.specs.declared.Typed.{Typed}
-use Rattle.typed_rules.specs.Grammar.{Side, Relation, Rule, at-most, at-least}
-use Rattle.typed_rules.specs.Value.{conclude, kindOf, valueSide, valueRule, refusal}
-use Rattle.typed_rules.specs.Parser.{Parsed, fail, got, bind, first, tail, lead, skip, next, beyond, sideOf, ended, rightOf, relationOf, parse, judged}
+use Rattle.forms.specs.declared.Typed.{Typed}
+use Rattle.language.specs.Grammar.{Side, Relation, Rule, at-most, at-least}
+use Rattle.forms.specs.Value.{conclude, refusal}
+use Rattle.language.specs.Value.{kindOf, valueSide, valueRule}
+use Rattle.language.specs.Parser.{Parsed, fail, got, bind, first, tail, lead, skip, next, beyond, sideOf, ended, rightOf, relationOf, parse, judged}
 use Rattle.typed_rules.specs.Contracts.{Skips, Lexes, valued, view, ReadsSide, JudgesRight, Judges}
+use Rattle.language.proofs.Rules.{rule, right-got, right-none, right-other, relation-most, relation-least, relation-other}
 use Rattle.typed_rules.proofs.Bytes.{here}
 use Rattle.typed_rules.proofs.Parsed.{inv-got, inv-fail}
 use Rattle.typed_rules.proofs.Places.{other}
@@ -34,35 +36,6 @@ byte-inside s i b e h = go (ltb i (length s)) refl
 
 pub after-byte : (s : List ℕ) (i : ℕ) → i < length s → drop (i + 1) s ≡ tail (drop i s)
 after-byte s i h = sym (ap tail (here s i h))
-
-abbrev pub rule : Side → ℕ → Relation → Side → ℕ → Rule
-rule a i k b j = record { left = a; gap = i; relation = k; right = b; end = j }
-
-module _ (a : Side) (i : ℕ) (k : Relation) (s : List ℕ) where
-  pub right-got : (b : Side) (q : List ℕ) → first s ≡ 61 → sideOf (tail s) ≡ got b q → rightOf a i k s ≡ ended (skip q) (rule a i k b (lead q))
-  unfolding rightOf
-  right-got b q e p = rw e (ap (λ (z : Parsed Side). bind z (λ b r. ended (skip r) (rule a i k b (lead r)))) p)
-
-  pub right-none : first s ≡ 61 → sideOf (tail s) ≡ fail → rightOf a i k s ≡ fail
-  unfolding rightOf
-  right-none e p = rw e (ap (λ (z : Parsed Side). bind z (λ b r. ended (skip r) (rule a i k b (lead r)))) p)
-
-  pub right-other : eqb (first s) 61 ≡ false → rightOf a i k s ≡ fail
-  unfolding rightOf
-  right-other e = rw e
-
-module _ (a : Side) (s : List ℕ) where
-  pub relation-most : next s ≡ 60 → relationOf a s ≡ rightOf a (lead s) at-most (beyond s)
-  unfolding relationOf
-  relation-most e = rw e
-
-  pub relation-least : next s ≡ 62 → relationOf a s ≡ rightOf a (lead s) at-least (beyond s)
-  unfolding relationOf
-  relation-least e = rw e
-
-  pub relation-other : eqb (next s) 60 ≡ false → eqb (next s) 62 ≡ false → relationOf a s ≡ fail
-  unfolding relationOf
-  relation-other e f = rw (e, f)
 
 -- ---- the right side
 

@@ -4,71 +4,19 @@ use mathlib.Core.Bool.{cond}
 use mathlib.Core.List.{List}
 use Prim.Native.Nat.{ℕ, suc, _+_, _*_, _-_, _≤_, _<_}
 use lib.Dec.{eqb}
-use lib.IntN.{ℤ}
 use lib.ListN.{length, drop}
-use Rattle.ints.specs.Within.{Within}
-use Rattle.typed_rules.specs.declared.Form.{Form}
-use Rattle.typed_rules.specs.declared.Value.{Value}
-use Rattle.typed_rules.specs.declared.Value.the-variants.{Linear, Beyond}
-use Rattle.typed_rules.specs.declared.Pair.{Pair}
-use Rattle.typed_rules.specs.declared.Pair.the-variants.{Forms, First}
+use Rattle.forms.specs.declared.Value.{Value}
 use Rattle.typed_rules.specs.declared.Lexed.{Lexed}
 use Rattle.typed_rules.specs.declared.Digits.{Digits}
 use Rattle.typed_rules.specs.declared.Step.{Step}
 use Rattle.typed_rules.specs.declared.Step.the-variants.{Got, Fail}
-use Rattle.typed_rules.specs.declared.Typed.{Typed}
-use Rattle.typed_rules.specs.Grammar.{Side, Relation}
-use Rattle.typed_rules.specs.Value.{limit, decimal, numeral, negated, valueFactor, valueTerm, valueSide, kindOf}
-use Rattle.typed_rules.specs.Parser.{Parsed, fail, got, skip, run, past, next, beyond, bind, numberAt, factorBy, termBy, moreFactors, sideBy, moreTerms, relationOf, rightOf, judged}
-
--- ---- numbers
-
--- a form whose numbers are at most 1,000,000,000 either way
-pub record SmallForm (f : Form) : Type 0 where
-  pub a : Within limit (f .a)
-  pub b : Within limit (f .b)
-  pub c : Within limit (f .c)
-
-abbrev pub Small : Value → Type 0
-Small (Linear f) = SmallForm f
-Small (Beyond n) = Unit {0}
-
-pub record SmallForms (f g : Form) : Type 0 where
-  pub left : SmallForm f
-  pub right : SmallForm g
-
-pub record Smalls (v w : Value) : Type 0 where
-  pub left : Small v
-  pub right : Small w
-
-pub record SmallPair (y z : ℤ) : Type 0 where
-  pub left : Within limit y
-  pub right : Within limit z
-
-pub record SmallFour (p q s t : ℤ) : Type 0 where
-  pub p-small : Within limit p
-  pub q-small : Within limit q
-  pub s-small : Within limit s
-  pub t-small : Within limit t
-
--- the forms of two values, or the refusal of the first that has one
-abbrev pub pairOf : Value → Value → Pair
-pairOf (Linear f) (Linear g) = Forms f g
-pairOf (Linear f) (Beyond n) = First n
-pairOf (Beyond n) w = First n
-
-abbrev pub SmallIn : Pair → Type 0
-SmallIn (Forms f g) = SmallForms f g
-SmallIn (First n) = Unit {0}
-
-pub record Paired (v w : Value) (p : Pair) : Type 0 where
-  pub same : p ≡ pairOf v w
-  pub small : SmallIn p
-
--- a value as said, and small
-pub record Valued (expected result : Value) : Type 0 where
-  pub same : result ≡ expected
-  pub small : Small result
+use Rattle.forms.specs.declared.Typed.{Typed}
+use Rattle.forms.specs.Small.{Small}
+use Rattle.language.specs.Grammar.{Side, Relation}
+use Rattle.text.specs.Number.{valueFrom}
+use Rattle.forms.specs.Value.{numeral, negated}
+use Rattle.language.specs.Value.{valueFactor, valueTerm, valueSide, kindOf}
+use Rattle.language.specs.Parser.{Parsed, fail, got, skip, run, past, next, beyond, bind, numberAt, factorBy, termBy, moreFactors, sideBy, moreTerms, relationOf, rightOf, judged}
 
 -- ---- bytes
 
@@ -87,7 +35,7 @@ pub record Lexes (text : List ℕ) (at : ℕ) (r : Lexed) : Type 0 where
   pub falls : 0 < r .byte → at < r .next
 
 pub record Runs (text : List ℕ) (at : ℕ) (r : Digits) : Type 0 where
-  pub same : numeral (r .number) ≡ numeral (decimal 0 (run (drop at text)))
+  pub same : numeral (r .number) ≡ numeral (valueFrom 0 (run (drop at text)))
   pub goes-on : drop (r .end) text ≡ past (drop at text)
   pub count : r .end ≡ at + length (run (drop at text))
   pub high : r .end ≤ length text
@@ -157,9 +105,9 @@ abbrev pub SmallStep : Step → Type 0
 SmallStep (Got v n) = Small v
 SmallStep Fail = Unit {0}
 
-abbrev pub turnedOf : Step → Step
-turnedOf (Got v n) = Got (negated v) n
-turnedOf Fail = Fail
+abbrev pub opposedOf : Step → Step
+opposedOf (Got v n) = Got (negated v) n
+opposedOf Fail = Fail
 
 abbrev pub Placed : List ℕ → Step → Type 0
 Placed text (Got v n) = n ≤ length text

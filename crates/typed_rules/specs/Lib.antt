@@ -1,9 +1,4 @@
--- What a reader must believe of typed rules: the language as trees and the texts that they spell (Grammar), and the value of a tree (Value). What the code
--- equals need not be believed: the parser (Parser), of which proofs/ show that it answers with the value of the one lawful tree that spells the text, or 13 where
--- there is none; numbers that stop growing beyond the limit (Limits); what the private functions promise (Contracts). Texts with what they read as, spelt out (Examples).
-pub mod Grammar
-pub mod Value
-pub mod Parser
+-- What the readers of a typed text promise. None of it need be believed, since `read_rule` equals the parser's answer (`language`): numbers that stop growing beyond
+-- the limit (Limits), and what the private functions promise (Contracts).
 pub mod Limits
 pub mod Contracts
-pub mod Examples

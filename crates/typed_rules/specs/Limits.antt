@@ -4,7 +4,7 @@ use mathlib.Core.Bool.{cond}
 use mathlib.Core.List.{List, [], _∷_}
 use Prim.Native.Nat.{ℕ, _+_, _*_, _-_}
 use lib.Dec.{leb}
-use Rattle.typed_rules.specs.Value.{limit}
+use Rattle.forms.specs.Value.{limit}
 
 abbrev pub grown : ℕ → ℕ → ℕ
 grown n d = cond (leb n limit) (n * 10 + (d - 48)) n

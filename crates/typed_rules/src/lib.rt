@@ -1,31 +1,13 @@
 // A rule typed as text, read by the language of document 02, #103. Every function that can be called from outside is total: it takes any bytes and answers.
-mod arith;
 mod readers;
 mod tokens;
 
 use answers::Refusal;
+use forms::Typed;
+use forms::Value;
 use readers::read_text;
 ghost use mathlib.Core.Path.{_≡_};
-ghost use Rattle.typed_rules.specs.Parser.{answer};
-
-// What a side comes to: a·x + b·y + c.
-pub struct Form {
-    pub a: i64,
-    pub b: i64,
-    pub c: i64,
-}
-
-// The value of a part of a text: a form, or the refusal of the first number or operation concerned.
-pub enum Value {
-    Linear(Form),
-    Beyond(u8),
-}
-
-// The operands of an operation: two forms, or the refusal that comes first.
-pub enum Pair {
-    Forms(Form, Form),
-    First(u8),
-}
+ghost use Rattle.language.specs.Parser.{answer};
 
 // The first byte that is no space, or 0 at the end; where it stands, and where the text goes on after it.
 pub struct Lexed {
@@ -44,20 +26,6 @@ pub struct Digits {
 pub enum Step {
     Got(Value, usize),
     Fail,
-}
-
-// A rule as written, kind 2 not turned round.
-pub struct Written {
-    pub kind: usize,
-    pub a: i64,
-    pub b: i64,
-    pub c: i64,
-}
-
-// What a text reads as: the rule, or the refusal, which names record 0.
-pub enum Typed {
-    Rule(Written),
-    Refused(Refusal),
 }
 
 // What a text reads as.

@@ -1,25 +1,25 @@
 // The readers of side, term and factor call each other, and the remaining text falls. Each hands back the value of what it read and the place after it.
-use crate::Form;
 use crate::Step;
-use crate::Typed;
-use crate::Value;
-use crate::arith::conclude;
-use crate::arith::difference;
-use crate::arith::negated;
-use crate::arith::numeral;
-use crate::arith::product;
-use crate::arith::sum;
 use crate::tokens::byte_at;
 use crate::tokens::digit;
 use crate::tokens::digits;
 use crate::tokens::lex;
 use crate::tokens::skip;
 use answers::Refusal;
+use forms::Form;
+use forms::Typed;
+use forms::Value;
+use forms::conclude;
+use forms::difference;
+use forms::negated;
+use forms::numeral;
+use forms::product;
+use forms::sum;
 ghost use mathlib.Core.Path.{_≡_};
 ghost use Prim.Native.Nat.{_≤_};
 ghost use lib.ListN.{length};
-ghost use Rattle.typed_rules.specs.Parser.{parse, judged};
-ghost use Rattle.typed_rules.specs.Contracts.{ReadsNumber, SmallStep, turnedOf, Placed, Closes, Follows, ReadsFactor, ReadsTerm, ReadsSide, ReadsFactors, ReadsTerms, Judges, JudgesRight};
+ghost use Rattle.language.specs.Parser.{parse, judged};
+ghost use Rattle.typed_rules.specs.Contracts.{ReadsNumber, SmallStep, opposedOf, Placed, Closes, Follows, ReadsFactor, ReadsTerm, ReadsSide, ReadsFactors, ReadsTerms, Judges, JudgesRight};
 
 // A number of at most 10 digits.
 fn number(text: &[u8], at: usize) -> Step
@@ -35,10 +35,10 @@ fn number(text: &[u8], at: usize) -> Step
     }
 }
 
-// The factor after a minus, turned round.
-fn turned(s: Step) -> Step
+// The factor after a minus: its opposite.
+fn opposed(s: Step) -> Step
     requires { ⌜ SmallStep s ⌝ }
-    ensures { λ r. ⌜ r ≡ turnedOf s ⌝ }
+    ensures { λ r. ⌜ r ≡ opposedOf s ⌝ }
 {
     match s {
         Step::Got(v, n) => Step::Got(negated(v), n),
@@ -78,7 +78,7 @@ fn factor(text: &[u8], at: usize, depth: usize) -> Step
     } else if b == 121 {
         Step::Got(Value::Linear(Form { a: 0, b: 1, c: 0 }), l.next)
     } else if b == 45 {
-        turned(factor(text, l.next, depth))
+        opposed(factor(text, l.next, depth))
     } else if b == 40 {
         if depth == 0 {
             Step::Fail

@@ -4,7 +4,7 @@ use crate::Lexed;
 ghost use mathlib.Core.Path.{_≡_};
 ghost use Prim.Native.Nat.{_≤_, _<_};
 ghost use lib.ListN.{length, drop};
-ghost use Rattle.typed_rules.specs.Parser.{first, digit as digitOf};
+ghost use Rattle.language.specs.Parser.{first, digit as digitOf};
 ghost use Rattle.typed_rules.specs.Limits.{grown};
 ghost use Rattle.typed_rules.specs.Contracts.{Skips, Lexes, Runs};
 

@@ -2,8 +2,8 @@
 use mathlib.Core.Path.{sym, ap, _∙_, subst}
 use lib.Seq.{length-take-le}
 use borrow.Author.Needs.{needs}
-use Rattle.typed_rules.specs.declared.Typed.{Typed}
-use Rattle.typed_rules.specs.Parser.{answer}
+use Rattle.forms.specs.declared.Typed.{Typed}
+use Rattle.language.specs.Parser.{answer}
 use Rattle.typed_line.specs.Typed.{TypedWritten}
 use Rattle.typed_line.proofs.typed_line.Statement.{statement}
 use Rattle.typed_line.proofs.typed_line.Tie as tie

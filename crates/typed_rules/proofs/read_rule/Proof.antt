@@ -1,6 +1,6 @@
 -- `typed_rules::read_rule` meets its contract: what a text reads as: the rule, or the number of the refusal.
 use borrow.Author.Tests.{le-leb, lt-leb}
-use Rattle.typed_rules.specs.Parser.{answer}
+use Rattle.language.specs.Parser.{answer}
 use borrow.Author.Needs.{needs}
 use Rattle.typed_rules.proofs.read_rule.Statement.{statement}
 use Rattle.typed_rules.proofs.read_rule.Tie as tie

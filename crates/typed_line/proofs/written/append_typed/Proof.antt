@@ -17,7 +17,9 @@ returns-2 : tie.Need-returns-2
 unfolding typedFields
 returns-2 c =
     let line = c .before .before in
-    spelt (ap typedFields (sym (line .before .before .before .t2 .given .1))) (roomier (omega arith) (line .append-refused .ensures .fits (omega arith)))
+    spelt
+    (ap typedFields (sym (line .before .before .before .t2 .given .1)))
+    (roomier (omega arith) (line .append-refused .ensures .fits (omega arith)))
 
 pub append-typed-spec : {M : Type 1} → statement M
 append-typed-spec =

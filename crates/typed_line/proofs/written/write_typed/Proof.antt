@@ -16,7 +16,8 @@ unfolding typedLine
 returns-2 c =
     let feed = c .before .before in
     let fields = feed .before .before .before .before .before in
-    filled {room = typedRoom} (omega arith) (omega arith) (followed (fields .append-typed .ensures) (feed .append-word .ensures .fits (omega arith)))
+    let last = feed .append-word .ensures .fits (omega arith) in
+    filled {room = typedRoom} (omega arith) (omega arith) (followed (fields .append-typed .ensures) last)
 
 pub write-typed-spec : {M : Type 1} → statement M
 write-typed-spec =

@@ -7,8 +7,9 @@ use native.Mathlib.Nat.{pos-of-ne-zero}
 use native.Mathlib.Omega.{arith}
 use lib.ListN.{length}
 use borrow.Author.Needs.{needs}
-use Rattle.typed_rules.proofs.Chain.{one-factor, one-term, by-star, by-plus, by-minus}
-use Rattle.typed_rules.proofs.Places.{small-step, placed, call-same, call-next, call-first, call-more, call-both}
+use Rattle.forms.specs.Value.{sum, difference, product}
+use Rattle.language.proofs.Chain.{one-factor, one-term, by-star, by-plus, by-minus}
+use Rattle.typed_rules.proofs.Places.{small-step, placed, call-same, call-next, call-first, call-more, plainly}
 use Rattle.typed_rules.proofs.Reading.{reads-number, reads-x, reads-y, reads-minus, reads-deep, reads-group, reads-other}
 use Rattle.typed_rules.proofs.Following.{reads-whole, whole-fails, reads-joined, joined-fails, factors-stop, terms-stop}
 use mathlib.Core.List.{List}
@@ -30,12 +31,12 @@ use Rattle.typed_rules.proofs.readers.+factor+factors+side+term+terms.L
 use Rattle.typed_rules.proofs.readers.terms.Reads as terms
 use Rattle.typed_rules.proofs.readers.terms.Kinds as terms-kinds
 use Rattle.typed_rules.proofs.readers.+factor+factors+side+term+terms.Lts-terms as terms-lts
-use Rattle.typed_rules.proofs.arith.difference.Reads as difference-reads
-use Rattle.typed_rules.proofs.arith.product.Reads as product-reads
-use Rattle.typed_rules.proofs.arith.sum.Reads as sum-reads
+use Rattle.forms.proofs.difference.Reads as difference-reads
+use Rattle.forms.proofs.product.Reads as product-reads
+use Rattle.forms.proofs.sum.Reads as sum-reads
 use Rattle.typed_rules.proofs.readers.closed.Reads as closed-reads
 use Rattle.typed_rules.proofs.readers.number.Reads as number-reads
-use Rattle.typed_rules.proofs.readers.turned.Reads as turned-reads
+use Rattle.typed_rules.proofs.readers.opposed.Reads as opposed-reads
 use Rattle.typed_rules.proofs.tokens.digit.Reads as digit-reads
 use Rattle.typed_rules.proofs.tokens.lex.Reads as lex-reads
 use Rattle.typed_rules.proofs.readers.+factor+factors+side+term+terms.{statement}
@@ -83,7 +84,7 @@ pub +factor+factors+side+term+terms-spec : {M : Type 1} → statement M
     close μ-factor μ-factors μ-side μ-term μ-terms
     -- factor: a number, x, y, a minus, a parenthesis, or nothing of these
     (λ t. factor-lts.spec
-    (lex-reads.Asked, lex-reads.Learnt, digit-reads.Asked, digit-reads.Learnt, number-reads.Asked, number-reads.Learnt, factor-below t, factor.Post, turned-reads.Asked, turned-reads.Learnt, side-below t, side.Post, closed-reads.Asked, closed-reads.Learnt)
+    (lex-reads.Asked, lex-reads.Learnt, digit-reads.Asked, digit-reads.Learnt, number-reads.Asked, number-reads.Learnt, factor-below t, factor.Post, opposed-reads.Asked, opposed-reads.Learnt, side-below t, side.Post, closed-reads.Asked, closed-reads.Learnt)
     (at factor-kinds.ps μ-factor factor.Pre t) factor.Post
     (λ c κs. c .before .pre .1)
     (λ c κs. search needs)
@@ -96,7 +97,7 @@ pub +factor+factors+side+term+terms-spec : {M : Type 1} → statement M
     (λ c. reads-number (c .before .before .before .lex .ensures) (sym (c .before .before .digit .ensures) ∙ c .before .if1 .taken) (c .number .ensures))
     (λ c. reads-x (c .before .before .before .lex .ensures) (c .if2 .taken))
     (λ c. reads-y (c .before .before .before .before .lex .ensures) (c .if3 .taken))
-    (λ c. reads-minus (c .before .before .before .before .before .before .before .lex .ensures) (c .before .before .if4 .taken) (c .before .factor .ensures) (c .turned .ensures))
+    (λ c. reads-minus (c .before .before .before .before .before .before .before .lex .ensures) (c .before .before .if4 .taken) (c .before .factor .ensures) (c .opposed .ensures))
     (λ c. reads-deep (c .before .before .before .before .before .before .before .lex .ensures) (c .before .if5 .taken) (c .if6 .taken))
     (λ c. reads-group (c .before .before .before .before .before .before .before .before .before .lex .ensures) (c .before .before .before .if5 .taken) (c .before .before .if6 .left) (c .before .side .ensures) (c .closed .ensures))
     (λ c. reads-other (c .before .before .before .before .before .before .lex .ensures) (sym (c .before .before .before .before .before .digit .ensures) ∙ c .before .before .before .before .if1 .left) (c .before .before .before .if2 .left) (c .before .before .if3 .left) (c .before .if4 .left) (c .if5 .left)))
@@ -107,10 +108,10 @@ pub +factor+factors+side+term+terms-spec : {M : Type 1} → statement M
     (λ c κs. c .before .pre .1 .high)
     (λ c κs. call-next 0 (c .before .before .lex .ensures) (c .before .before .before .before .pre .0) (omega (arith, c .if1 .taken)) (omega arith))
     (λ c. search needs)
-    (λ c κs. call-both (c .before .before .before .before .before .before .before .before .args .text .now) (suc (c .before .before .before .before .before .before .lex .result .next)) (c .before .before .before .before .before .before .before .before .pre .1 .small) (c .before .w .given .1) (c .before .before .before .factor .ensures .moved))
+    (λ c κs. search needs)
     (λ c κs. call-more (c .before .before .before .before .before .before .before .lex .ensures) (c .before .before .w .given .1) (c .before .before .before .before .factor .ensures .moved) (c .before .before .before .before .before .before .before .before .before .pre .0) (omega (arith, c .before .before .before .before .before .if1 .taken)) (c .product .ensures .small))
     (λ c. search needs)
-    (λ c. reads-joined by-star (c .before .before .before .before .before .before .before .before .lex .ensures) (c .before .before .before .before .before .before .if1 .taken) (c .before .before .before .w .given .1) (c .before .before .before .before .before .factor .ensures) (c .before .product .ensures .same) (c .factors .ensures))
+    (λ c. reads-joined by-star (c .before .before .before .before .before .before .before .before .lex .ensures) (c .before .before .before .before .before .before .if1 .taken) (c .before .before .before .w .given .1) (c .before .before .before .before .before .factor .ensures) (plainly product (c .before .before .before .before .before .before .before .before .before .before .args .text .now) (suc (c .before .before .before .before .before .before .before .before .lex .result .next)) (c .before .before .before .before .before .before .before .before .before .before .pre .1 .small) (c .before .before .before .w .given .1) (c .before .before .before .before .before .factor .ensures .moved) (c .before .product .ensures .same)) (c .factors .ensures))
     (λ c. joined-fails by-star (c .before .before .before .before .before .lex .ensures) (c .before .before .before .if1 .taken) (c .enum-told .given .1) (c .before .before .factor .ensures))
     (λ c. factors-stop (c .before .before .lex .ensures) (c .if1 .left) (c .before .before .before .before .pre .1)))
     -- side: a term and what follows
@@ -136,16 +137,16 @@ pub +factor+factors+side+term+terms-spec : {M : Type 1} → statement M
     (λ c κs. c .before .pre .1 .high)
     (λ c κs. call-next 1 (c .before .before .lex .ensures) (c .before .before .before .before .pre .0) (omega (arith, c .if1 .taken)) (omega arith))
     (λ c. search needs)
-    (λ c κs. call-both (c .before .before .before .before .before .before .before .before .args .text .now) (suc (c .before .before .before .before .before .before .lex .result .next)) (c .before .before .before .before .before .before .before .before .pre .1 .small) (c .before .w .given .1) (c .before .before .before .term .ensures .moved))
+    (λ c κs. search needs)
     (λ c κs. call-more (c .before .before .before .before .before .before .before .lex .ensures) (c .before .before .w .given .1) (c .before .before .before .before .term .ensures .moved) (c .before .before .before .before .before .before .before .before .before .pre .0) (omega (arith, c .before .before .before .before .before .if1 .taken)) (c .sum .ensures .small))
     (λ c. search needs)
     (λ c κs. call-next 1 (c .before .before .before .before .lex .ensures) (c .before .before .before .before .before .before .pre .0) (omega (arith, c .if2 .taken)) (omega arith))
     (λ c. search needs)
-    (λ c κs. call-both (c .before .before .before .before .before .before .before .before .before .before .args .text .now) (suc (c .before .before .before .before .before .before .before .before .lex .result .next)) (c .before .before .before .before .before .before .before .before .before .before .pre .1 .small) (c .before .w2 .given .1) (c .before .before .before .term2 .ensures .moved))
+    (λ c κs. search needs)
     (λ c κs. call-more (c .before .before .before .before .before .before .before .before .before .lex .ensures) (c .before .before .w2 .given .1) (c .before .before .before .before .term2 .ensures .moved) (c .before .before .before .before .before .before .before .before .before .before .before .pre .0) (omega (arith, c .before .before .before .before .before .if2 .taken)) (c .difference .ensures .small))
     (λ c. search needs)
-    (λ c. reads-joined by-plus (c .before .before .before .before .before .before .before .before .lex .ensures) (c .before .before .before .before .before .before .if1 .taken) (c .before .before .before .w .given .1) (c .before .before .before .before .before .term .ensures) (c .before .sum .ensures .same) (c .terms .ensures))
+    (λ c. reads-joined by-plus (c .before .before .before .before .before .before .before .before .lex .ensures) (c .before .before .before .before .before .before .if1 .taken) (c .before .before .before .w .given .1) (c .before .before .before .before .before .term .ensures) (plainly sum (c .before .before .before .before .before .before .before .before .before .before .args .text .now) (suc (c .before .before .before .before .before .before .before .before .lex .result .next)) (c .before .before .before .before .before .before .before .before .before .before .pre .1 .small) (c .before .before .before .w .given .1) (c .before .before .before .before .before .term .ensures .moved) (c .before .sum .ensures .same)) (c .terms .ensures))
     (λ c. joined-fails by-plus (c .before .before .before .before .before .lex .ensures) (c .before .before .before .if1 .taken) (c .enum-told .given .1) (c .before .before .term .ensures))
-    (λ c. reads-joined by-minus (c .before .before .before .before .before .before .before .before .before .before .lex .ensures) (c .before .before .before .before .before .before .if2 .taken) (c .before .before .before .w2 .given .1) (c .before .before .before .before .before .term2 .ensures) (c .before .difference .ensures .same) (c .terms2 .ensures))
+    (λ c. reads-joined by-minus (c .before .before .before .before .before .before .before .before .before .before .lex .ensures) (c .before .before .before .before .before .before .if2 .taken) (c .before .before .before .w2 .given .1) (c .before .before .before .before .before .term2 .ensures) (plainly difference (c .before .before .before .before .before .before .before .before .before .before .before .before .args .text .now) (suc (c .before .before .before .before .before .before .before .before .before .before .lex .result .next)) (c .before .before .before .before .before .before .before .before .before .before .before .before .pre .1 .small) (c .before .before .before .w2 .given .1) (c .before .before .before .before .before .term2 .ensures .moved) (c .before .difference .ensures .same)) (c .terms2 .ensures))
     (λ c. joined-fails by-minus (c .before .before .before .before .before .before .before .lex .ensures) (c .before .before .before .if2 .taken) (c .enum-told2 .given .1) (c .before .before .term2 .ensures))
     (λ c. terms-stop (c .before .before .before .before .lex .ensures) (c .before .before .if1 .left) (c .if2 .left) (c .before .before .before .before .before .before .pre .1)))

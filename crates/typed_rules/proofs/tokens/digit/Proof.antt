@@ -2,7 +2,7 @@
 use mathlib.Core.Path.{refl}
 use lib.Dec.{leb}
 use borrow.Author.Tests.{le-leb, lt-leb}
-use Rattle.typed_rules.proofs.Values.{and-last, and-first}
+use Rattle.forms.proofs.Values.{and-last, and-first}
 use Rattle.typed_rules.proofs.tokens.digit.Statement.{statement}
 use Rattle.typed_rules.proofs.tokens.digit.Tie as tie
 

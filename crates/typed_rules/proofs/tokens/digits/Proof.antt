@@ -4,7 +4,8 @@ use mathlib.Core.Path.{sym, _∙_}
 use Prim.Native.Nat.{_-_}
 use lib.ListN.{length}
 use borrow.Author.Needs.{needs}
-use Rattle.typed_rules.proofs.Bytes.{Running, run-start, run-more, run-stop, run-end, digit-range}
+use Rattle.language.proofs.Digits.{digit-range}
+use Rattle.typed_rules.proofs.Bytes.{Running, run-start, run-more, run-stop, run-end}
 use Rattle.typed_rules.proofs.tokens.digits.Statement.{statement}
 use Rattle.typed_rules.proofs.tokens.digits.Tie as tie
 

@@ -2,7 +2,7 @@
 use mathlib.Core.Path.{ap}
 use Prim.Native.Nat.{ℕ, _+_, _*_}
 use borrow.Author.Tests.{le-leb, lt-leb}
-use Rattle.typed_rules.specs.Value.{limit}
+use Rattle.forms.specs.Value.{limit}
 use borrow.Author.Needs.{needs}
 use Rattle.typed_rules.proofs.tokens.grow.Statement.{statement}
 use Rattle.typed_rules.proofs.tokens.grow.Tie as tie

@@ -1,7 +1,0 @@
--- `typed_rules::arith::cross` meets its contract: p·q + s·t.
-use Rattle.ints.proofs.Machine.{sizes}
-use Rattle.typed_rules.proofs.arith.cross.Statement.{statement}
-use Rattle.typed_rules.proofs.arith.cross.Tie as tie
-
-pub cross-spec : {M : Type 1} → statement M
-cross-spec = tie.close (tie.spec (λ c. search sizes depth 8) (λ c. search sizes depth 8) (λ c. search sizes depth 8) (λ c. search sizes depth 8))

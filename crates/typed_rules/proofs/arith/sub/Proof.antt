@@ -1,7 +1,0 @@
--- `typed_rules::arith::sub` meets its contract.
-use Rattle.ints.proofs.Machine.{sizes}
-use Rattle.typed_rules.proofs.arith.sub.Statement.{statement}
-use Rattle.typed_rules.proofs.arith.sub.Tie as tie
-
-pub sub-spec : {M : Type 1} → statement M
-sub-spec = tie.close (tie.spec (λ c. search sizes depth 8) (λ c. search sizes depth 8))
