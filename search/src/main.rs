@@ -79,10 +79,18 @@ fn setting(name: &str, otherwise: u64) -> Result<u64, String> {
     }
 }
 
+/// A number of books from the environment. A run that tests nothing must not pass, so that 0 is refused.
+fn count(name: &str, otherwise: u64) -> Result<u64, String> {
+    match setting(name, otherwise)? {
+        0 => Err(format!("{name} is 0: a run without such books would test nothing")),
+        n => Ok(n),
+    }
+}
+
 /// Runs a part with its number of books from the environment, and says how many there were and how long it took.
 fn timed(name: &str, otherwise: u64, part: impl FnOnce(u64) -> Result<u64, String>) -> Result<String, String> {
     let start = Instant::now();
-    Ok(format!("{} ({:.1} s)", part(setting(name, otherwise)?)?, start.elapsed().as_secs_f64()))
+    Ok(format!("{} ({:.1} s)", part(count(name, otherwise)?)?, start.elapsed().as_secs_f64()))
 }
 
 fn look() -> Result<(), String> {
