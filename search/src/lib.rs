@@ -1,9 +1,10 @@
 //! Tests of the planner from outside. Books are made at random or from a table (`book`, `families`, `damage`, `stored`), read again by an
-//! independent reader (`read`), searched exhaustively (`exact`, `prefixes`), and the planner's line is judged (`judge`), as
-//! are the lines of the panel (`panel`).
+//! independent reader (`read`), searched exhaustively (`exact`, `prefixes`) or, where they are long, by cutting lines (`clip`), and the
+//! planner's line is judged (`judge`), as are the lines of the panel (`panel`).
 //! Nothing here shares a step with the planner: no walk, no incremental state, 128-bit integers throughout.
 
 pub mod book;
+pub mod clip;
 pub mod damage;
 pub mod exact;
 pub mod families;

@@ -8,7 +8,7 @@ use search::book::from_hex;
 use search::judge::expected;
 use search::panel;
 use search::planner;
-use search::prefixes::Depth;
+use search::prefixes::Way;
 use search::program::program;
 use search::runs::{damaged_books, orders, random_books, stored_books, Tally};
 use std::process::ExitCode;
@@ -41,7 +41,7 @@ fn run(seed: u64) -> Result<(), String> {
     let mut tally = Tally::default();
     let stored = stored_books(&mut tally)?;
     let short = timed("SHORT", 200_000, |n| random_books(&mut tally, seed, n, 12, 12))?;
-    let long = timed("LONG", 1_200, |n| random_books(&mut tally, seed ^ 1 << 61, n, 255, 80))?;
+    let long = timed("LONG", 4_000, |n| random_books(&mut tally, seed ^ 1 << 61, n, 255, 40))?;
     let damaged = timed("DAMAGED", 20_000, |n| damaged_books(&mut tally, seed ^ 1 << 62, n))?;
     let shuffled = timed("ORDERS", 1_000, |n| orders(seed ^ 1 << 63, n))?;
     let panels = timed("PANELS", 20_000, |n| panel::panels(seed ^ 1 << 60, n))?;
@@ -97,7 +97,7 @@ fn look() -> Result<(), String> {
     for row in std::io::stdin().lines() {
         let row = row.map_err(|e| e.to_string())?;
         let book = from_hex(row.trim_matches('-')).ok_or("not hexadecimal")?;
-        let right = expected(&book, Depth::Every);
+        let right = expected(&book, Way::Anew);
         let line = planner::line(&book)?;
         let verdict = right.judge(&line).map_or_else(|why| why, |()| "right".into());
         println!("{}\t{}\t{verdict}", right.shown(), String::from_utf8_lossy(&line).trim_end());

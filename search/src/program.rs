@@ -1,7 +1,7 @@
 //! The programs' own path: a book on standard input, in pieces, and what is printed on standard output; the plan program's lines judged.
 
 use crate::families::hundred_books;
-use crate::prefixes::Depth;
+use crate::prefixes::Way;
 use crate::random::Random;
 use crate::runs::try_line;
 use crate::stored;
@@ -23,7 +23,7 @@ pub fn program(path: &str, seed: u64) -> Result<u64, String> {
     let mut random = Random::new(seed);
     let books = inputs(&mut random);
     for (name, book) in &books {
-        try_line(name, book, Depth::Every, printed(path, book, random.below(book.len() + 1)))?;
+        try_line(name, book, Way::Anew, printed(path, book, random.below(book.len() + 1)))?;
     }
     Ok(books.len() as u64)
 }

@@ -5,7 +5,7 @@ use crate::damage::damage;
 use crate::families::source;
 use crate::judge::expected;
 use crate::planner;
-use crate::prefixes::Depth;
+use crate::prefixes::Way;
 use crate::random::Random;
 use crate::read::read;
 use crate::stored;
@@ -39,13 +39,13 @@ impl fmt::Display for Tally {
 }
 
 /// Plans a book, judges the line, and gives the right one.
-fn try_book(name: &str, book: &[u8], depth: Depth) -> Result<String, String> {
-    try_line(name, book, depth, planner::line(book))
+fn try_book(name: &str, book: &[u8], way: Way) -> Result<String, String> {
+    try_line(name, book, way, planner::line(book))
 }
 
 /// Judges what was printed for a book, and gives the right line.
-pub fn try_line(name: &str, book: &[u8], depth: Depth, line: Result<Vec<u8>, String>) -> Result<String, String> {
-    let right = expected(book, depth);
+pub fn try_line(name: &str, book: &[u8], way: Way, line: Result<Vec<u8>, String>) -> Result<String, String> {
+    let right = expected(book, way);
     let printed = line.as_ref().map_or("nothing".into(), |line| String::from_utf8_lossy(line).trim_end().to_string());
     line.and_then(|line| right.judge(&line)).map_err(|why| {
         format!("mismatch: {name}: {why}\nbook    {}\nright   {}\nprinted {printed}", to_hex(book), right.shown())
@@ -57,7 +57,7 @@ pub fn try_line(name: &str, book: &[u8], depth: Depth, line: Result<Vec<u8>, Str
 pub fn stored_books(tally: &mut Tally) -> Result<u64, String> {
     let books = stored::books();
     for s in &books {
-        let right = try_book(s.name, &s.book, Depth::Every)?;
+        let right = try_book(s.name, &s.book, Way::Anew)?;
         if right != s.line {
             return Err(format!("mismatch: {}: stored {}, searched {right}\nbook    {}", s.name, s.line, to_hex(&s.book)));
         }
@@ -66,9 +66,9 @@ pub fn stored_books(tally: &mut Tally) -> Result<u64, String> {
     Ok(books.len() as u64)
 }
 
-/// Random books of up to `most` rules, one in four nearly as long as that, one in six damaged. Every prefix is searched of those
-/// with up to `every` rules and of one in forty of the others.
-pub fn random_books(tally: &mut Tally, seed: u64, books: u64, most: usize, every: usize) -> Result<u64, String> {
+/// Random books of up to `most` rules, one in four nearly as long as that, one in six damaged. Every prefix is searched anew of those with
+/// up to `anew` rules and of one in a hundred of the others, and in one pass of all others.
+pub fn random_books(tally: &mut Tally, seed: u64, books: u64, most: usize, anew: usize) -> Result<u64, String> {
     let mut random = Random::new(seed);
     for i in 0..books {
         let n = if random.one_in(4) { most - random.below(most / 12 + 1) } else { random.below(most + 1) };
@@ -78,8 +78,8 @@ pub fn random_books(tally: &mut Tally, seed: u64, books: u64, most: usize, every
         if random.one_in(6) {
             damage(&mut random, &mut book);
         }
-        let depth = if n <= every || i % 40 == 0 { Depth::Every } else { Depth::Whole };
-        tally.count(&try_book(name, &book, depth)?);
+        let way = if n <= anew || i % 100 == 0 { Way::Anew } else { Way::OnePass };
+        tally.count(&try_book(name, &book, way)?);
     }
     Ok(books)
 }
@@ -91,7 +91,7 @@ pub fn damaged_books(tally: &mut Tally, seed: u64, books: u64) -> Result<u64, St
     while tried < books {
         let (name, book) = damaged_book(&mut random);
         if read(&book).is_err() {
-            tally.count(&try_book(name, &book, Depth::Whole)?);
+            tally.count(&try_book(name, &book, Way::OnePass)?);
             tried += 1;
         }
     }
