@@ -24,9 +24,7 @@ pub fn each(p: i128, q: i128, rules: &[Line]) -> Vec<Outcome> {
     let entries: Vec<Line> = FLOORS.iter().chain(rules).copied().collect();
     let corners: Vec<Life<Pair>> = (0..entries.len()).flat_map(|i| corners_on(&entries, i)).collect();
     let directions = directions(p, q, rules);
-    (FLOORS.len()..=entries.len())
-        .map(|m| chosen(p, q, &alive(&corners, m).collect::<Vec<_>>(), alive(&directions, m)))
-        .collect()
+    (FLOORS.len()..=entries.len()).map(|m| chosen(p, q, &alive(&corners, m).collect::<Vec<_>>(), alive(&directions, m))).collect()
 }
 
 /// What a prefix of m entries has.

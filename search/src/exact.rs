@@ -75,11 +75,12 @@ pub fn start(rules: &[Line]) -> Option<Pair> {
     corners(&entries).iter().min_by(|v, w| by_place(v, w)).map(reduced)
 }
 
-/// Every pair where two entries meet and that keeps all entries.
+/// Every pair where two entries meet and that keeps all entries. In long chains the last rules are often the tightest, so that they are
+/// asked first.
 fn corners(entries: &[Line]) -> Vec<Pair> {
     let pairs = entries.iter().enumerate().flat_map(|(i, h)| entries[..i].iter().map(move |k| (h, k)));
     let meetings = pairs.filter_map(|(h, k)| meeting(h, k));
-    meetings.filter(|v| entries.iter().all(|e| e.kept_by(v))).collect()
+    meetings.filter(|v| entries.iter().rev().all(|e| e.kept_by(v))).collect()
 }
 
 /// Where two lines meet, by Cramer's rule.
@@ -118,9 +119,7 @@ pub fn gains(p: i128, q: i128, (dx, dy): (i128, i128)) -> bool {
 
 /// The direction with the smallest slope, divided by its greatest common divisor.
 fn least_steep(directions: impl Iterator<Item = (i128, i128)>) -> Option<(i128, i128)> {
-    directions
-        .min_by(|d, e| (d.1 * e.0).cmp(&(e.1 * d.0)))
-        .map(|(dx, dy)| (dx / divisor(dx, dy), dy / divisor(dx, dy)))
+    directions.min_by(|d, e| (d.1 * e.0).cmp(&(e.1 * d.0))).map(|(dx, dy)| (dx / divisor(dx, dy), dy / divisor(dx, dy)))
 }
 
 fn reduced(v: &Pair) -> Pair {

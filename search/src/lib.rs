@@ -1,7 +1,8 @@
 //! Tests of the planner from outside. Books are made at random or from a table (`book`, `families`, `damage`, `stored`), read again by an
 //! independent reader (`read`), searched exhaustively (`exact`, `prefixes`) or, where they are long, by cutting lines (`clip`), and the
 //! planner's line is judged (`judge`), as are the lines of the panel (`panel`).
-//! Nothing here shares a step with the planner: no walk, no incremental state, 128-bit integers throughout.
+//! Nothing here shares a step with the planner: no walk, no pair carried from one prefix to the next, 128-bit integers
+//! throughout.
 
 pub mod book;
 pub mod clip;
@@ -9,6 +10,7 @@ pub mod damage;
 pub mod exact;
 pub mod families;
 pub mod judge;
+pub mod long;
 pub mod panel;
 pub mod planner;
 pub mod prefixes;

@@ -23,7 +23,7 @@ pub fn program(path: &str, seed: u64) -> Result<u64, String> {
     let mut random = Random::new(seed);
     let books = inputs(&mut random);
     for (name, book) in &books {
-        try_line(name, book, Way::Anew, printed(path, book, random.below(book.len() + 1)))?;
+        try_line(name, book, Way::OnePass, printed(path, book, random.below(book.len() + 1)))?;
     }
     Ok(books.len() as u64)
 }
