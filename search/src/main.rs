@@ -1,5 +1,5 @@
 //! `search` plans stored and random books, judges each line and ends with one summary line; a mismatch prints the book in hexadecimal with
-//! both lines and fails. The environment's SEED repeats a run; SHORT, LONG, DAMAGED, ORDERS, PANELS and STARTS say how many books.
+//! both lines and fails. The environment's SEED repeats a run; SHORT, LONG, BUSY, DAMAGED, ORDERS, PANELS and STARTS say how many books.
 //! `search program PATH` runs the plan program on stored and some random books.
 //! `search panel PATH` runs the panel program likewise.
 //! `search look` reads books in hexadecimal, one a line, and prints for each the right line, the planner's and the verdict.
@@ -10,7 +10,7 @@ use search::panel;
 use search::planner;
 use search::prefixes::Way;
 use search::program::program;
-use search::runs::{damaged_books, orders, random_books, stored_books, Tally};
+use search::runs::{busy_books, damaged_books, orders, random_books, stored_books, Tally};
 use std::process::ExitCode;
 use std::time::{Instant, SystemTime, UNIX_EPOCH};
 
@@ -42,12 +42,13 @@ fn run(seed: u64) -> Result<(), String> {
     let stored = stored_books(&mut tally)?;
     let short = timed("SHORT", 200_000, |n| random_books(&mut tally, seed, n, 12, 12))?;
     let long = timed("LONG", 4_000, |n| random_books(&mut tally, seed ^ 1 << 61, n, 255, 40))?;
+    let busy = timed("BUSY", 1_000, |n| busy_books(&mut tally, seed ^ 1 << 58, n))?;
     let damaged = timed("DAMAGED", 20_000, |n| damaged_books(&mut tally, seed ^ 1 << 62, n))?;
     let shuffled = timed("ORDERS", 1_000, |n| orders(seed ^ 1 << 63, n))?;
     let panels = timed("PANELS", 20_000, |n| panel::panels(seed ^ 1 << 60, n))?;
     let starts = timed("STARTS", 20_000, |n| starts(seed ^ 1 << 59, n))?;
     println!(
-        "search: all right: {stored} stored books, {short} of 0 to 12 rules, {long} of 0 to 255, {damaged} damaged ({tally}), \
+        "search: all right: {stored} stored books, {short} of 0 to 12 rules, {long} of 0 to 255, {busy} busy ones of 200 to 255, {damaged} damaged ({tally}), \
          {shuffled} in ten orders, {panels} panels, {starts} start pairs; SEED={seed}"
     );
     Ok(())

@@ -2,7 +2,7 @@
 
 use crate::book::{to_hex, Source, MOST_RULES, RECORD};
 use crate::damage::damage;
-use crate::families::source;
+use crate::families::{busy_source, source};
 use crate::judge::expected;
 use crate::planner;
 use crate::prefixes::Way;
@@ -80,6 +80,17 @@ pub fn random_books(tally: &mut Tally, seed: u64, books: u64, most: usize, anew:
         }
         let way = if n <= anew || i % 100 == 0 { Way::Anew } else { Way::OnePass };
         tally.count(&try_book(name, &book, way)?);
+    }
+    Ok(books)
+}
+
+/// Books of 200 to 255 rules whose counts are as great as they can be, or nearly.
+pub fn busy_books(tally: &mut Tally, seed: u64, books: u64) -> Result<u64, String> {
+    let mut random = Random::new(seed);
+    for _ in 0..books {
+        let n = MOST_RULES - random.below(56);
+        let (name, source) = busy_source(&mut random, n);
+        tally.count(&try_book(name, &source.scattered(3, &mut random), Way::OnePass)?);
     }
     Ok(books)
 }
