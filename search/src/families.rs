@@ -48,8 +48,8 @@ pub fn source(random: &mut Random, n: usize) -> (&'static str, Source) {
     (name, Source { p: p as i16, q: q as i16, rules })
 }
 
-/// A random source whose counts are as great as n rules can make them, or nearly: each rule moves the best pair, or each prefix is open; in
-/// one in three the last rules bound what was open or contradict each other.
+/// A random source whose counts are as great as n rules can make them, or nearly: each rule moves the best pair, or each prefix is open.
+/// In one of three the last rules bound what was open or contradict each other.
 pub fn busy_source(random: &mut Random, n: usize) -> (&'static str, Source) {
     let (name, mut rules, (p, q)) = match random.below(3) {
         0 => ("tangents, all moving", tangents(random, n), (-1, 0)),

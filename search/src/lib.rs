@@ -17,6 +17,7 @@ pub mod prefixes;
 pub mod program;
 pub mod random;
 pub mod read;
+pub mod repack;
 pub mod runs;
 #[cfg(not(feature = "standin"))]
 pub mod starts;

@@ -2,6 +2,7 @@
 //! both lines and fails. The environment's SEED repeats a run; SHORT, LONG, BUSY, DAMAGED, ORDERS, PANELS and STARTS say how many books.
 //! `search program PATH` runs the plan program on stored and some random books.
 //! `search panel PATH` runs the panel program likewise.
+//! `search repack PATH` puts stored books and REPACKS random ones through the program of the reader and the repacker.
 //! `search look` reads books in hexadecimal, one a line, and prints for each the right line, the planner's and the verdict.
 
 use search::book::from_hex;
@@ -10,6 +11,7 @@ use search::panel;
 use search::planner;
 use search::prefixes::Way;
 use search::program::program;
+use search::repack::repacks;
 use search::runs::{busy_books, damaged_books, orders, random_books, stored_books, Tally};
 use std::process::ExitCode;
 use std::time::{Instant, SystemTime, UNIX_EPOCH};
@@ -20,8 +22,9 @@ fn main() -> ExitCode {
         [] => seed().and_then(run),
         ["program", path] => seed().and_then(|seed| run_program(path, seed)),
         ["panel", path] => seed().and_then(|seed| run_panel(path, seed)),
+        ["repack", path] => seed().and_then(|seed| run_repack(path, seed)),
         ["look"] => look(),
-        _ => Err("usage: search [look | program PATH | panel PATH]".into()),
+        _ => Err("usage: search [look | program PATH | panel PATH | repack PATH]".into()),
     };
     if let Err(message) = &result {
         eprintln!("{message}");
@@ -48,8 +51,8 @@ fn run(seed: u64) -> Result<(), String> {
     let panels = timed("PANELS", 20_000, |n| panel::panels(seed ^ 1 << 60, n))?;
     let starts = timed("STARTS", 20_000, |n| starts(seed ^ 1 << 59, n))?;
     println!(
-        "search: all right: {stored} stored books, {short} of 0 to 12 rules, {long} of 0 to 255, {busy} busy ones of 200 to 255, {damaged} damaged ({tally}), \
-         {shuffled} in ten orders, {panels} panels, {starts} start pairs; SEED={seed}"
+        "search: all right: {stored} stored books, {short} of 0 to 12 rules, {long} of 0 to 255, {busy} busy ones of 200 to 255, \
+         {damaged} damaged ({tally}), {shuffled} in ten orders, {panels} panels, {starts} start pairs; SEED={seed}"
     );
     Ok(())
 }
@@ -61,6 +64,11 @@ fn run_program(path: &str, seed: u64) -> Result<(), String> {
 
 fn run_panel(path: &str, seed: u64) -> Result<(), String> {
     println!("search: all right: {} books through the panel program", panel::program(path, seed)?);
+    Ok(())
+}
+
+fn run_repack(path: &str, seed: u64) -> Result<(), String> {
+    println!("search: all right: {} through the reader and the repacker", repacks(path, seed, count("REPACKS", 20_000)?)?);
     Ok(())
 }
 

@@ -1,4 +1,5 @@
-//! The panel: how far the best pair is from each rule, by the search's own arithmetic, against the library's lines and the panel program's.
+//! The panel: how far the best pair is from each rule, by the search's own arithmetic, against the library's lines and the panel
+//! program's.
 
 use crate::book::{to_hex, Rule, Source, MOST_RULES};
 use crate::damage::damage;

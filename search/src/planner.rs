@@ -28,8 +28,8 @@ mod linked {
     }
 }
 
-/// What is seen of the start pair: of a refused book its number and record, and its buffer stays as it was; else the pair after the prefix or none, and
-/// how many rules broke it.
+/// What is seen of the start pair: of a refused book its number and record, and its buffer stays as it was; else the pair after the prefix
+/// or none, and how many rules broke it.
 #[cfg(not(feature = "standin"))]
 #[derive(Debug, PartialEq)]
 pub enum Seen {

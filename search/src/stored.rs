@@ -1,6 +1,6 @@
 //! Stored books with the line each must print, the witness as *: class examples, students' slips, edges, and every cause that turns a
-//! book back, but the repacker's 11, on both sides of its boundary. By Cramer's rule no corner has an X or Y above 2·32,767·10⁹; books below
-//! reach it, one of them with the greatest D after division, 32,767·65,533.
+//! book back, but the repacker's 11, on both sides of its boundary. By Cramer's rule no corner has an X or Y above 65,534·10⁹;
+//! books below reach it, one of them with the greatest D after division, 32,767·65,533.
 
 use crate::book::{from_hex, Rule, Source};
 use crate::long;
