@@ -27,6 +27,13 @@ pub fn each(p: i128, q: i128, rules: &[Line]) -> Vec<Outcome> {
     (FLOORS.len()..=entries.len()).map(|m| chosen(p, q, &alive(&corners, m).collect::<Vec<_>>(), alive(&directions, m))).collect()
 }
 
+/// The outcome of all rules together.
+pub fn whole(p: i128, q: i128, rules: &[Line]) -> Outcome {
+    let entries: Vec<Line> = FLOORS.iter().chain(rules).copied().collect();
+    let corners: Vec<Life<Pair>> = (0..entries.len()).flat_map(|i| corners_on(&entries, i)).collect();
+    chosen(p, q, &alive(&corners, entries.len()).collect::<Vec<_>>(), alive(&directions(p, q, rules), entries.len()))
+}
+
 /// What a prefix of m entries has.
 fn alive<T: Copy>(lives: &[Life<T>], m: usize) -> impl Iterator<Item = T> + '_ {
     lives.iter().filter(move |life| life.from <= m && m < life.until).map(|life| life.of)

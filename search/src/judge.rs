@@ -1,8 +1,9 @@
 //! Whether a printed line is right. All of it is fixed by the book but the witness, which is judged by its property.
 
 use crate::exact::{Line, Outcome, FLOORS};
+use crate::layout::{Layout, ONE};
 use crate::prefixes::{search, Way};
-use crate::read::{read, Accepted, Entry};
+use crate::read::{read_as, Accepted, Entry};
 
 /// The greatest weight of a witness.
 const HEAVIEST: i128 = 2_147_352_578;
@@ -17,9 +18,13 @@ pub struct Expected {
     witness: Option<Vec<Entry>>,
 }
 
-/// The right line by the search.
+/// The right line of a book of version 1 by the search.
 pub fn expected(book: &[u8], way: Way) -> Expected {
-    let Accepted { p, q, mut rules } = match read(book) {
+    expected_as(&ONE, book, way)
+}
+
+pub fn expected_as(layout: &Layout, book: &[u8], way: Way) -> Expected {
+    let Accepted { p, q, mut rules } = match read_as(layout, book) {
         Ok(accepted) => accepted,
         Err(r) => return Expected { head: format!("refused {} {}", r.number, r.record), counts: None, witness: None },
     };

@@ -10,6 +10,7 @@ pub mod damage;
 pub mod exact;
 pub mod families;
 pub mod judge;
+pub mod layout;
 pub mod long;
 pub mod panel;
 pub mod planner;

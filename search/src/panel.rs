@@ -2,33 +2,40 @@
 //! program's.
 
 use crate::book::{to_hex, Rule, Source, MOST_RULES};
+use crate::clip;
 use crate::damage::damage;
 use crate::exact::{divisor, outcome, Line, Outcome, Pair};
 use crate::families::source;
+use crate::layout::{Layout, ONE};
 use crate::program::{inputs, printed};
 use crate::random::Random;
-use crate::read::{read, Accepted, Entry};
+use crate::read::{read_as, Accepted, Entry};
 use crate::{planner, stored};
 
-/// What a book's panel must print: a line a rule for a best outcome, nothing for any other, and the line of a refusal.
+/// What the panel of a book of version 1 must print.
 pub fn right(book: &[u8]) -> String {
-    let Accepted { p, q, rules } = match read(book) {
+    right_as(&ONE, book)
+}
+
+/// What a book's panel must print: a line a rule for a best outcome, nothing for any other, and the line of a refusal.
+pub fn right_as(layout: &Layout, book: &[u8]) -> String {
+    let Accepted { p, q, rules } = match read_as(layout, book) {
         Ok(accepted) => accepted,
         Err(r) => return format!("refused {} {}\n", r.number, r.record),
     };
     let lines: Vec<Line> = rules.iter().map(|r| r.line).collect();
-    match outcome(p, q, &lines) {
-        Outcome::Best(v) => rules.iter().map(|r| row(book, r, &v)).collect(),
+    let found = if lines.len() > MOST_RULES { clip::whole(p, q, &lines) } else { outcome(p, q, &lines) };
+    match found {
+        Outcome::Best(v) => rules.iter().map(|r| row(r, &v)).collect(),
         _ => String::new(),
     }
 }
 
 /// Label, numerator and denominator.
-fn row(book: &[u8], rule: &Entry, v: &Pair) -> String {
-    let label = usize::from(book[12 * rule.record + 6]) + 256 * usize::from(book[12 * rule.record + 7]);
+fn row(rule: &Entry, v: &Pair) -> String {
     let left = rule.line.slack(v);
     let g = divisor(left, v.d);
-    format!("{label} {} {}\n", left / g, v.d / g)
+    format!("{} {} {}\n", rule.label, left / g, v.d / g)
 }
 
 /// Objective, rules (kind, a, b, c), labelled from 101 on, and the panel.
@@ -102,7 +109,7 @@ fn random_book(random: &mut Random, i: u64) -> (&'static str, Vec<u8>) {
     let (name, source) = source(random, n);
     let mut book = source.scattered(3, random);
     if random.one_in(6) {
-        damage(random, &mut book);
+        damage(&ONE, random, &mut book);
     }
     (name, book)
 }

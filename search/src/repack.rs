@@ -1,12 +1,13 @@
 //! Reading and repacking from outside. Books go in batches to the program `book_vectors`, which says of each what it reads as and what its
 //! repacking does to an output, and both lines are compared with a repacker written here from the format's text.
 
-use crate::book::{to_hex, MOST_RULES, RECORD};
+use crate::book::{to_hex, MOST_RULES};
 use crate::damage::damage;
 use crate::families::source;
+use crate::layout::{signed, Layout, Record, ONE};
 use crate::program::printed;
 use crate::random::Random;
-use crate::read::{read, Accepted, Entry, Refused};
+use crate::read::{read_as, Accepted, Entry, Refused};
 use crate::stored;
 use std::fmt;
 
@@ -15,6 +16,10 @@ const MOST_BYTES: usize = 65_536;
 
 /// The longest output that the program lends to the repacker.
 const MOST_ROOM: usize = 4_096;
+
+/// The version of the books that the program reads, and the version that its repacker writes.
+const READ: Layout = ONE;
+const WRITTEN: Layout = ONE;
 
 /// A book, and the length of the output it is repacked into.
 struct Case {
@@ -39,46 +44,39 @@ impl fmt::Display for Tally {
     }
 }
 
-/// What repacking fills of an output of so many bytes, or why it fills nothing.
-fn repack(book: &[u8], room: usize) -> Result<Vec<u8>, Refused> {
-    let rules = read(book)?.rules;
+/// What repacking a book fills of an output of so many bytes, or why it fills nothing.
+fn repack(layout: &Layout, book: &[u8], room: usize) -> Result<Vec<u8>, Refused> {
+    let rules = read_as(layout, book)?.rules;
     let n = rules.len();
-    if room < 12 * (n + 1) {
+    if room < WRITTEN.width() * (n + 1) {
         return Err(Refused { number: 11, record: 0 });
     }
-    let mut out = vec![u8::from(n > 0), 1];
-    out.extend(&book[2..6]);
-    out.extend([n as u8, 0, 0, 0, 0, 0]);
+    let header = layout.record(book, 0);
+    let mut out = packed(usize::from(n > 0), WRITTEN.version, header.pair, &(n as u16).to_le_bytes(), &[0; 4]);
     for (place, rule) in (1..).zip(&rules) {
-        out.push(if place < n { place as u8 + 1 } else { 0 });
-        out.extend(&book[12 * rule.record + 1..12 * rule.record + 12]);
+        let Record { kind, pair, word, last, .. } = layout.record(book, rule.record);
+        out.extend(packed(if place < n { place + 1 } else { 0 }, kind, pair, word, last));
     }
     Ok(out)
 }
 
-/// A number in two's complement, low byte first.
-fn signed(bytes: &[u8]) -> i64 {
-    let size = 8 * bytes.len();
-    let n: i64 = (0..).step_by(8).zip(bytes).map(|(shift, &b)| i64::from(b) << shift).sum();
-    if n >> (size - 1) == 0 {
-        n
-    } else {
-        n - (1 << size)
-    }
+/// A record of the repacked form.
+fn packed(link: usize, kind: u8, pair: [&[u8]; 2], word: &[u8], last: &[u8]) -> Vec<u8> {
+    let (link, zeros) = (&link.to_le_bytes()[..WRITTEN.link_bytes], &[0; 8][..WRITTEN.pad_bytes]);
+    [link, &[kind], zeros, pair[0], pair[1], word, last].concat()
 }
 
 /// A rule of the chain: its record, kind, a, b, c and label, and then a, b and c as they are planned.
 fn shown_rule(book: &[u8], rule: &Entry) -> String {
-    let r = &book[12 * rule.record..12 * (rule.record + 1)];
-    let (a, b, c) = (signed(&r[2..4]), signed(&r[4..6]), signed(&r[8..12]));
-    let label = u16::from_le_bytes(rule.label);
-    let line = &rule.line;
-    format!(" | {} {} {a} {b} {c} {label} as {} {} {}", rule.record, r[1], line.a, line.b, line.c)
+    let record = READ.record(book, rule.record);
+    let ([a, b], c) = (record.pair.map(signed), signed(record.last));
+    let Entry { line, record: index, label } = rule;
+    format!(" | {index} {} {a} {b} {c} {label} as {} {} {}", record.kind, line.a, line.b, line.c)
 }
 
 /// What a book reads as.
 fn shown_reading(book: &[u8]) -> String {
-    match read(book) {
+    match read_as(&READ, book) {
         Err(Refused { number, record }) => format!("refused {number} {record}"),
         Ok(Accepted { p, q, rules }) => {
             let chain: String = rules.iter().map(|r| shown_rule(book, r)).collect();
@@ -90,7 +88,7 @@ fn shown_reading(book: &[u8]) -> String {
 /// The two lines that the program must print for a case.
 fn right(case: &Case, tally: &mut Tally) -> [String; 2] {
     let reading = format!("{} {}", case.name, shown_reading(&case.book));
-    let (count, packed) = match repack(&case.book, case.room) {
+    let (count, packed) = match repack(&READ, &case.book, case.room) {
         Ok(out) => (&mut tally.repacked, format!("0 0 {} {}", out.len(), to_hex(&out))),
         Err(Refused { number: 11, record }) => (&mut tally.without_room, format!("11 {record} 0 ")),
         Err(Refused { number, record }) => (&mut tally.refused, format!("{number} {record} 0 ")),
@@ -134,14 +132,13 @@ fn random_case(random: &mut Random) -> Case {
     let most = if random.one_in(16) { MOST_RULES } else { 12 };
     let n = random.below(most + 1);
     let (name, source) = source(random, n);
+    let need = WRITTEN.width() * (n + 1);
     let spare = random.pick(&[0, 3, 9, MOST_RULES]);
-    let mut book = if random.one_in(4) { source.packed() } else { source.scattered(spare, random) };
+    let mut book = if random.one_in(4) { source.packed_as(&READ) } else { source.scattered_as(&READ, spare, random) };
     for _ in 0..random.pick(&[0, 0, 0, 1, 2]) {
-        if book.len() >= RECORD {
-            damage(random, &mut book);
-        }
+        damage(&READ, random, &mut book);
     }
-    let (need, any) = (RECORD * (n + 1), random.below(MOST_ROOM + 1));
+    let any = random.below(MOST_ROOM + 1);
     let room = random.pick(&[need, need, need + 1, need - 1, MOST_ROOM, 0, any]);
     Case { name, book, room }
 }
@@ -179,31 +176,27 @@ fn fitting(cases: &[Case]) -> usize {
 #[cfg(test)]
 mod tests {
     use super::*;
+    use crate::layout::TWO;
 
     #[test]
     fn a_repacked_book_is_its_own_repacked_form() {
         let mut random = Random::new(1);
         let books = (0..2_000).map(|_| random_case(&mut random).book);
-        let packed: Vec<Vec<u8>> = books.filter_map(|book| repack(&book, MOST_ROOM).ok()).collect();
+        let packed: Vec<Vec<u8>> = books.filter_map(|book| repack(&READ, &book, MOST_ROOM).ok()).collect();
         assert!(packed.len() > 1_000);
-        assert!(packed.iter().all(|book| repack(book, book.len()).as_ref() == Ok(book)));
+        assert!(packed.iter().all(|book| repack(&WRITTEN, book, book.len()).as_ref() == Ok(book)));
     }
 
     #[test]
     fn a_scattered_book_repacks_to_the_packed_one() {
         let mut random = Random::new(2);
-        for n in (0..=MOST_RULES).step_by(5) {
+        for (n, layout) in (0..=MOST_RULES).step_by(5).zip([ONE, TWO].into_iter().cycle()) {
             let (_, source) = source(&mut random, n);
-            let (packed, scattered) = (source.packed(), source.scattered(20, &mut random));
-            if read(&packed).is_ok() {
-                assert_eq!(repack(&scattered, packed.len()), Ok(packed.clone()));
-                assert_eq!(repack(&scattered, packed.len() - 1), Err(Refused { number: 11, record: 0 }));
+            let (packed, scattered) = (source.packed_as(&WRITTEN), source.scattered_as(&layout, 20, &mut random));
+            if read_as(&layout, &scattered).is_ok() {
+                assert_eq!(repack(&layout, &scattered, packed.len() - 1), Err(Refused { number: 11, record: 0 }));
+                assert_eq!(repack(&layout, &scattered, packed.len()), Ok(packed));
             }
         }
-    }
-
-    #[test]
-    fn numbers_have_their_signs() {
-        assert_eq!([&[0, 128][..], &[255, 127], &[255; 4], &[0, 202, 154, 59]].map(signed), [-32_768, 32_767, -1, 1_000_000_000]);
     }
 }

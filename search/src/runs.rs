@@ -1,9 +1,10 @@
 //! The parts of the test run. Every book is planned and its line judged; the first mismatch ends the run.
 
-use crate::book::{to_hex, Source, MOST_RULES, RECORD};
+use crate::book::{to_hex, Source, MOST_RULES};
 use crate::damage::damage;
 use crate::families::{busy_source, source};
 use crate::judge::expected;
+use crate::layout::ONE;
 use crate::planner;
 use crate::prefixes::Way;
 use crate::random::Random;
@@ -76,7 +77,7 @@ pub fn random_books(tally: &mut Tally, seed: u64, books: u64, most: usize, anew:
         let spare = random.pick(&[3, 3, 3, MOST_RULES]);
         let mut book = if random.one_in(4) { source.packed() } else { source.scattered(spare, &mut random) };
         if random.one_in(6) {
-            damage(&mut random, &mut book);
+            damage(&ONE, &mut random, &mut book);
         }
         let way = if n <= anew || i % 100 == 0 { Way::Anew } else { Way::OnePass };
         tally.count(&try_book(name, &book, way)?);
@@ -114,9 +115,7 @@ fn damaged_book(random: &mut Random) -> (&'static str, Vec<u8>) {
     let (name, source) = source(random, n);
     let mut book = source.scattered(3, random);
     for _ in 0..random.between(1, 2) {
-        if book.len() >= RECORD {
-            damage(random, &mut book);
-        }
+        damage(&ONE, random, &mut book);
     }
     (name, book)
 }

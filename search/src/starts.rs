@@ -6,6 +6,7 @@ use crate::clip;
 use crate::damage::damage;
 use crate::exact::{start, Line, Outcome, Pair};
 use crate::families::source;
+use crate::layout::ONE;
 use crate::planner::{start_after, Seen};
 use crate::random::Random;
 use crate::read::{read, Refused};
@@ -88,7 +89,7 @@ fn random_book(random: &mut Random, i: u64) -> (&'static str, Vec<u8>) {
     let (name, source) = source(random, n);
     let mut book = source.scattered(3, random);
     if i % 8 == 0 {
-        damage(random, &mut book);
+        damage(&ONE, random, &mut book);
     }
     (name, book)
 }
