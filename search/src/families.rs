@@ -1,6 +1,7 @@
 //! Random rules, one function a family: each aims at a situation that a planner gets wrong.
 
 use crate::book::{Rule, Source};
+use crate::layout::Layout;
 use crate::random::Random;
 
 type Numbers = (i64, i64, i64);
@@ -63,13 +64,23 @@ pub fn busy_source(random: &mut Random, n: usize) -> (&'static str, Source) {
 }
 
 /// A hundred books of up to 29 rules, for a program: to start one costs more than to plan.
-pub fn hundred_books(random: &mut Random) -> Vec<(&'static str, Vec<u8>)> {
+pub fn hundred_books(layout: &Layout, random: &mut Random) -> Vec<(&'static str, Vec<u8>)> {
     let mut book = || {
         let n = random.below(30);
         let (name, source) = source(random, n);
-        (name, source.scattered(9, random))
+        (name, source.scattered_as(layout, 9, random))
     };
     (0..100).map(|_| book()).collect()
+}
+
+/// The longest books of a version, for a program: some of any family, some whose counts are as great as they can be.
+pub fn longest_books(layout: &Layout, random: &mut Random) -> Vec<(&'static str, Vec<u8>)> {
+    let mut book = |i: usize| {
+        let n = layout.most_rules() - random.below(i + 1);
+        let (name, source) = if i % 2 == 0 { busy_source(random, n) } else { source(random, n) };
+        (name, source.scattered_as(layout, 9, random))
+    };
+    (0..8).map(|i| book(i)).collect()
 }
 
 /// The last rules bound what was open or contradict each other, so that much happens late.
@@ -295,7 +306,7 @@ fn open_then_closed(random: &mut Random, n: usize) -> Vec<Numbers> {
 /// Tangents of a parabola over which the least x lies, each cutting a little off.
 fn tangents(random: &mut Random, n: usize) -> Vec<Numbers> {
     let reach = n as i64 / 2 + 1;
-    let tall = random.between(reach, 300);
+    let tall = random.between(reach, reach.max(300));
     let aside = random.pick(&[0, 0, 1]);
     (0..n as i64)
         .map(|i| {
@@ -313,9 +324,9 @@ fn wedge(random: &mut Random, n: usize) -> Vec<Numbers> {
         room -= random.between(0, 45);
         let (a, b) = (random.between(1, 9), random.between(1, 9));
         if random.one_in(2) {
-            (a, b, (a + b) * (50 * n as i64 + room) * scale)
+            (a, b, ((a + b) * (50 * n as i64 + room) * scale).min(FAR))
         } else {
-            (-a, -b, -(a + b) * 50 * n as i64 * scale)
+            (-a, -b, (-(a + b) * 50 * n as i64 * scale).max(-FAR))
         }
     })
 }

@@ -1,12 +1,13 @@
 //! `search` plans stored and random books, judges each line and ends with one summary line; a mismatch prints the book in hexadecimal with
 //! both lines and fails. The environment's SEED repeats a run; SHORT, LONG, BUSY, DAMAGED, ORDERS, PANELS and STARTS say how many books.
-//! `search program PATH` runs the plan program on stored and some random books.
-//! `search panel PATH` runs the panel program likewise.
+//! `search program PATH [VERSION]` runs the plan program of a version, 1 unless it is named, on stored and some random books.
+//! `search panel PATH [VERSION]` runs the panel program likewise.
 //! `search repack PATH` puts stored books and REPACKS random ones through the program of the reader and the repacker.
 //! `search look` reads books in hexadecimal, one a line, and prints for each the right line, the planner's and the verdict.
 
 use search::book::from_hex;
 use search::judge::expected;
+use search::layout::Layout;
 use search::panel;
 use search::planner;
 use search::prefixes::Way;
@@ -20,11 +21,13 @@ fn main() -> ExitCode {
     let words: Vec<String> = std::env::args().skip(1).collect();
     let result = match &words.iter().map(String::as_str).collect::<Vec<_>>()[..] {
         [] => seed().and_then(run),
-        ["program", path] => seed().and_then(|seed| run_program(path, seed)),
-        ["panel", path] => seed().and_then(|seed| run_panel(path, seed)),
+        ["program", path] => run_program(path, "1"),
+        ["program", path, version] => run_program(path, version),
+        ["panel", path] => run_panel(path, "1"),
+        ["panel", path, version] => run_panel(path, version),
         ["repack", path] => seed().and_then(|seed| run_repack(path, seed)),
         ["look"] => look(),
-        _ => Err("usage: search [look | program PATH | panel PATH | repack PATH]".into()),
+        _ => Err("usage: search [look | program PATH [VERSION] | panel PATH [VERSION] | repack PATH]".into()),
     };
     if let Err(message) = &result {
         eprintln!("{message}");
@@ -57,13 +60,15 @@ fn run(seed: u64) -> Result<(), String> {
     Ok(())
 }
 
-fn run_program(path: &str, seed: u64) -> Result<(), String> {
-    println!("search: all right: {} books through the program", program(path, seed)?);
+fn run_program(path: &str, version: &str) -> Result<(), String> {
+    let books = program(&Layout::of_version(version)?, path, seed()?)?;
+    println!("search: all right: {books} books through the program of version {version}");
     Ok(())
 }
 
-fn run_panel(path: &str, seed: u64) -> Result<(), String> {
-    println!("search: all right: {} books through the panel program", panel::program(path, seed)?);
+fn run_panel(path: &str, version: &str) -> Result<(), String> {
+    let books = panel::program(&Layout::of_version(version)?, path, seed()?)?;
+    println!("search: all right: {books} books through the panel program of version {version}");
     Ok(())
 }
 

@@ -3,8 +3,8 @@
 use crate::book::{to_hex, Source, MOST_RULES};
 use crate::damage::damage;
 use crate::families::{busy_source, source};
-use crate::judge::expected;
-use crate::layout::ONE;
+use crate::judge::expected_as;
+use crate::layout::{Layout, ONE};
 use crate::planner;
 use crate::prefixes::Way;
 use crate::random::Random;
@@ -41,12 +41,12 @@ impl fmt::Display for Tally {
 
 /// Plans a book, judges the line, and gives the right one.
 fn try_book(name: &str, book: &[u8], way: Way) -> Result<String, String> {
-    try_line(name, book, way, planner::line(book))
+    try_line_as(&ONE, name, book, way, planner::line(book))
 }
 
-/// Judges what was printed for a book, and gives the right line.
-pub fn try_line(name: &str, book: &[u8], way: Way, line: Result<Vec<u8>, String>) -> Result<String, String> {
-    let right = expected(book, way);
+/// Judges what was printed for a book of a version, and gives the right line.
+pub fn try_line_as(layout: &Layout, name: &str, book: &[u8], way: Way, line: Result<Vec<u8>, String>) -> Result<String, String> {
+    let right = expected_as(layout, book, way);
     let printed = line.as_ref().map_or("nothing".into(), |line| String::from_utf8_lossy(line).trim_end().to_string());
     line.and_then(|line| right.judge(&line)).map_err(|why| {
         format!("mismatch: {name}: {why}\nbook    {}\nright   {}\nprinted {printed}", to_hex(book), right.shown())
