@@ -23,3 +23,4 @@ pub mod runs;
 #[cfg(not(feature = "standin"))]
 pub mod starts;
 pub mod stored;
+pub mod stored_two;

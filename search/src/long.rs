@@ -27,11 +27,11 @@ fn lengths() -> Vec<Stored> {
 
 /// Tangents of a parabola that opens to larger x, from far out towards its tip and from both sides in turn: each cuts off the corner with
 /// least x of those before it. With the objective -x every rule is a move, with the objective x every prefix is open.
-fn tangents(n: usize) -> Vec<Numbers> {
+pub fn tangents(n: usize) -> Vec<Numbers> {
     let reach = n as i32 / 2 + 1;
     let one = |i: i32| {
         let t = (reach - i / 2) * if i % 2 == 0 { -1 } else { 1 };
-        (1, -1, (2 * t) as i16, t * t + 2 * t * 1_000 - 20_000)
+        (1, -1, (2 * t) as i16, t * t + 2 * t * 1_000 - reach * reach - 3_616)
     };
     (0..n as i32).map(one).collect()
 }
@@ -42,7 +42,7 @@ fn falling(n: usize) -> Vec<Numbers> {
 }
 
 /// Rules i·x - 256·y at most i² for i from 1 on: the direction that is given becomes steeper with each.
-fn steeper(n: usize) -> Vec<Numbers> {
+pub fn steeper(n: usize) -> Vec<Numbers> {
     (1..=n as i16).map(|i| (1, i, -256, i32::from(i).pow(2))).collect()
 }
 
@@ -59,7 +59,7 @@ fn all_move() -> Vec<Stored> {
         stored("255 moves", -1, 0, &tangents(255), "best 39996 2001 2 255 0"),
         stored("254 moves, the last rule is kept", -1, 0, &one_less, "best 19996 1000 1 254 0"),
         stored("254 moves, each to a parallel rule", 1, 1, &falling(255), "best 0 9746 1 254 1"),
-        stored("251 moves", -1, 0, &tangents(251), "best 39996 2001 2 251 0"),
+        stored("251 moves", -1, 0, &tangents(251), "best 38980 2001 2 251 0"),
         stored(
             "the greatest X in the last two of 255 rules",
             1,

@@ -1,23 +1,30 @@
 //! The programs' own path: a book on standard input, in pieces, and what is printed on standard output; the plan program's lines judged.
 
 use crate::families::{hundred_books, longest_books};
-use crate::layout::{Layout, ONE};
+use crate::layout::{Layout, ONE, TWO};
 use crate::prefixes::Way;
 use crate::random::Random;
 use crate::runs::try_line_as;
-use crate::stored;
+use crate::{stored, stored_two};
 use std::io::Write;
 use std::process::{Command, Stdio};
 
 /// What every program of a version is run on: the stored books, inputs that are too long, some random books, and some of the longest.
 pub fn inputs(layout: &Layout, random: &mut Random) -> Vec<(&'static str, Vec<u8>)> {
     let mut books: Vec<(&str, Vec<u8>)> = stored::books().into_iter().map(|s| (s.name, in_version(layout, &s.book))).collect();
+    books.extend(own_books(layout));
     let longest = stored::source(0, 0, &vec![(2, 1, 1, 2); layout.most_rules()]).packed_as(layout);
     let longer = |more| ("the longest book or longer", [&longest[..], &vec![0; more]].concat());
     books.extend([0, 1, layout.width(), longest.len(), 70_000, 1_000_000].map(longer));
     books.extend(hundred_books(layout, random));
     books.extend(longest_books(layout, random));
     books
+}
+
+/// The stored books that only one version has.
+fn own_books(layout: &Layout) -> Vec<(&'static str, Vec<u8>)> {
+    let books = if *layout == TWO { stored_two::books() } else { Vec::new() };
+    books.into_iter().map(|s| (s.name, s.book)).collect()
 }
 
 /// A book of version 1 with every record as another version writes it, and with that version's number where it had its own. Bytes after
