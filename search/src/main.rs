@@ -9,11 +9,11 @@ use search::book::from_hex;
 use search::judge::expected;
 use search::layout::Layout;
 use search::panel;
-use search::planner;
+use search::planner::{self, ONE};
 use search::prefixes::Way;
 use search::program::program;
 use search::repack::repacks;
-use search::runs::{busy_books, damaged_books, orders, random_books, stored_books, Tally};
+use search::runs::{busy_books, damaged_books, orders, random_books, stored_books, Lengths, Tally};
 use std::process::ExitCode;
 use std::time::{Instant, SystemTime, UNIX_EPOCH};
 
@@ -46,11 +46,11 @@ fn seed() -> Result<u64, String> {
 fn run(seed: u64) -> Result<(), String> {
     let mut tally = Tally::default();
     let stored = stored_books(&mut tally)?;
-    let short = timed("SHORT", 200_000, |n| random_books(&mut tally, seed, n, 12, 12))?;
-    let long = timed("LONG", 4_000, |n| random_books(&mut tally, seed ^ 1 << 61, n, 255, 40))?;
-    let busy = timed("BUSY", 1_000, |n| busy_books(&mut tally, seed ^ 1 << 58, n))?;
-    let damaged = timed("DAMAGED", 20_000, |n| damaged_books(&mut tally, seed ^ 1 << 62, n))?;
-    let shuffled = timed("ORDERS", 1_000, |n| orders(seed ^ 1 << 63, n))?;
+    let short = timed("SHORT", 200_000, |n| random_books(&ONE, &mut tally, seed, n, Lengths { most: 12, anew: 12 }))?;
+    let long = timed("LONG", 4_000, |n| random_books(&ONE, &mut tally, seed ^ 1 << 61, n, Lengths { most: 255, anew: 40 }))?;
+    let busy = timed("BUSY", 1_000, |n| busy_books(&ONE, &mut tally, seed ^ 1 << 58, n))?;
+    let damaged = timed("DAMAGED", 20_000, |n| damaged_books(&ONE, &mut tally, seed ^ 1 << 62, n))?;
+    let shuffled = timed("ORDERS", 1_000, |n| orders(&ONE, seed ^ 1 << 63, n))?;
     let panels = timed("PANELS", 20_000, |n| panel::panels(seed ^ 1 << 60, n))?;
     let starts = timed("STARTS", 20_000, |n| starts(seed ^ 1 << 59, n))?;
     println!(

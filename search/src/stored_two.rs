@@ -1,5 +1,5 @@
-//! Stored books of version 2 with the line each must print, the witness as *: what version 1 does not have, and chains of 4,095 rules. They
-//! are kept as version 2 was requested first, with zeros in the header's last four bytes.
+//! Stored books of version 2 with the line each must print, the witness as *: what version 1 does not have, and chains of 4,095 rules.
+//! Version 2 is as it was requested first, with zeros in the header's last four bytes.
 
 use crate::book::{from_hex, Rule, Source};
 use crate::layout::TWO;

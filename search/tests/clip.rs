@@ -1,5 +1,6 @@
 //! The pass that cuts lines says of every chain what the exhaustive search of each prefix says.
 
+use search::book::Source;
 use search::clip;
 use search::exact::{outcome, Line};
 use search::families::{busy_source, source};
@@ -34,19 +35,23 @@ fn on_long_chains() {
     agree(4, 12, 255);
 }
 
-/// Some prefixes of a chain of 4,095 rules, planned as books of their own: short ones by the exhaustive search.
+/// Some prefixes of a chain of 4,095 rules, planned as books of their own, and a short one by the exhaustive search.
+fn prefixes_agree(name: &str, source: &Source) {
+    let book = read_as(&TWO, &source.packed_as(&TWO)).unwrap();
+    let rules: Vec<Line> = book.rules.iter().map(|r| r.line).collect();
+    let each = clip::each(book.p, book.q, &rules);
+    assert_eq!(outcome(book.p, book.q, &rules[..200]), each[200], "{name}");
+    for k in [0, 1, 2, 256, 1_000, 4_094, 4_095] {
+        assert_eq!(clip::whole(book.p, book.q, &rules[..k]), each[k], "{name}, {k} rules");
+    }
+}
+
 #[test]
 fn on_the_longest_chains() {
     let mut random = Random::new(5);
     for make in [source, busy_source, busy_source, busy_source] {
         let (name, source) = make(&mut random, TWO.most_rules());
-        let book = read_as(&TWO, &source.packed_as(&TWO)).unwrap();
-        let rules: Vec<Line> = book.rules.iter().map(|r| r.line).collect();
-        let each = clip::each(book.p, book.q, &rules);
-        assert_eq!(outcome(book.p, book.q, &rules[..200]), each[200], "{name}");
-        for k in [0, 1, 2, 256, 1_000, 4_094, 4_095] {
-            assert_eq!(clip::whole(book.p, book.q, &rules[..k]), each[k], "{name}, {k} rules");
-        }
+        prefixes_agree(name, &source);
     }
 }
 
