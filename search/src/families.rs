@@ -75,12 +75,12 @@ pub fn hundred_books(layout: &Layout, random: &mut Random) -> Vec<(&'static str,
 
 /// The longest books of a version, for a program: some of any family, some whose counts are as great as they can be.
 pub fn longest_books(layout: &Layout, random: &mut Random) -> Vec<(&'static str, Vec<u8>)> {
-    let mut book = |i: usize| {
+    let book = |i: usize| {
         let n = layout.most_rules() - random.below(i + 1);
         let (name, source) = if i % 2 == 0 { busy_source(random, n) } else { source(random, n) };
         (name, source.scattered_as(layout, 9, random))
     };
-    (0..8).map(|i| book(i)).collect()
+    (0..8).map(book).collect()
 }
 
 /// The last rules bound what was open or contradict each other, so that much happens late.

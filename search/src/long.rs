@@ -125,9 +125,12 @@ fn labels(set: &[(usize, u16)]) -> Vec<u16> {
     labels
 }
 
+/// A name, the labels that are set, by the rule's place, and the line.
+type Labels = (&'static str, &'static [(usize, u16)], &'static str);
+
 /// A label typed twice, far apart or at the end of a long chain.
 fn far_labels() -> Vec<Stored> {
-    let rows: [(&str, &[(usize, u16)], &str); 8] = [
+    let rows: [Labels; 8] = [
         ("12: far apart", &[(254, 101)], "refused 12 255"),
         ("12: far apart, another after it", &[(253, 101)], "refused 12 254"),
         ("12: 65,535 first and last", &[(0, 65_535), (254, 65_535)], "refused 12 255"),
