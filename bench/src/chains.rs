@@ -66,11 +66,11 @@ fn rule(i: usize, a: i16, b: i16, c: i32) -> Rule {
 mod tests {
     use super::*;
     use search::judge::expected;
-    use search::prefixes::Depth;
+    use search::prefixes::Way;
 
     fn shown(books: Books, n: usize) -> Vec<String> {
         let some = if n > 100 { 1 } else { DIFFERENT };
-        books(&mut Random::new(1), n).iter().take(some).map(|b| expected(b, Depth::Every).shown()).collect()
+        books(&mut Random::new(1), n).iter().take(some).map(|b| expected(b, Way::Anew).shown()).collect()
     }
 
     #[test]

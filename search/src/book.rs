@@ -1,8 +1,8 @@
-//! Writing rule books: records of 12 bytes, the chain through any records in any order, spare records full of noise.
+//! Writing rule books: the chain through any records in any order, spare records full of noise.
 
+use crate::layout::{Layout, ONE};
 use crate::random::Random;
 
-pub const RECORD: usize = 12;
 pub const MOST_RULES: usize = 255;
 
 /// A rule as a record has it; kind 2 is not turned round. Unlawful values can be written too.
@@ -24,42 +24,49 @@ pub struct Source {
 }
 
 impl Source {
-    /// The repacked form: rule i in record i + 1, nothing spare.
+    /// The repacked form in version 1: rule i in record i + 1, nothing spare.
     pub fn packed(&self) -> Vec<u8> {
-        let places: Vec<usize> = (1..=self.rules.len()).collect();
-        let blank = vec![0; RECORD * (self.rules.len() + 1)];
-        self.written(&places, blank)
+        self.packed_as(&ONE)
     }
 
-    /// The chain through random records, with up to `spare` records of noise between them.
+    pub fn packed_as(&self, layout: &Layout) -> Vec<u8> {
+        let places: Vec<usize> = (1..=self.rules.len()).collect();
+        let blank = vec![0; layout.width() * (self.rules.len() + 1)];
+        self.written(layout, &places, blank)
+    }
+
+    /// The chain through random records of version 1, with up to `spare` records of noise between them.
     pub fn scattered(&self, spare: usize, random: &mut Random) -> Vec<u8> {
-        let count = (self.rules.len() + random.below(spare + 1)).min(MOST_RULES);
+        self.scattered_as(&ONE, spare, random)
+    }
+
+    pub fn scattered_as(&self, layout: &Layout, spare: usize, random: &mut Random) -> Vec<u8> {
+        let count = (self.rules.len() + random.below(spare + 1)).min(layout.most_rules());
         let mut places: Vec<usize> = (1..=count).collect();
         random.shuffle(&mut places);
-        let noise = (0..RECORD * (count + 1)).map(|_| random.word() as u8).collect();
-        self.written(&places, noise)
+        let noise = (0..layout.width() * (count + 1)).map(|_| random.word() as u8).collect();
+        self.written(layout, &places, noise)
     }
 
     /// Rule i goes to record places[i] of the given bytes.
-    fn written(&self, places: &[usize], mut bytes: Vec<u8>) -> Vec<u8> {
-        let n = self.rules.len();
-        let link = |i: usize| if i < n { places[i] as u8 } else { 0 };
-        let count = (bytes.len() / RECORD - 1) as u16;
-        put(&mut bytes, 0, [link(0), 1], [self.p, self.q], count, 0);
+    fn written(&self, layout: &Layout, places: &[usize], mut bytes: Vec<u8>) -> Vec<u8> {
+        let width = layout.width();
+        let link = |i: usize| if i < self.rules.len() { places[i] } else { 0 };
+        let count = (bytes.len() / width - 1) as u16;
+        bytes[..width].copy_from_slice(&record(layout, link(0), layout.version, [self.p, self.q], count, 0));
         for (i, r) in self.rules.iter().enumerate() {
-            put(&mut bytes, places[i], [link(i + 1), r.kind], [r.a, r.b], r.label, r.c);
+            let at = places[i] * width;
+            bytes[at..at + width].copy_from_slice(&record(layout, link(i + 1), r.kind, [r.a, r.b], r.label, r.c));
         }
         bytes
     }
 }
 
-fn put(bytes: &mut [u8], record: usize, head: [u8; 2], pair: [i16; 2], word: u16, last: i32) {
-    let at = &mut bytes[record * RECORD..(record + 1) * RECORD];
-    at[..2].copy_from_slice(&head);
-    at[2..4].copy_from_slice(&pair[0].to_le_bytes());
-    at[4..6].copy_from_slice(&pair[1].to_le_bytes());
-    at[6..8].copy_from_slice(&word.to_le_bytes());
-    at[8..].copy_from_slice(&last.to_le_bytes());
+/// The bytes of one record.
+fn record(layout: &Layout, link: usize, kind: u8, pair: [i16; 2], word: u16, last: i32) -> Vec<u8> {
+    let (link, zeros) = (&link.to_le_bytes()[..layout.link_bytes], &[0; 8][..layout.pad_bytes]);
+    let [first, second] = pair.map(i16::to_le_bytes);
+    [link, &[kind], zeros, &first, &second, &word.to_le_bytes(), &last.to_le_bytes()].concat()
 }
 
 /// Bytes as hexadecimal digits.

@@ -38,16 +38,31 @@ impl Line {
     pub fn kept_by(&self, v: &Pair) -> bool {
         self.slack(v) >= 0
     }
+
+    /// Both ways along the line.
+    pub fn ways(&self) -> [(i128, i128); 2] {
+        [(self.b, -self.a), (-self.b, self.a)]
+    }
+
+    /// Whether the rule is kept for ever along a direction.
+    pub fn allows(&self, (dx, dy): (i128, i128)) -> bool {
+        self.a * dx + self.b * dy <= 0
+    }
 }
 
 /// The outcome of an objective, the floors and the rules.
 pub fn outcome(p: i128, q: i128, rules: &[Line]) -> Outcome {
     let entries: Vec<Line> = FLOORS.iter().chain(rules).copied().collect();
-    let corners = corners(&entries);
+    let lawful = candidates(rules).filter(|&d| lawful(p, q, rules, d));
+    chosen(p, q, &corners(&entries), lawful)
+}
+
+/// The outcome that corners and lawful candidates make.
+pub fn chosen(p: i128, q: i128, corners: &[Pair], lawful: impl Iterator<Item = (i128, i128)>) -> Outcome {
     let Some(start) = corners.iter().min_by(|v, w| by_place(v, w)) else {
         return Outcome::Impossible;
     };
-    if let Some((dx, dy)) = direction(p, q, rules) {
+    if let Some((dx, dy)) = least_steep(lawful) {
         return Outcome::Unlimited { start: reduced(start), dx, dy };
     }
     let best = corners.iter().min_by(|v, w| by_gain(p, q, w, v).then(by_place(v, w)));
@@ -60,15 +75,16 @@ pub fn start(rules: &[Line]) -> Option<Pair> {
     corners(&entries).iter().min_by(|v, w| by_place(v, w)).map(reduced)
 }
 
-/// Every pair where two entries meet and that keeps all entries.
+/// Every pair where two entries meet and that keeps all entries. In long chains the last rules are often the tightest, so that they are
+/// asked first.
 fn corners(entries: &[Line]) -> Vec<Pair> {
     let pairs = entries.iter().enumerate().flat_map(|(i, h)| entries[..i].iter().map(move |k| (h, k)));
     let meetings = pairs.filter_map(|(h, k)| meeting(h, k));
-    meetings.filter(|v| entries.iter().all(|e| e.kept_by(v))).collect()
+    meetings.filter(|v| entries.iter().rev().all(|e| e.kept_by(v))).collect()
 }
 
 /// Where two lines meet, by Cramer's rule.
-fn meeting(h: &Line, k: &Line) -> Option<Pair> {
+pub fn meeting(h: &Line, k: &Line) -> Option<Pair> {
     let d = h.a * k.b - k.a * h.b;
     let x = h.c * k.b - k.c * h.b;
     let y = h.a * k.c - k.a * h.c;
@@ -87,16 +103,23 @@ fn by_gain(p: i128, q: i128, v: &Pair, w: &Pair) -> Ordering {
     ((p * v.x + q * v.y) * w.d).cmp(&((p * w.x + q * w.y) * v.d))
 }
 
-/// The lawful candidate with the smallest slope, divided by its greatest common divisor.
-fn direction(p: i128, q: i128, rules: &[Line]) -> Option<(i128, i128)> {
-    let turned = rules.iter().flat_map(|r| [(r.b, -r.a), (-r.b, r.a)]);
-    [(1, 0), (0, 1)]
-        .into_iter()
-        .chain(turned)
-        .filter(|&(dx, dy)| dx >= 0 && dy >= 0 && (dx, dy) != (0, 0) && p * dx + q * dy > 0)
-        .filter(|&(dx, dy)| rules.iter().all(|r| r.a * dx + r.b * dy <= 0))
-        .min_by(|d, e| (d.1 * e.0).cmp(&(e.1 * d.0)))
-        .map(|(dx, dy)| (dx / divisor(dx, dy), dy / divisor(dx, dy)))
+/// The directions that may be given: along the axes, and along the line of each rule both ways.
+fn candidates(rules: &[Line]) -> impl Iterator<Item = (i128, i128)> + '_ {
+    [(1, 0), (0, 1)].into_iter().chain(rules.iter().flat_map(Line::ways))
+}
+
+fn lawful(p: i128, q: i128, rules: &[Line], along: (i128, i128)) -> bool {
+    gains(p, q, along) && rules.iter().all(|r| r.allows(along))
+}
+
+/// Whether a direction leads into the quadrant and earns with each step.
+pub fn gains(p: i128, q: i128, (dx, dy): (i128, i128)) -> bool {
+    dx >= 0 && dy >= 0 && (dx, dy) != (0, 0) && p * dx + q * dy > 0
+}
+
+/// The direction with the smallest slope, divided by its greatest common divisor.
+fn least_steep(directions: impl Iterator<Item = (i128, i128)>) -> Option<(i128, i128)> {
+    directions.min_by(|d, e| (d.1 * e.0).cmp(&(e.1 * d.0))).map(|(dx, dy)| (dx / divisor(dx, dy), dy / divisor(dx, dy)))
 }
 
 fn reduced(v: &Pair) -> Pair {

@@ -1,6 +1,7 @@
 //! Random rules, one function a family: each aims at a situation that a planner gets wrong.
 
 use crate::book::{Rule, Source};
+use crate::layout::Layout;
 use crate::random::Random;
 
 type Numbers = (i64, i64, i64);
@@ -9,7 +10,7 @@ type Family = fn(&mut Random, usize) -> Vec<Numbers>;
 pub const TOP: i64 = 32_767;
 pub const FAR: i64 = 1_000_000_000;
 
-const FAMILIES: [(&str, Family); 15] = [
+const FAMILIES: [(&str, Family); 16] = [
     ("small", small),
     ("bounded", bounded),
     ("parallel", parallel),
@@ -20,6 +21,7 @@ const FAMILIES: [(&str, Family); 15] = [
     ("extreme", extreme),
     ("extreme around a pair", extreme_feasible),
     ("near parallel", near_parallel),
+    ("greatest corner", greatest_corner),
     ("open", open),
     ("open, then closed", open_then_closed),
     ("tangents", tangents),
@@ -39,20 +41,46 @@ pub fn source(random: &mut Random, n: usize) -> (&'static str, Source) {
     }
     let (p, q) = objective(random, &rules);
     let mut rules = labelled(random, &rules);
-    if random.one_in(16) {
-        repeat_label(random, &mut rules);
+    match random.below(16) {
+        0 => repeat_label(random, &mut rules),
+        1 => near_label(random, &mut rules),
+        _ => (),
     }
     (name, Source { p: p as i16, q: q as i16, rules })
 }
 
+/// A random source whose counts are as great as n rules can make them, or nearly: each rule moves the best pair, or each prefix is open.
+/// In one of three the last rules bound what was open or contradict each other.
+pub fn busy_source(random: &mut Random, n: usize) -> (&'static str, Source) {
+    let (name, mut rules, (p, q)) = match random.below(3) {
+        0 => ("tangents, all moving", tangents(random, n), (-1, 0)),
+        1 => ("tangents, all open", tangents(random, n), (1, random.between(0, 3))),
+        _ => ("open along a direction", open_along(random, n), (1, 1)),
+    };
+    if random.one_in(3) {
+        twist(random, &mut rules);
+    }
+    (name, Source { p, q: q as i16, rules: labelled(random, &rules) })
+}
+
 /// A hundred books of up to 29 rules, for a program: to start one costs more than to plan.
-pub fn hundred_books(random: &mut Random) -> Vec<(&'static str, Vec<u8>)> {
+pub fn hundred_books(layout: &Layout, random: &mut Random) -> Vec<(&'static str, Vec<u8>)> {
     let mut book = || {
         let n = random.below(30);
         let (name, source) = source(random, n);
-        (name, source.scattered(9, random))
+        (name, source.scattered_as(layout, 9, random))
     };
     (0..100).map(|_| book()).collect()
+}
+
+/// The longest books of a version, for a program: some of any family, some whose counts are as great as they can be.
+pub fn longest_books(layout: &Layout, random: &mut Random) -> Vec<(&'static str, Vec<u8>)> {
+    let book = |i: usize| {
+        let n = layout.most_rules() - random.below(i + 1);
+        let (name, source) = if i % 2 == 0 { busy_source(random, n) } else { source(random, n) };
+        (name, source.scattered_as(layout, 9, random))
+    };
+    (0..8).map(book).collect()
 }
 
 /// The last rules bound what was open or contradict each other, so that much happens late.
@@ -87,13 +115,26 @@ fn labelled(random: &mut Random, rules: &[Numbers]) -> Vec<Rule> {
         .collect()
 }
 
-/// A label typed twice: at neighbours, anywhere, or at every rule.
+/// Two labels that differ in one bit alone, or the ends of the range, which one rule in the book may have already.
+fn near_label(random: &mut Random, rules: &mut [Rule]) {
+    if rules.len() < 2 {
+        return;
+    }
+    let from = random.below(rules.len());
+    let to = (from + 1 + random.below(rules.len() - 1)) % rules.len();
+    rules[from].label = random.pick(&[rules[from].label, 0, 32_767, 32_768, 65_535]);
+    let bit = if random.one_in(2) { 15 } else { random.below(16) };
+    rules[to].label = rules[from].label ^ 1 << bit;
+}
+
+/// A label typed twice: at neighbours, anywhere, or at every rule; often one at the end of the range.
 fn repeat_label(random: &mut Random, rules: &mut [Rule]) {
     if rules.len() < 2 {
         return;
     }
     let from = random.below(rules.len());
-    let label = rules[from].label;
+    let label = random.pick(&[rules[from].label, 65_535]);
+    rules[from].label = label;
     match random.below(4) {
         0 => rules.iter_mut().for_each(|r| r.label = label),
         1 => rules[(from + 1) % rules.len()].label = label,
@@ -223,6 +264,17 @@ fn near_parallel(random: &mut Random, n: usize) -> Vec<Numbers> {
     })
 }
 
+/// Rules that meet in pairs with X or Y close to the greatest: b is at one end of its range and then at the other, c at its top.
+fn greatest_corner(random: &mut Random, n: usize) -> Vec<Numbers> {
+    let upright = random.one_in(2);
+    let turn = random.pick(&[1, 1, -1]);
+    many(n, || {
+        let (a, b) = (random.between(0, TOP), random.pick(&[TOP, -TOP]));
+        let (a, b) = if upright { (b, a) } else { (a, b) };
+        (turn * a, turn * b, turn * (FAR - random.pick(&[0, 0, 0, 1])))
+    })
+}
+
 /// A direction into the quadrant keeps every rule, so that prefixes stay open for long.
 fn open(random: &mut Random, n: usize) -> Vec<Numbers> {
     let (dx, dy) = (random.between(0, 3), random.between(0, 3));
@@ -234,12 +286,17 @@ fn open(random: &mut Random, n: usize) -> Vec<Numbers> {
     })
 }
 
-/// The direction (1, 1) keeps every rule but perhaps the last.
-fn open_then_closed(random: &mut Random, n: usize) -> Vec<Numbers> {
-    let mut rules = many(n, || {
+/// The direction (1, 1) keeps every rule.
+fn open_along(random: &mut Random, n: usize) -> Vec<Numbers> {
+    many(n, || {
         let a = random.between(-TOP, TOP);
         (a, random.between(-TOP, -a.max(0)), random.between(-FAR, FAR))
-    });
+    })
+}
+
+/// The direction (1, 1) keeps every rule but perhaps the last.
+fn open_then_closed(random: &mut Random, n: usize) -> Vec<Numbers> {
+    let mut rules = open_along(random, n);
     if let Some(last) = rules.last_mut().filter(|_| random.one_in(2)) {
         *last = (random.between(1, TOP), random.between(1, TOP), FAR);
     }
@@ -249,7 +306,7 @@ fn open_then_closed(random: &mut Random, n: usize) -> Vec<Numbers> {
 /// Tangents of a parabola over which the least x lies, each cutting a little off.
 fn tangents(random: &mut Random, n: usize) -> Vec<Numbers> {
     let reach = n as i64 / 2 + 1;
-    let tall = random.between(reach, 300);
+    let tall = random.between(reach, reach.max(300));
     let aside = random.pick(&[0, 0, 1]);
     (0..n as i64)
         .map(|i| {
@@ -267,9 +324,9 @@ fn wedge(random: &mut Random, n: usize) -> Vec<Numbers> {
         room -= random.between(0, 45);
         let (a, b) = (random.between(1, 9), random.between(1, 9));
         if random.one_in(2) {
-            (a, b, (a + b) * (50 * n as i64 + room) * scale)
+            (a, b, ((a + b) * (50 * n as i64 + room) * scale).min(FAR))
         } else {
-            (-a, -b, -(a + b) * 50 * n as i64 * scale)
+            (-a, -b, (-(a + b) * 50 * n as i64 * scale).max(-FAR))
         }
     })
 }

@@ -1,8 +1,9 @@
 //! Whether a printed line is right. All of it is fixed by the book but the witness, which is judged by its property.
 
 use crate::exact::{Line, Outcome, FLOORS};
-use crate::prefixes::{search, Depth};
-use crate::read::{read, Accepted, Entry};
+use crate::layout::{Layout, ONE};
+use crate::prefixes::{search, Way};
+use crate::read::{read_as, Accepted, Entry};
 
 /// The greatest weight of a witness.
 const HEAVIEST: i128 = 2_147_352_578;
@@ -11,34 +12,31 @@ const HEAVIEST: i128 = 2_147_352_578;
 pub struct Expected {
     /// The fields up to the counts: word, pair, direction, place, or the refusal.
     head: String,
-    counts: Counts,
+    /// Moves and open; a refusal has none.
+    counts: Option<(usize, usize)>,
     /// The rules that a witness may name, if there must be one.
     witness: Option<Vec<Entry>>,
 }
 
-/// Moves and open: none in a refusal, known, or known to be at most n and n + 1.
-enum Counts {
-    Absent,
-    Exact(usize, usize),
-    Within(usize),
+/// The right line of a book of version 1 by the search.
+pub fn expected(book: &[u8], way: Way) -> Expected {
+    expected_as(&ONE, book, way)
 }
 
-/// The right line by the exhaustive search.
-pub fn expected(book: &[u8], depth: Depth) -> Expected {
-    let Accepted { p, q, mut rules } = match read(book) {
+pub fn expected_as(layout: &Layout, book: &[u8], way: Way) -> Expected {
+    let Accepted { p, q, mut rules } = match read_as(layout, book) {
         Ok(accepted) => accepted,
-        Err(r) => return Expected { head: format!("refused {} {}", r.number, r.record), counts: Counts::Absent, witness: None },
+        Err(r) => return Expected { head: format!("refused {} {}", r.number, r.record), counts: None, witness: None },
     };
     let lines: Vec<Line> = rules.iter().map(|r| r.line).collect();
-    let chain = search(p, q, &lines, depth);
-    let counts = chain.counts.map_or(Counts::Within(rules.len()), |(moves, open)| Counts::Exact(moves, open));
+    let chain = search(p, q, &lines, way);
     let head = match chain.outcome {
         Outcome::Best(v) => format!("best {} {} {}", v.x, v.y, v.d),
         Outcome::Unlimited { start: v, dx, dy } => format!("unlimited {} {} {} {dx} {dy}", v.x, v.y, v.d),
         Outcome::Impossible => format!("impossible {}", chain.place),
     };
     rules.truncate(chain.place);
-    Expected { head, counts, witness: (chain.place > 0).then_some(rules) }
+    Expected { head, counts: Some((chain.moves, chain.open)), witness: (chain.place > 0).then_some(rules) }
 }
 
 impl Expected {
@@ -62,25 +60,15 @@ impl Expected {
 
     fn judge_counts<'a>(&self, fields: &mut impl Iterator<Item = &'a str>) -> Result<(), String> {
         let mut next = || fields.next().and_then(number).ok_or("a count is missing");
-        let right = match self.counts {
-            Counts::Absent => true,
-            Counts::Exact(moves, open) => next()? == moves as i128 && next()? == open as i128,
-            Counts::Within(n) => next()? <= n as i128 && next()? <= n as i128 + 1,
-        };
-        if right {
-            Ok(())
-        } else {
-            Err("other counts are right".into())
+        match self.counts {
+            Some((moves, open)) if (next()?, next()?) != (moves as i128, open as i128) => Err("other counts are right".into()),
+            _ => Ok(()),
         }
     }
 
-    /// The line in one piece, with * for the witness and ? for counts that were not searched.
+    /// The line in one piece, with * for the witness.
     pub fn shown(&self) -> String {
-        let counts = match self.counts {
-            Counts::Absent => String::new(),
-            Counts::Exact(moves, open) => format!(" {moves} {open}"),
-            Counts::Within(_) => " ? ?".into(),
-        };
+        let counts = self.counts.map_or(String::new(), |(moves, open)| format!(" {moves} {open}"));
         format!("{}{counts}{}", self.head, if self.witness.is_some() { " *" } else { "" })
     }
 }

@@ -1,20 +1,26 @@
 //! Tests of the planner from outside. Books are made at random or from a table (`book`, `families`, `damage`, `stored`), read again by an
-//! independent reader (`read`), searched exhaustively (`exact`, `prefixes`), and the planner's line is judged (`judge`), as
-//! are the lines of the panel (`panel`).
-//! Nothing here shares a step with the planner: no walk, no incremental state, 128-bit integers throughout.
+//! independent reader (`read`), searched exhaustively (`exact`, `prefixes`) or, where they are long, by cutting lines (`clip`), and the
+//! planner's line is judged (`judge`), as are the lines of the panel (`panel`).
+//! Nothing here shares a step with the planner: no walk, no pair carried from one prefix to the next, 128-bit integers
+//! throughout.
 
 pub mod book;
+pub mod clip;
 pub mod damage;
 pub mod exact;
 pub mod families;
 pub mod judge;
+pub mod layout;
+pub mod long;
 pub mod panel;
 pub mod planner;
 pub mod prefixes;
 pub mod program;
 pub mod random;
 pub mod read;
+pub mod repack;
 pub mod runs;
 #[cfg(not(feature = "standin"))]
 pub mod starts;
 pub mod stored;
+pub mod stored_two;

@@ -1,16 +1,19 @@
 //! `search` plans stored and random books, judges each line and ends with one summary line; a mismatch prints the book in hexadecimal with
-//! both lines and fails. The environment's SEED repeats a run; SHORT, LONG, DAMAGED, ORDERS, PANELS and STARTS say how many books.
-//! `search program PATH` runs the plan program on stored and some random books.
-//! `search panel PATH` runs the panel program likewise.
+//! both lines and fails. The environment's SEED repeats a run; SHORT, LONG, BUSY, DAMAGED, ORDERS, PANELS and STARTS say how many books.
+//! `search program PATH [VERSION]` runs the plan program of a version, 1 unless it is named, on stored and some random books.
+//! `search panel PATH [VERSION]` runs the panel program likewise.
+//! `search repack PATH` puts stored books and REPACKS random ones through the program of the reader and the repacker.
 //! `search look` reads books in hexadecimal, one a line, and prints for each the right line, the planner's and the verdict.
 
 use search::book::from_hex;
 use search::judge::expected;
+use search::layout::Layout;
 use search::panel;
-use search::planner;
-use search::prefixes::Depth;
+use search::planner::{self, ONE};
+use search::prefixes::Way;
 use search::program::program;
-use search::runs::{damaged_books, orders, random_books, stored_books, Tally};
+use search::repack::repacks;
+use search::runs::{busy_books, damaged_books, orders, random_books, stored_books, Lengths, Tally};
 use std::process::ExitCode;
 use std::time::{Instant, SystemTime, UNIX_EPOCH};
 
@@ -18,10 +21,13 @@ fn main() -> ExitCode {
     let words: Vec<String> = std::env::args().skip(1).collect();
     let result = match &words.iter().map(String::as_str).collect::<Vec<_>>()[..] {
         [] => seed().and_then(run),
-        ["program", path] => seed().and_then(|seed| run_program(path, seed)),
-        ["panel", path] => seed().and_then(|seed| run_panel(path, seed)),
+        ["program", path] => run_program(path, "1"),
+        ["program", path, version] => run_program(path, version),
+        ["panel", path] => run_panel(path, "1"),
+        ["panel", path, version] => run_panel(path, version),
+        ["repack", path] => seed().and_then(|seed| run_repack(path, seed)),
         ["look"] => look(),
-        _ => Err("usage: search [look | program PATH | panel PATH]".into()),
+        _ => Err("usage: search [look | program PATH [VERSION] | panel PATH [VERSION] | repack PATH]".into()),
     };
     if let Err(message) = &result {
         eprintln!("{message}");
@@ -40,26 +46,34 @@ fn seed() -> Result<u64, String> {
 fn run(seed: u64) -> Result<(), String> {
     let mut tally = Tally::default();
     let stored = stored_books(&mut tally)?;
-    let short = timed("SHORT", 200_000, |n| random_books(&mut tally, seed, n, 12, 12))?;
-    let long = timed("LONG", 1_200, |n| random_books(&mut tally, seed ^ 1 << 61, n, 255, 80))?;
-    let damaged = timed("DAMAGED", 20_000, |n| damaged_books(&mut tally, seed ^ 1 << 62, n))?;
-    let shuffled = timed("ORDERS", 1_000, |n| orders(seed ^ 1 << 63, n))?;
+    let short = timed("SHORT", 200_000, |n| random_books(&ONE, &mut tally, seed, n, Lengths { most: 12, anew: 12 }))?;
+    let long = timed("LONG", 4_000, |n| random_books(&ONE, &mut tally, seed ^ 1 << 61, n, Lengths { most: 255, anew: 40 }))?;
+    let busy = timed("BUSY", 1_000, |n| busy_books(&ONE, &mut tally, seed ^ 1 << 58, n))?;
+    let damaged = timed("DAMAGED", 20_000, |n| damaged_books(&ONE, &mut tally, seed ^ 1 << 62, n))?;
+    let shuffled = timed("ORDERS", 1_000, |n| orders(&ONE, seed ^ 1 << 63, n))?;
     let panels = timed("PANELS", 20_000, |n| panel::panels(seed ^ 1 << 60, n))?;
     let starts = timed("STARTS", 20_000, |n| starts(seed ^ 1 << 59, n))?;
     println!(
-        "search: all right: {stored} stored books, {short} of 0 to 12 rules, {long} of 0 to 255, {damaged} damaged ({tally}), \
-         {shuffled} in ten orders, {panels} panels, {starts} start pairs; SEED={seed}"
+        "search: all right: {stored} stored books, {short} of 0 to 12 rules, {long} of 0 to 255, {busy} busy ones of 200 to 255, \
+         {damaged} damaged ({tally}), {shuffled} in ten orders, {panels} panels, {starts} start pairs; SEED={seed}"
     );
     Ok(())
 }
 
-fn run_program(path: &str, seed: u64) -> Result<(), String> {
-    println!("search: all right: {} books through the program", program(path, seed)?);
+fn run_program(path: &str, version: &str) -> Result<(), String> {
+    let books = program(&Layout::of_version(version)?, path, seed()?)?;
+    println!("search: all right: {books} books through the program of version {version}");
     Ok(())
 }
 
-fn run_panel(path: &str, seed: u64) -> Result<(), String> {
-    println!("search: all right: {} books through the panel program", panel::program(path, seed)?);
+fn run_panel(path: &str, version: &str) -> Result<(), String> {
+    let books = panel::program(&Layout::of_version(version)?, path, seed()?)?;
+    println!("search: all right: {books} books through the panel program of version {version}");
+    Ok(())
+}
+
+fn run_repack(path: &str, seed: u64) -> Result<(), String> {
+    println!("search: all right: {} through the reader and the repacker", repacks(path, seed, count("REPACKS", 20_000)?)?);
     Ok(())
 }
 
@@ -79,17 +93,25 @@ fn setting(name: &str, otherwise: u64) -> Result<u64, String> {
     }
 }
 
+/// A number of books from the environment. A run that tests nothing must not pass, so that 0 is refused.
+fn count(name: &str, otherwise: u64) -> Result<u64, String> {
+    match setting(name, otherwise)? {
+        0 => Err(format!("{name} is 0: a run without such books would test nothing")),
+        n => Ok(n),
+    }
+}
+
 /// Runs a part with its number of books from the environment, and says how many there were and how long it took.
 fn timed(name: &str, otherwise: u64, part: impl FnOnce(u64) -> Result<u64, String>) -> Result<String, String> {
     let start = Instant::now();
-    Ok(format!("{} ({:.1} s)", part(setting(name, otherwise)?)?, start.elapsed().as_secs_f64()))
+    Ok(format!("{} ({:.1} s)", part(count(name, otherwise)?)?, start.elapsed().as_secs_f64()))
 }
 
 fn look() -> Result<(), String> {
     for row in std::io::stdin().lines() {
         let row = row.map_err(|e| e.to_string())?;
         let book = from_hex(row.trim_matches('-')).ok_or("not hexadecimal")?;
-        let right = expected(&book, Depth::Every);
+        let right = expected(&book, Way::Anew);
         let line = planner::line(&book)?;
         let verdict = right.judge(&line).map_or_else(|why| why, |()| "right".into());
         println!("{}\t{}\t{verdict}", right.shown(), String::from_utf8_lossy(&line).trim_end());

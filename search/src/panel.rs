@@ -1,33 +1,41 @@
-//! The panel: how far the best pair is from each rule, by the search's own arithmetic, against the library's lines and the panel program's.
+//! The panel: how far the best pair is from each rule, by the search's own arithmetic, against the library's lines and the panel
+//! program's.
 
-use crate::book::{to_hex, Rule, Source, MOST_RULES};
+use crate::book::{to_hex, Source, MOST_RULES};
+use crate::clip;
 use crate::damage::damage;
 use crate::exact::{divisor, outcome, Line, Outcome, Pair};
 use crate::families::source;
+use crate::layout::{Layout, ONE};
 use crate::program::{inputs, printed};
 use crate::random::Random;
-use crate::read::{read, Accepted, Entry};
+use crate::read::{read_as, Accepted, Entry};
 use crate::{planner, stored};
 
-/// What a book's panel must print: a line a rule for a best outcome, nothing for any other, and the line of a refusal.
+/// What the panel of a book of version 1 must print.
 pub fn right(book: &[u8]) -> String {
-    let Accepted { p, q, rules } = match read(book) {
+    right_as(&ONE, book)
+}
+
+/// What a book's panel must print: a line a rule for a best outcome, nothing for any other, and the line of a refusal.
+pub fn right_as(layout: &Layout, book: &[u8]) -> String {
+    let Accepted { p, q, rules } = match read_as(layout, book) {
         Ok(accepted) => accepted,
         Err(r) => return format!("refused {} {}\n", r.number, r.record),
     };
     let lines: Vec<Line> = rules.iter().map(|r| r.line).collect();
-    match outcome(p, q, &lines) {
-        Outcome::Best(v) => rules.iter().map(|r| row(book, r, &v)).collect(),
+    let found = if lines.len() > MOST_RULES { clip::whole(p, q, &lines) } else { outcome(p, q, &lines) };
+    match found {
+        Outcome::Best(v) => rules.iter().map(|r| row(r, &v)).collect(),
         _ => String::new(),
     }
 }
 
 /// Label, numerator and denominator.
-fn row(book: &[u8], rule: &Entry, v: &Pair) -> String {
-    let label = usize::from(book[12 * rule.record + 6]) + 256 * usize::from(book[12 * rule.record + 7]);
+fn row(rule: &Entry, v: &Pair) -> String {
     let left = rule.line.slack(v);
     let g = divisor(left, v.d);
-    format!("{label} {} {}\n", left / g, v.d / g)
+    format!("{} {} {}\n", rule.label, left / g, v.d / g)
 }
 
 /// Objective, rules (kind, a, b, c), labelled from 101 on, and the panel.
@@ -53,17 +61,13 @@ const PANELS: &[Stored] = &[
     ),
 ];
 
-fn books() -> Vec<(&'static str, Vec<u8>)> {
-    let packed = |&(name, (p, q), rules, _): &Stored| {
-        let rule = |(i, &(kind, a, b, c)): (usize, &(u8, i16, i16, i32))| Rule { kind, a, b, c, label: 101 + i as u16 };
-        (name, Source { p, q, rules: rules.iter().enumerate().map(rule).collect() }.packed())
-    };
-    PANELS.iter().map(packed).collect()
+fn sources() -> impl Iterator<Item = (&'static str, Source)> {
+    PANELS.iter().map(|&(name, (p, q), rules, _)| (name, stored::source(p, q, rules)))
 }
 
 /// Compares what was printed with what is right.
-fn judge(name: &str, book: &[u8], printed: Result<Vec<u8>, String>) -> Result<(), String> {
-    let right = right(book);
+fn judge(layout: &Layout, name: &str, book: &[u8], printed: Result<Vec<u8>, String>) -> Result<(), String> {
+    let right = right_as(layout, book);
     match printed {
         Ok(lines) if lines == right.as_bytes() => Ok(()),
         other => {
@@ -76,21 +80,22 @@ fn judge(name: &str, book: &[u8], printed: Result<Vec<u8>, String>) -> Result<()
 /// The stored panels, the stored books, and random books of 0 to 12 rules, one in fifty of up to 255, one in six damaged.
 pub fn panels(seed: u64, random_books: u64) -> Result<u64, String> {
     stored_panels()?;
-    stored::books().iter().try_for_each(|s| judge(s.name, &s.book, planner::panel(&s.book)))?;
+    stored::books().iter().try_for_each(|s| judge(&ONE, s.name, &s.book, planner::panel(&s.book)))?;
     let mut random = Random::new(seed);
     for i in 0..random_books {
         let (name, book) = random_book(&mut random, i);
-        judge(name, &book, planner::panel(&book))?;
+        judge(&ONE, name, &book, planner::panel(&book))?;
     }
     Ok(random_books)
 }
 
 /// The search itself must find the stored panels.
 fn stored_panels() -> Result<(), String> {
-    for ((name, book), &(_, _, _, panel)) in books().iter().zip(PANELS) {
-        judge(name, book, planner::panel(book))?;
-        if right(book) != panel {
-            return Err(format!("mismatch: {name}: stored {panel}, searched {}\nbook    {}", right(book), to_hex(book)));
+    for ((name, source), &(_, _, _, panel)) in sources().zip(PANELS) {
+        let book = source.packed();
+        judge(&ONE, name, &book, planner::panel(&book))?;
+        if right(&book) != panel {
+            return Err(format!("mismatch: {name}: stored {panel}, searched {}\nbook    {}", right(&book), to_hex(&book)));
         }
     }
     Ok(())
@@ -101,18 +106,18 @@ fn random_book(random: &mut Random, i: u64) -> (&'static str, Vec<u8>) {
     let (name, source) = source(random, n);
     let mut book = source.scattered(3, random);
     if random.one_in(6) {
-        damage(random, &mut book);
+        damage(&ONE, random, &mut book);
     }
     (name, book)
 }
 
-/// The panel program on the stored panels and on what the plan program is run on.
-pub fn program(path: &str, seed: u64) -> Result<u64, String> {
+/// A version's panel program on the stored panels and on what its plan program is run on.
+pub fn program(layout: &Layout, path: &str, seed: u64) -> Result<u64, String> {
     let mut random = Random::new(seed);
-    let mut all = books();
-    all.extend(inputs(&mut random));
+    let mut all: Vec<(&str, Vec<u8>)> = sources().map(|(name, source)| (name, source.packed_as(layout))).collect();
+    all.extend(inputs(layout, &mut random));
     for (name, book) in &all {
-        judge(name, book, printed(path, book, random.below(book.len() + 1)))?;
+        judge(layout, name, book, printed(path, book, random.below(book.len() + 1)))?;
     }
     Ok(all.len() as u64)
 }

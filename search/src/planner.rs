@@ -1,5 +1,7 @@
 //! The planner under test: the static library's function, or the twin in its place.
 
+use crate::layout::{self, Layout};
+
 /// Long enough for every line, and for the lines of every panel.
 pub const LINE: usize = 256;
 pub const PANEL: usize = 16_384;
@@ -28,8 +30,8 @@ mod linked {
     }
 }
 
-/// What is seen of the start pair: of a refused book its number and record, and its buffer stays as it was; else the pair after the prefix or none, and
-/// how many rules broke it.
+/// What is seen of the start pair: of a refused book its number and record, and its buffer stays as it was; else the pair after the prefix
+/// or none, and how many rules broke it.
 #[cfg(not(feature = "standin"))]
 #[derive(Debug, PartialEq)]
 pub enum Seen {
@@ -90,7 +92,16 @@ pub fn panel_lines(book: &[u8], out: &mut [u8]) -> usize {
     lines.len()
 }
 
-/// The planner's line for a book.
+/// A planner of books of one version.
+pub struct Planner {
+    pub layout: Layout,
+    pub line: fn(&[u8]) -> Result<Vec<u8>, String>,
+}
+
+/// The planner of version 1.
+pub const ONE: Planner = Planner { layout: layout::ONE, line };
+
+/// The planner's line for a book of version 1.
 pub fn line(book: &[u8]) -> Result<Vec<u8>, String> {
     written(LINE, |out| plan_line(book, out))
 }

@@ -1,29 +1,51 @@
 //! The programs' own path: a book on standard input, in pieces, and what is printed on standard output; the plan program's lines judged.
 
-use crate::families::hundred_books;
-use crate::prefixes::Depth;
+use crate::families::{hundred_books, longest_books};
+use crate::layout::{Layout, ONE, TWO};
+use crate::prefixes::Way;
 use crate::random::Random;
-use crate::runs::try_line;
-use crate::stored;
+use crate::runs::try_line_as;
+use crate::{stored, stored_two};
 use std::io::Write;
 use std::process::{Command, Stdio};
 
-/// What every program is run on: the stored books, inputs that are too long, and some random books.
-pub fn inputs(random: &mut Random) -> Vec<(&'static str, Vec<u8>)> {
-    let mut books: Vec<(&str, Vec<u8>)> = stored::books().into_iter().map(|s| (s.name, s.book)).collect();
-    let longest = books.iter().map(|(_, book)| book).find(|book| book.len() == 3072).unwrap().clone();
-    let longer = |more| ("longer than a book", [&longest[..], &vec![0; more]].concat());
-    books.extend([1, 12, 3072, 70_000, 1_000_000].map(longer));
-    books.extend(hundred_books(random));
+/// What every program of a version is run on: the stored books, inputs that are too long, some random books, and some of the longest.
+pub fn inputs(layout: &Layout, random: &mut Random) -> Vec<(&'static str, Vec<u8>)> {
+    let mut books: Vec<(&str, Vec<u8>)> = stored::books().into_iter().map(|s| (s.name, in_version(layout, &s.book))).collect();
+    books.extend(own_books(layout));
+    let longest = stored::source(0, 0, &vec![(2, 1, 1, 2); layout.most_rules()]).packed_as(layout);
+    let longer = |more| ("the longest book or longer", [&longest[..], &vec![0; more]].concat());
+    books.extend([0, 1, layout.width(), longest.len(), 70_000, 1_000_000].map(longer));
+    books.extend(hundred_books(layout, random));
+    books.extend(longest_books(layout, random));
     books
 }
 
-/// Runs the plan program on all inputs.
-pub fn program(path: &str, seed: u64) -> Result<u64, String> {
+/// The stored books that only one version has.
+fn own_books(layout: &Layout) -> Vec<(&'static str, Vec<u8>)> {
+    let books = if *layout == TWO { stored_two::books() } else { Vec::new() };
+    books.into_iter().map(|s| (s.name, s.book)).collect()
+}
+
+/// A book of version 1 with every record as another version writes it, and with that version's number where it had its own. Bytes after
+/// the last whole record stay as they are.
+fn in_version(layout: &Layout, book: &[u8]) -> Vec<u8> {
+    let records = book.chunks_exact(ONE.width()).enumerate();
+    let zeros = |n: usize| vec![0; n];
+    let rewritten = records.flat_map(|(i, r)| {
+        let kind = if i == 0 && r[1] == ONE.version { layout.version } else { r[1] };
+        [&r[..1], &zeros(layout.link_bytes - 1), &[kind], &zeros(layout.pad_bytes), &r[2..]].concat()
+    });
+    rewritten.chain(book.chunks_exact(ONE.width()).remainder().iter().copied()).collect()
+}
+
+/// Runs a version's plan program on all inputs.
+pub fn program(layout: &Layout, path: &str, seed: u64) -> Result<u64, String> {
     let mut random = Random::new(seed);
-    let books = inputs(&mut random);
+    let books = inputs(layout, &mut random);
     for (name, book) in &books {
-        try_line(name, book, Depth::Every, printed(path, book, random.below(book.len() + 1)))?;
+        let printed = printed(path, book, random.below(book.len() + 1));
+        try_line_as(layout, name, book, Way::OnePass, printed)?;
     }
     Ok(books.len() as u64)
 }

@@ -1,13 +1,14 @@
 //! Reading rule books by the text of the format: which book is turned back and why, and what an accepted one says.
 
 use crate::exact::Line;
+use crate::layout::{signed, unsigned, Layout, Record, ONE};
 
 /// A rule as planned (kind 2 turned round), with the record that holds it.
 #[derive(Clone, Copy, Debug)]
 pub struct Entry {
     pub line: Line,
     pub record: usize,
-    pub label: [u8; 2],
+    pub label: usize,
 }
 
 /// An accepted book: the objective and the rules in chain order.
@@ -25,38 +26,50 @@ pub struct Refused {
     pub record: usize,
 }
 
+/// Reads a book of version 1.
 pub fn read(book: &[u8]) -> Result<Accepted, Refused> {
-    check_header(book).map_err(|number| Refused { number, record: 0 })?;
-    let rules = follow(book)?;
-    Ok(Accepted { p: signed16(book, 2), q: signed16(book, 4), rules })
+    read_as(&ONE, book)
 }
 
-fn check_header(book: &[u8]) -> Result<(), u32> {
-    if book.len() < 12 || book.len() > 3072 || book.len() % 12 != 0 {
+pub fn read_as(layout: &Layout, book: &[u8]) -> Result<Accepted, Refused> {
+    check_header(layout, book).map_err(|number| Refused { number, record: 0 })?;
+    let rules = follow(layout, book)?;
+    let [p, q] = layout.record(book, 0).pair.map(signed);
+    Ok(Accepted { p, q, rules })
+}
+
+fn check_header(layout: &Layout, book: &[u8]) -> Result<(), u32> {
+    let width = layout.width();
+    if book.len() < width || book.len() > width * layout.records || book.len() % width != 0 {
         return Err(1);
     }
-    if book[1] != 1 {
+    let header = layout.record(book, 0);
+    if header.kind != layout.version || !all_zero(header.pad) {
         return Err(2);
     }
-    if usize::from(book[6]) + 256 * usize::from(book[7]) != book.len() / 12 - 1 {
+    if unsigned(header.word) != book.len() / width - 1 {
         return Err(3);
     }
-    if signed16(book, 2) == -32768 || signed16(book, 4) == -32768 {
+    if header.pair.map(signed).contains(&-32768) {
         return Err(4);
     }
-    if book[8..12] != [0, 0, 0, 0] {
+    if !all_zero(header.last) {
         return Err(5);
     }
     Ok(())
 }
 
+fn all_zero(bytes: &[u8]) -> bool {
+    bytes.iter().all(|b| *b == 0)
+}
+
 /// The rules along the chain, or the first cause that turns the book back.
-fn follow(book: &[u8]) -> Result<Vec<Entry>, Refused> {
-    let count = book.len() / 12 - 1;
+fn follow(layout: &Layout, book: &[u8]) -> Result<Vec<Entry>, Refused> {
+    let count = book.len() / layout.width() - 1;
     let mut rules: Vec<Entry> = Vec::new();
     let mut holder = 0;
     loop {
-        let link = usize::from(book[12 * holder]);
+        let link = unsigned(layout.record(book, holder).link);
         if link == 0 {
             return Ok(rules);
         }
@@ -66,8 +79,9 @@ fn follow(book: &[u8]) -> Result<Vec<Entry>, Refused> {
         if rules.iter().any(|r| r.record == link) {
             return Err(Refused { number: 7, record: holder });
         }
-        let line = rule(&book[12 * link..12 * link + 12]).map_err(|number| Refused { number, record: link })?;
-        let label = [book[12 * link + 6], book[12 * link + 7]];
+        let record = layout.record(book, link);
+        let line = rule(&record).map_err(|number| Refused { number, record: link })?;
+        let label = unsigned(record.word);
         if rules.iter().any(|r| r.label == label) {
             return Err(Refused { number: 12, record: link });
         }
@@ -77,10 +91,9 @@ fn follow(book: &[u8]) -> Result<Vec<Entry>, Refused> {
 }
 
 /// The rule of one record, kind 2 turned round, or the cause against it.
-fn rule(record: &[u8]) -> Result<Line, u32> {
-    let (a, b, c) = (signed16(record, 2), signed16(record, 4), signed32(record, 8));
-    let kind = record[1];
-    if kind != 1 && kind != 2 {
+fn rule(record: &Record) -> Result<Line, u32> {
+    let ([a, b], c) = (record.pair.map(signed), signed(record.last));
+    if ![1, 2].contains(&record.kind) || !all_zero(record.pad) {
         return Err(8);
     }
     if a == -32768 || b == -32768 {
@@ -89,23 +102,5 @@ fn rule(record: &[u8]) -> Result<Line, u32> {
     if c < -1_000_000_000 || c > 1_000_000_000 {
         return Err(10);
     }
-    Ok(if kind == 1 { Line { a, b, c } } else { Line { a: -a, b: -b, c: -c } })
-}
-
-fn signed16(bytes: &[u8], at: usize) -> i128 {
-    let n = i128::from(bytes[at]) + 256 * i128::from(bytes[at + 1]);
-    if n < 32_768 {
-        n
-    } else {
-        n - 65_536
-    }
-}
-
-fn signed32(bytes: &[u8], at: usize) -> i128 {
-    let n: i128 = (0..4).map(|k| i128::from(bytes[at + k]) << (8 * k)).sum();
-    if n < 2_147_483_648 {
-        n
-    } else {
-        n - 4_294_967_296
-    }
+    Ok(if record.kind == 1 { Line { a, b, c } } else { Line { a: -a, b: -b, c: -c } })
 }

@@ -1,13 +1,14 @@
 //! The parts of the test run. Every book is planned and its line judged; the first mismatch ends the run.
 
-use crate::book::{to_hex, Source, MOST_RULES, RECORD};
+use crate::book::{to_hex, Source};
 use crate::damage::damage;
-use crate::families::source;
-use crate::judge::expected;
-use crate::planner;
-use crate::prefixes::Depth;
+use crate::families::{busy_source, source};
+use crate::judge::expected_as;
+use crate::layout::Layout;
+use crate::planner::{self, Planner};
+use crate::prefixes::Way;
 use crate::random::Random;
-use crate::read::read;
+use crate::read::read_as;
 use crate::stored;
 use std::fmt;
 
@@ -39,13 +40,13 @@ impl fmt::Display for Tally {
 }
 
 /// Plans a book, judges the line, and gives the right one.
-fn try_book(name: &str, book: &[u8], depth: Depth) -> Result<String, String> {
-    try_line(name, book, depth, planner::line(book))
+fn try_book(planner: &Planner, name: &str, book: &[u8], way: Way) -> Result<String, String> {
+    try_line_as(&planner.layout, name, book, way, (planner.line)(book))
 }
 
-/// Judges what was printed for a book, and gives the right line.
-pub fn try_line(name: &str, book: &[u8], depth: Depth, line: Result<Vec<u8>, String>) -> Result<String, String> {
-    let right = expected(book, depth);
+/// Judges what was printed for a book of a version, and gives the right line.
+pub fn try_line_as(layout: &Layout, name: &str, book: &[u8], way: Way, line: Result<Vec<u8>, String>) -> Result<String, String> {
+    let right = expected_as(layout, book, way);
     let printed = line.as_ref().map_or("nothing".into(), |line| String::from_utf8_lossy(line).trim_end().to_string());
     line.and_then(|line| right.judge(&line)).map_err(|why| {
         format!("mismatch: {name}: {why}\nbook    {}\nright   {}\nprinted {printed}", to_hex(book), right.shown())
@@ -53,11 +54,11 @@ pub fn try_line(name: &str, book: &[u8], depth: Depth, line: Result<Vec<u8>, Str
     Ok(right.shown())
 }
 
-/// The stored books; the search itself must find the stored lines.
+/// The stored books of version 1; the search itself must find the stored lines.
 pub fn stored_books(tally: &mut Tally) -> Result<u64, String> {
     let books = stored::books();
     for s in &books {
-        let right = try_book(s.name, &s.book, Depth::Every)?;
+        let right = try_book(&planner::ONE, s.name, &s.book, Way::Anew)?;
         if right != s.line {
             return Err(format!("mismatch: {}: stored {}, searched {right}\nbook    {}", s.name, s.line, to_hex(&s.book)));
         }
@@ -66,67 +67,89 @@ pub fn stored_books(tally: &mut Tally) -> Result<u64, String> {
     Ok(books.len() as u64)
 }
 
-/// Random books of up to `most` rules, one in four nearly as long as that, one in six damaged. Every prefix is searched of those
-/// with up to `every` rules and of one in forty of the others.
-pub fn random_books(tally: &mut Tally, seed: u64, books: u64, most: usize, every: usize) -> Result<u64, String> {
+/// How long random books are: at most so many rules, one in four nearly as long as that. Every prefix is searched anew of those with up to
+/// `anew` rules and of one in a hundred of the others, and in one pass of the rest.
+pub struct Lengths {
+    pub most: usize,
+    pub anew: usize,
+}
+
+/// Random books, one in six damaged.
+pub fn random_books(planner: &Planner, tally: &mut Tally, seed: u64, books: u64, lengths: Lengths) -> Result<u64, String> {
     let mut random = Random::new(seed);
+    let Lengths { most, anew } = lengths;
     for i in 0..books {
         let n = if random.one_in(4) { most - random.below(most / 12 + 1) } else { random.below(most + 1) };
-        let (name, source) = source(&mut random, n);
-        let spare = random.pick(&[3, 3, 3, MOST_RULES]);
-        let mut book = if random.one_in(4) { source.packed() } else { source.scattered(spare, &mut random) };
-        if random.one_in(6) {
-            damage(&mut random, &mut book);
-        }
-        let depth = if n <= every || i % 40 == 0 { Depth::Every } else { Depth::Whole };
-        tally.count(&try_book(name, &book, depth)?);
+        let (name, book) = random_book(&planner.layout, &mut random, n);
+        let way = if n <= anew || i % 100 == 0 { Way::Anew } else { Way::OnePass };
+        tally.count(&try_book(planner, name, &book, way)?);
+    }
+    Ok(books)
+}
+
+fn random_book(layout: &Layout, random: &mut Random, n: usize) -> (&'static str, Vec<u8>) {
+    let (name, source) = source(random, n);
+    let spare = random.pick(&[3, 3, 3, layout.most_rules()]);
+    let mut book = if random.one_in(4) { source.packed_as(layout) } else { source.scattered_as(layout, spare, random) };
+    if random.one_in(6) {
+        damage(layout, random, &mut book);
+    }
+    (name, book)
+}
+
+/// The longest books, or up to 55 rules shorter, whose counts are as great as they can be, or nearly.
+pub fn busy_books(planner: &Planner, tally: &mut Tally, seed: u64, books: u64) -> Result<u64, String> {
+    let mut random = Random::new(seed);
+    for _ in 0..books {
+        let n = planner.layout.most_rules() - random.below(56);
+        let (name, source) = busy_source(&mut random, n);
+        let book = source.scattered_as(&planner.layout, 3, &mut random);
+        tally.count(&try_book(planner, name, &book, Way::OnePass)?);
     }
     Ok(books)
 }
 
 /// Long books, damaged once or twice, of which those that are turned back are tried: they cost no search.
-pub fn damaged_books(tally: &mut Tally, seed: u64, books: u64) -> Result<u64, String> {
+pub fn damaged_books(planner: &Planner, tally: &mut Tally, seed: u64, books: u64) -> Result<u64, String> {
     let mut random = Random::new(seed);
     let mut tried = 0;
     while tried < books {
-        let (name, book) = damaged_book(&mut random);
-        if read(&book).is_err() {
-            tally.count(&try_book(name, &book, Depth::Whole)?);
+        let (name, book) = damaged_book(&planner.layout, &mut random);
+        if read_as(&planner.layout, &book).is_err() {
+            tally.count(&try_book(planner, name, &book, Way::OnePass)?);
             tried += 1;
         }
     }
     Ok(books)
 }
 
-fn damaged_book(random: &mut Random) -> (&'static str, Vec<u8>) {
-    let n = random.below(MOST_RULES + 1);
+fn damaged_book(layout: &Layout, random: &mut Random) -> (&'static str, Vec<u8>) {
+    let n = random.below(layout.most_rules() + 1);
     let (name, source) = source(random, n);
-    let mut book = source.scattered(3, random);
+    let mut book = source.scattered_as(layout, 3, random);
     for _ in 0..random.between(1, 2) {
-        if book.len() >= RECORD {
-            damage(random, &mut book);
-        }
+        damage(layout, random, &mut book);
     }
     (name, book)
 }
 
 /// The same rules in ten random orders: same outcome, pair and direction. One book in ten is long.
-pub fn orders(seed: u64, books: u64) -> Result<u64, String> {
+pub fn orders(planner: &Planner, seed: u64, books: u64) -> Result<u64, String> {
     let mut random = Random::new(seed);
     for i in 0..books {
-        let n = random.below(if i % 10 == 0 { 256 } else { 13 });
+        let n = random.below(if i % 10 == 0 { planner.layout.records } else { 13 });
         let (name, source) = source(&mut random, n);
-        ten_orders(name, &source, &mut random)?;
+        ten_orders(planner, name, &source, &mut random)?;
     }
     Ok(books)
 }
 
-fn ten_orders(name: &str, source: &Source, random: &mut Random) -> Result<(), String> {
-    let first = source.packed();
-    let said = order_free(&first)?;
+fn ten_orders(planner: &Planner, name: &str, source: &Source, random: &mut Random) -> Result<(), String> {
+    let first = source.packed_as(&planner.layout);
+    let said = order_free(planner, &first)?;
     for _ in 0..10 {
-        let book = reordered(source, random);
-        if order_free(&book)? != said {
+        let book = reordered(&planner.layout, source, random);
+        if order_free(planner, &book)? != said {
             return Err(format!("mismatch: {name}: another order\nbook    {}\nother   {}", to_hex(&first), to_hex(&book)));
         }
     }
@@ -134,18 +157,18 @@ fn ten_orders(name: &str, source: &Source, random: &mut Random) -> Result<(), St
 }
 
 /// An alike book: rules shuffled, some turned round.
-fn reordered(source: &Source, random: &mut Random) -> Vec<u8> {
+fn reordered(layout: &Layout, source: &Source, random: &mut Random) -> Vec<u8> {
     let mut other = source.clone();
     random.shuffle(&mut other.rules);
     for r in other.rules.iter_mut().filter(|_| random.one_in(4)) {
         (r.kind, r.a, r.b, r.c) = (3 - r.kind, -r.a, -r.b, -r.c);
     }
-    other.scattered(3, random)
+    other.scattered_as(layout, 3, random)
 }
 
 /// What the planner's line says that no order may change.
-fn order_free(book: &[u8]) -> Result<Vec<String>, String> {
-    let line = planner::line(book).map_err(|why| format!("mismatch: {why}\nbook    {}", to_hex(book)))?;
+fn order_free(planner: &Planner, book: &[u8]) -> Result<Vec<String>, String> {
+    let line = (planner.line)(book).map_err(|why| format!("mismatch: {why}\nbook    {}", to_hex(book)))?;
     let text = String::from_utf8_lossy(&line);
     let kept = match text.split(' ').next() {
         Some("best") => 4,

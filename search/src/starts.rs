@@ -1,25 +1,41 @@
-//! The start pair after every prefix, searched anew each time, against the planner's view of its walk. The count is of the rules that the start
-//! pair before them does not keep; the rule that leaves no pair is one of them, and no rule after it.
+//! The start pair after every prefix by the search, against the planner's view of its walk. The count is of the rules that the start pair
+//! before them does not keep; the rule that leaves no pair is one of them, and no rule after it.
 
-use crate::book::to_hex;
+use crate::book::{to_hex, MOST_RULES};
+use crate::clip;
 use crate::damage::damage;
-use crate::exact::{start, Line, Pair};
+use crate::exact::{start, Line, Outcome, Pair};
 use crate::families::source;
+use crate::layout::ONE;
 use crate::planner::{start_after, Seen};
 use crate::random::Random;
 use crate::read::{read, Refused};
 use crate::stored;
 
+/// The longest chain whose prefixes are searched anew; those of others are searched in one pass.
+const ANEW: usize = 40;
+
+/// The start pairs after 0, 1, .. n rules. Where nothing is earned, the best pair is the start pair.
+fn start_pairs(rules: &[Line]) -> Vec<Option<Pair>> {
+    if rules.len() <= ANEW {
+        return (0..=rules.len()).map(|k| start(&rules[..k])).collect();
+    }
+    let pair = |outcome| match outcome {
+        Outcome::Best(v) => Some(v),
+        _ => None,
+    };
+    clip::each(0, 0, rules).into_iter().map(pair).collect()
+}
+
 /// The start pair and the count after 0, 1, .. n rules.
 fn expected(rules: &[Line]) -> Vec<(Option<Pair>, u64)> {
-    let mut count = 0;
-    let mut seen = vec![(start(&[]), count)];
-    for (i, rule) in rules.iter().enumerate() {
-        let lost = seen[i].0.is_some_and(|v: Pair| !rule.kept_by(&v));
-        count += u64::from(lost);
-        seen.push((start(&rules[..=i]), count));
-    }
-    seen
+    let pairs = start_pairs(rules);
+    let lost = |i: usize| i > 0 && pairs[i - 1].is_some_and(|v| !rules[i - 1].kept_by(&v));
+    let counts = (0..pairs.len()).scan(0, |count, i| {
+        *count += u64::from(lost(i));
+        Some(*count)
+    });
+    pairs.iter().copied().zip(counts).collect()
 }
 
 /// What must be seen after 0, 1, .. n rules: of a refused book its refusal.
@@ -50,7 +66,7 @@ fn try_starts(name: &str, book: &[u8]) -> Result<u64, String> {
     Ok(right.len() as u64)
 }
 
-/// Stored and random books, every prefix of each. One in twenty is longer, one in eight damaged.
+/// Stored and random books, every prefix of each. One in twenty is longer, one in two hundred much longer, one in eight damaged.
 pub fn starts(seed: u64, books: u64) -> Result<u64, String> {
     let mut prefixes = stored::books().iter().map(|s| try_starts(s.name, &s.book)).sum::<Result<u64, String>>()?;
     let mut random = Random::new(seed);
@@ -62,11 +78,18 @@ pub fn starts(seed: u64, books: u64) -> Result<u64, String> {
 }
 
 fn random_book(random: &mut Random, i: u64) -> (&'static str, Vec<u8>) {
-    let n = random.below(if i % 20 == 0 { 41 } else { 13 });
+    let most = if i % 200 == 0 {
+        MOST_RULES
+    } else if i % 20 == 0 {
+        ANEW
+    } else {
+        12
+    };
+    let n = random.below(most + 1);
     let (name, source) = source(random, n);
     let mut book = source.scattered(3, random);
     if i % 8 == 0 {
-        damage(random, &mut book);
+        damage(&ONE, random, &mut book);
     }
     (name, book)
 }

@@ -1,7 +1,9 @@
 //! Stored books with the line each must print, the witness as *: class examples, students' slips, edges, and every cause that turns a
-//! book back, but the repacker's 11, on both sides of its boundary.
+//! book back, but the repacker's 11, on both sides of its boundary. By Cramer's rule no corner has an X or Y above 65,534·10⁹;
+//! books below reach it, one of them with the greatest D after division, 32,767·65,533.
 
 use crate::book::{from_hex, Rule, Source};
+use crate::long;
 
 pub struct Stored {
     pub name: &'static str,
@@ -57,6 +59,36 @@ const BOOKS: &[Row] = &[
         (1, 0),
         &[(1, 32767, -32767, 1_000_000_000), (1, 32765, 32767, 999_999_999)],
         "best 65533999967233 1999967233 2147287044 0 2",
+    ),
+    (
+        "edge: the greatest X and the greatest D",
+        (1, 0),
+        &[(1, 32767, -32767, 1_000_000_000), (1, 32766, 32767, 1_000_000_000)],
+        "best 65534000000000 1000000000 2147319811 0 2",
+    ),
+    (
+        "edge: the greatest Y and the greatest D",
+        (0, 1),
+        &[(2, 32767, -32767, -1_000_000_000), (1, 32767, 32766, 1_000_000_000)],
+        "best 1000000000 65534000000000 2147319811 0 2",
+    ),
+    (
+        "edge: the greatest X, a small D",
+        (1, 0),
+        &[(1, 2, -32767, 1_000_000_000), (1, 1, 32767, 1_000_000_000)],
+        "best 65534000000000 1000000000 98301 0 2",
+    ),
+    (
+        "edge: the greatest X in a start pair",
+        (1, 0),
+        &[(2, 32767, -32767, 1_000_000_000), (2, 32766, 32767, 1_000_000_000)],
+        "unlimited 65534000000000 1000000000 2147319811 1 0 0 3",
+    ),
+    (
+        "edge: the greatest X is broken",
+        (1, 0),
+        &[(1, 32767, -32767, 1_000_000_000), (1, 32766, 32767, 1_000_000_000), (1, 32767, 0, 999_999_999)],
+        "best 999999999 0 32767 1 2",
     ),
     ("edge: objective of -32,767", (-32767, 32767), &[(1, 0, 1, 1)], "best 0 1 1 0 1"),
     ("edge: q of -32,767", (32767, -32767), &[(1, 1, 0, 1)], "best 1 0 1 0 1"),
@@ -135,33 +167,11 @@ const BYTES: &[(&str, &str, &str)] = &[
 pub fn books() -> Vec<Stored> {
     let plain = BOOKS.iter().map(|&(name, (p, q), rules, line)| Stored { name, book: source(p, q, rules).packed(), line });
     let bytes = BYTES.iter().map(|&(name, hex, line)| Stored { name, book: from_hex(hex).unwrap(), line });
-    plain.chain(bytes).chain(longest()).chain(far_apart()).collect()
+    plain.chain(bytes).chain(long::books()).collect()
 }
 
-/// The longest book, and one record more.
-fn longest() -> [Stored; 2] {
-    let book = source(0, 0, &[(2, 1, 1, 2); 255]).packed();
-    let longer = [&book[..], &[0; 12]].concat();
-    [
-        Stored { name: "edge: 3,072 bytes", book, line: "best 0 2 1 1 0" },
-        Stored { name: "edge: 3,084 bytes", book: longer, line: "refused 1 0" },
-    ]
-}
-
-/// The label of the first of 255 rules at the last, and at the last but one.
-fn far_apart() -> [Stored; 2] {
-    let repeated = |at: usize| {
-        let mut all = source(0, 0, &[(2, 1, 1, 2); 255]);
-        all.rules[at].label = all.rules[0].label;
-        all.packed()
-    };
-    [
-        Stored { name: "12: far apart", book: repeated(254), line: "refused 12 255" },
-        Stored { name: "12: far apart, another after it", book: repeated(253), line: "refused 12 254" },
-    ]
-}
-
-fn source(p: i16, q: i16, rules: &[(u8, i16, i16, i32)]) -> Source {
+/// The rules in chain order, labelled from 101 on.
+pub fn source(p: i16, q: i16, rules: &[(u8, i16, i16, i32)]) -> Source {
     let rule = |(i, &(kind, a, b, c)): (usize, &(u8, i16, i16, i32))| Rule { kind, a, b, c, label: 101 + i as u16 };
     Source { p, q, rules: rules.iter().enumerate().map(rule).collect() }
 }

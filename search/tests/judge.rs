@@ -2,7 +2,7 @@
 
 use search::book::{from_hex, Rule, Source};
 use search::judge::expected;
-use search::prefixes::Depth;
+use search::prefixes::Way;
 use search::random::Random;
 use search::read::read;
 
@@ -12,7 +12,7 @@ fn source(p: i16, q: i16, rules: &[(u8, i16, i16, i32)]) -> Source {
 }
 
 fn verdicts(source: &Source, right: &str, wrong: &[&str]) {
-    let expected = expected(&source.packed(), Depth::Every);
+    let expected = expected(&source.packed(), Way::Anew);
     assert_eq!(expected.judge(right.as_bytes()), Ok(()));
     for line in wrong {
         assert!(expected.judge(line.as_bytes()).is_err(), "{line:?} passed");
@@ -89,16 +89,6 @@ fn floors_come_first() {
         "impossible 1 1 0 3 x 1 y 1 1 1\n",
     ];
     verdicts(&below, "impossible 1 1 0 3 X 1 Y 1 1 1\n", &wrong);
-}
-
-#[test]
-fn a_whole_search_leaves_counts_within_bounds() {
-    let book = source(1, 1, &[(1, 1, 2, 8), (1, 3, 1, 9)]).packed();
-    let right = expected(&book, Depth::Whole);
-    assert_eq!(right.judge(b"best 2 3 1 2 3\n"), Ok(()));
-    assert!(right.judge(b"best 2 3 1 3 1\n").is_err());
-    assert!(right.judge(b"best 2 3 1 1 4\n").is_err());
-    assert!(right.judge(b"best 2 3 1 1\n").is_err());
 }
 
 #[test]

@@ -39,6 +39,9 @@ fn main() -> ExitCode {
 
 fn run(vectors: &str, count: &str) -> Result<(), String> {
     let count = count.parse().map_err(|_| format!("COUNT is no number: {count}\n{USAGE}"))?;
+    if count == 0 {
+        return Err(format!("COUNT is 0: a run without texts would test nothing\n{USAGE}"));
+    }
     let seed = seed()?;
     println!("typed_search: all right: {}; SEED={seed}", judge::random_texts(vectors, seed, count)?);
     Ok(())

@@ -1,0 +1,102 @@
+//! Stored books of version 2 with the line each must print, the witness as *: what version 1 does not have, and chains of 4,095 rules.
+//! Version 2 is as it was requested first, with zeros in the header's last four bytes.
+
+use crate::book::{from_hex, Rule, Source};
+use crate::layout::TWO;
+use crate::long::{steeper, tangents};
+use crate::stored::{source, Stored};
+
+const MOST: usize = 4_095;
+
+/// Books that only their bytes can say.
+const BYTES: &[(&str, &str, &str)] = &[
+    ("two: no rules", "0000 02 00 0000 0000 0000 00000000", "best 0 0 1 0 0"),
+    ("two: 13 bytes", "0000 02 00 0000 0000 0000 000000", "refused 1 0"),
+    ("two: 15 bytes", "0000 02 00 0000 0000 0000 00000000 00", "refused 1 0"),
+    ("two: version 1", "0000 01 00 0000 0000 0000 00000000", "refused 2 0"),
+    ("two: a record of version 1", "0001 0000 0000 0000 00000000", "refused 1 0"),
+    ("two: header byte 3", "0000 02 01 0000 0000 0000 00000000", "refused 2 0"),
+    ("two: header byte 3 before 3", "0000 02 80 0000 0000 0100 00000000", "refused 2 0"),
+    ("two: count too large by 256", "0000 02 00 0000 0000 0001 00000000", "refused 3 0"),
+    ("two: 3 before 4", "0000 02 00 0080 0000 0001 00000000", "refused 3 0"),
+    ("two: header byte 10", "0000 02 00 0000 0000 0000 01000000", "refused 5 0"),
+    ("two: header byte 13", "0000 02 00 0000 0000 0000 00000080", "refused 5 0"),
+    (
+        "two: a first link with its high byte alone",
+        "0001 02 00 0000 0000 0100 00000000 0000 01 00 0000 0000 0700 00000000",
+        "refused 6 0",
+    ),
+    ("two: a link of 257", "0100 02 00 0000 0000 0100 00000000 0101 01 00 0000 0000 0700 00000000", "refused 6 1"),
+    ("two: a rule's byte 3", "0100 02 00 0000 0000 0100 00000000 0000 01 01 0000 0000 0700 00000000", "refused 8 1"),
+    ("two: a rule's byte 3, kind 2", "0100 02 00 0000 0000 0100 00000000 0000 02 80 0000 0000 0700 00000000", "refused 8 1"),
+    ("two: a rule's byte 3 before 9", "0100 02 00 0000 0000 0100 00000000 0000 01 01 0080 0000 0700 00000000", "refused 8 1"),
+    ("two: a spare record's byte 3", "0000 02 00 0000 0000 0100 00000000 0000 01 01 0000 0000 0700 00000000", "best 0 0 1 0 0"),
+    ("two: c after byte 3", "0100 02 00 0100 0000 0100 00000000 0000 01 00 0100 0000 0700 00ca9a3b", "best 1000000000 0 1 0 1"),
+];
+
+pub fn books() -> Vec<Stored> {
+    let bytes = BYTES.iter().map(|&(name, hex, line)| Stored { name, book: from_hex(hex).unwrap(), line });
+    bytes.chain(lengths()).chain(far_records()).chain(chains()).collect()
+}
+
+/// The longest book, and one record more.
+fn lengths() -> [Stored; 2] {
+    let book = source(0, 0, &[(2, 1, 1, 2); MOST]).packed_as(&TWO);
+    let longer = [&book[..], &[0; 14]].concat();
+    [
+        Stored { name: "two: 57,344 bytes", book, line: "best 0 2 1 1 0" },
+        Stored { name: "two: 57,358 bytes", book: longer, line: "refused 1 0" },
+    ]
+}
+
+/// Causes in records above 255, whose indices need both bytes.
+fn far_records() -> Vec<Stored> {
+    let changed = |at: usize, bytes: &[u8]| {
+        let mut book = source(0, 0, &[(2, 1, 1, 2); 300]).packed_as(&TWO);
+        book[at..at + bytes.len()].copy_from_slice(bytes);
+        book
+    };
+    let last = 300 * TWO.width();
+    vec![
+        Stored { name: "two: the last of 300 leads to 301", book: changed(last, &[45, 1]), line: "refused 6 300" },
+        Stored { name: "two: the last of 300 leads to 257", book: changed(last, &[1, 1]), line: "refused 7 300" },
+        Stored { name: "two: the last of 300 leads to 1", book: changed(last, &[1, 0]), line: "refused 7 300" },
+        Stored { name: "two: the last of 300 of no kind", book: changed(last + 2, &[3]), line: "refused 8 300" },
+        Stored {
+            name: "two: the last of 300 with the first's label",
+            book: changed(last + 8, &[101, 0]),
+            line: "refused 12 300",
+        },
+        Stored { name: "two: the last of 300 with 65,535", book: changed(last + 8, &[255, 255]), line: "best 0 2 1 1 0" },
+    ]
+}
+
+/// The greatest moves, open and place, and a label that stands first and last.
+fn chains() -> Vec<Stored> {
+    let packed =
+        |name, p, q, rules: &[(u8, i16, i16, i32)], line| Stored { name, book: source(p, q, rules).packed_as(&TWO), line };
+    let ended = [&tangents(MOST - 1)[..], &[(1, 1, 0, 0)]].concat();
+    let rule = |i: usize| Rule { kind: 2, a: 1, b: 1, c: 2, label: 65_535 - (i % 4_094) as u16 };
+    let twice = Source { p: 0, q: 0, rules: (0..MOST).map(rule).collect() };
+    vec![
+        packed("two: 4,095 moves", -1, 0, &tangents(MOST), "best 8395836 2001 2 4095 0"),
+        packed("two: 4,096 open prefixes, the start pair moves", 1, 0, &tangents(MOST), "unlimited 8395836 2001 2 1 0 0 4096"),
+        packed("two: 4,096 open prefixes, the direction turns", 1, 1, &steeper(MOST), "unlimited 0 0 1 256 4095 0 4096"),
+        packed("two: impossible after 4,095 moves", -1, 0, &ended, "impossible 4095 4095 0 *"),
+        Stored { name: "two: 65,535 in records 1 and 4,095", book: twice.packed_as(&TWO), line: "refused 12 4095" },
+    ]
+}
+
+#[cfg(test)]
+mod tests {
+    use super::*;
+    use crate::judge::expected_as;
+    use crate::prefixes::Way;
+
+    #[test]
+    fn the_search_finds_the_stored_lines() {
+        for s in books() {
+            assert_eq!(expected_as(&TWO, &s.book, Way::OnePass).shown(), s.line, "{}", s.name);
+        }
+    }
+}
