@@ -1,91 +1,113 @@
--- Quotients: a division by a natural number is what the integers have.
-use mathlib.Core.Path.{_≡_, sym, _∙_, ap, ap₂, subst}
-use Prim.Native.Nat.{ℕ, zero, suc, _^_, _<_, _≤_}
+-- A quotient by what divides several numbers, for every i64 and every u64: what the machine divides is what the integers have, and where the divisor is 0 or
+-- no i64 at all, the quotient is known. An i64 that a call takes or returns is read back from its bits, `read z`, which is z.
+use mathlib.Core.Path.{_≡_, refl, sym, _∙_, ap, ap₂, subst}
+use Prim.Native.Nat.{ℕ, zero, suc, _/_, _^_, _≤_, _<_}
+use native.Mathlib.Nat.{div-zero, div-eq-of-lt, div-self, div-le-self}
 use native.Mathlib.Omega.{arith}
-use lib.IntN.{ℤ, pos, natAbs}
+use lib.IntN.{ℤ, pos, negsuc, negℤ, natAbs}
 use lib.Signed.{quotZ, mag}
 use mir.Syntax.{w64}
 use mir.Val.{SFits, toZ}
 use mir.Facts.{toZ-ofZ}
-use Rattle.ints.specs.Within.{Within}
 use Rattle.ints.specs.Gcd.{gcd, gcd2, gcd3}
-use Rattle.ints.proofs.Gcd.{gcd-zero, gcd-comm, gcd-assoc, gcd-le-right, gcd-pos-right, gcd3-le, gcd3-pos}
-use Rattle.ints.proofs.Machine.{within-fits, within-read, within-quot, weaken}
-use Rattle.ints.proofs.Divides.{natAbs-pos}
-use Rattle.lp.specs.declared.Point.{Point}
-use Rattle.lp.specs.declared.Ray.{Ray}
-use Rattle.model.specs.Bounds.{SmallPoint, SmallRay}
-use Rattle.fraction.specs.Sizes.{Quotient, Reducible, Fraction}
-use Rattle.fraction.proofs.Sizes.{read, result-read, within-unread}
+use Rattle.ints.proofs.Bits.{read}
+use Rattle.ints.proofs.Gcd.{gcd-comm, gcd-assoc}
+use Rattle.lp.specs.Program.{point, ray}
+use Rattle.lp.specs.Slack.{amount}
 
-module _ {z : ℤ} {g : ℕ} (h : Quotient z g) where
-  quot-unread : quotZ (read z) (toZ w64 g) ≡ quotZ z (pos g)
-  quot-unread = ap₂ quotZ (within-unread (h .z-small) tt) (toZ-ofZ {w = w64} {z = pos g} (record { sfits = h .g-small }))
+pub unread : (z : ℤ) → mag z < 2 ^ 63 → read z ≡ z
+unread z h = toZ-ofZ {w = w64} (record { sfits = h })
 
-  pub quot-fits : SFits w64 (quotZ (read z) (toZ w64 g))
-  quot-fits = subst (λ y. SFits w64 y) (sym quot-unread) (within-fits (within-quot (pos g) (h .z-small)) tt)
+-- ---- a divisor that is an i64
 
-  pub quot-is : read (quotZ (read z) (toZ w64 g)) ≡ quotZ z (pos g)
-  quot-is = toZ-ofZ {w = w64} quot-fits ∙ quot-unread
+-- minus n, for n up to 2^63
+low : (n : ℕ) → n ≤ 2 ^ 63 → SFits w64 (negℤ (pos n))
+low zero h = record { sfits = omega arith }
+low (suc n) h = record { sfits = omega arith }
 
--- what a call returned, for a divisor that is known to be k
-pub quotient-read : {z : ℤ} → Within 6442057734000000000 z → {g k : ℕ} → g ≡ k → {q : ℤ} → mag q < 2 ^ 63 → q ≡ quotZ (read z) (pos g) → read q ≡ quotZ z (pos k)
-quotient-read h eg b e = result-read b ∙ e ∙ ap₂ (λ y (n : ℕ). quotZ y (pos n)) (within-unread h tt) eg
+module _ (g : ℕ) where
+  fits : (z : ℤ) → mag z < 2 ^ 63 → SFits w64 (quotZ z (pos g))
+  fits (pos a) h = record { sfits = omega (arith, div-le-self a g) }
+  fits (negsuc a) h = low (suc a / g) (omega (arith, div-le-self (suc a) g))
 
-gcd-small : (m n : ℕ) → m ≤ 32767 → n ≤ 32767 → gcd m n < 2 ^ 63
-gcd-small m zero h k = subst (λ (g : ℕ). g < 2 ^ 63) (sym (gcd-zero m)) (omega arith)
-gcd-small m (suc n) h k = omega (arith, gcd-le-right m (suc n) (omega arith))
+  module _ (z : ℤ) (h : mag z < 2 ^ 63) (k : g < 2 ^ 63) where
+    same : quotZ (read z) (toZ w64 g) ≡ quotZ z (pos g)
+    same = ap₂ quotZ (unread z h) (toZ-ofZ {w = w64} {z = pos g} (record { sfits = k }))
 
--- ---- the divisor of a point, and of a ray
+    pub quot-fits : SFits w64 (quotZ (read z) (toZ w64 g))
+    quot-fits = subst (λ y. SFits w64 y) (sym same) (fits z h)
 
--- from the magnitudes that it is worked out from, y's last
-module _ {v : Point} (h : SmallPoint v) {mx my md mxd g : ℕ} where
-  pub point-divisor : my ≡ natAbs (read (v .y)) → mx ≡ natAbs (read (v .x)) → md ≡ natAbs (read (v .d)) → mxd ≡ gcd mx md → g ≡ gcd my mxd → g ≡ gcd3 (v .x) (v .y) (v .d)
-  point-divisor ey ex ed exd eg =
+    pub quot-is : read (quotZ (read z) (toZ w64 g)) ≡ quotZ z (pos g)
+    quot-is = toZ-ofZ {w = w64} quot-fits ∙ same
+
+-- ---- a divisor of 0, and one that is no i64
+
+nought : (z : ℤ) (g : ℕ) → natAbs z / g ≡ 0 → pos 0 ≡ quotZ z (pos g)
+nought (pos a) g e = sym (ap pos e)
+nought (negsuc a) g e = sym (ap (λ (n : ℕ). negℤ (pos n)) e)
+
+pub by-zero : (z : ℤ) {g : ℕ} → g ≡ 0 → pos 0 ≡ quotZ z (pos g)
+by-zero z {g} e = nought z g (ap (λ (n : ℕ). natAbs z / n) e ∙ div-zero (natAbs z))
+
+-- it is greater than the number
+pub by-greater : (z : ℤ) (g : ℕ) {m : ℕ} → m ≡ natAbs (read z) → mag z < 2 ^ 63 → m < g → pos 0 ≡ quotZ z (pos g)
+by-greater z g e h less = nought z g (div-eq-of-lt (subst (λ (n : ℕ). n < g) (e ∙ ap natAbs (unread z h)) less))
+
+-- or it is 2^63, and the number is the least i64
+pub by-least : (z : ℤ) (g : ℕ) {m : ℕ} → m ≡ natAbs (read z) → mag z < 2 ^ 63 → 2 ^ 63 ≤ g → g ≤ m → negsuc 0 ≡ quotZ z (pos g)
+by-least z g e h big less = go z h (subst (λ (n : ℕ). g ≤ n) (e ∙ ap natAbs (unread z h)) less)
+  where
+    go : (z : ℤ) → mag z < 2 ^ 63 → g ≤ natAbs z → negsuc 0 ≡ quotZ z (pos g)
+    go (pos a) h k = absurd (few a h k)
+      where
+        few : (a : ℕ) → a < 2 ^ 63 → g ≤ a → ⊥
+        few a h k = omega (arith, big)
+    go (negsuc a) h k = sym (ap (λ (n : ℕ). negℤ (pos n)) (ap (λ (n : ℕ). suc a / n) (last a h k) ∙ div-self {n = suc a} (omega arith)))
+      where
+        last : (a : ℕ) → a < 2 ^ 63 → g ≤ suc a → g ≡ suc a
+        last a h k = omega (arith, big)
+
+-- ---- what the calls returned
+
+-- a quotient, for a divisor that is known to be k
+pub quotient-read :
+    (z : ℤ) →
+    mag z < 2 ^ 63 →
+    {g k : ℕ} →
+    g ≡ k →
+    (q : ℤ) →
+    mag q < 2 ^ 63 →
+    q ≡ quotZ (read z) (pos g) →
+    read q ≡ quotZ z (pos k)
+quotient-read z h eg q b e = unread q b ∙ e ∙ ap₂ (λ y (n : ℕ). quotZ y (pos n)) (unread z h) eg
+
+-- the divisor of two numbers, from their magnitudes
+module _ (x y : ℤ) (hx : mag x < 2 ^ 63) (hy : mag y < 2 ^ 63) {mx my g : ℕ} where
+  pub divisor-of-two : mx ≡ natAbs (read x) → my ≡ natAbs (read y) → g ≡ gcd mx my → g ≡ gcd2 x y
+  divisor-of-two ex ey eg = eg ∙ ap₂ gcd (ex ∙ ap natAbs (unread x hx)) (ey ∙ ap natAbs (unread y hy))
+
+-- of three, y's last
+module _ (x y d : ℤ) (hx : mag x < 2 ^ 63) (hy : mag y < 2 ^ 63) (hd : mag d < 2 ^ 63) {mx my md mxd g : ℕ} where
+  pub divisor-of-three :
+      my ≡ natAbs (read y) →
+      mx ≡ natAbs (read x) →
+      md ≡ natAbs (read d) →
+      mxd ≡ gcd mx md →
+      g ≡ gcd my mxd →
+      g ≡ gcd3 x y d
+  divisor-of-three ey ex ed exd eg =
       eg
-      ∙ ap₂ gcd (ey ∙ ap natAbs (within-unread (h .y-small) tt))
-      (exd ∙ ap₂ gcd (ex ∙ ap natAbs (within-unread (h .x-small) tt)) (ed ∙ ap natAbs (within-unread (h .d-small) tt)))
-      ∙ sym (gcd-assoc (natAbs (v .y)) (natAbs (v .x)) (natAbs (v .d)))
-      ∙ ap (λ m. gcd m (natAbs (v .d))) (gcd-comm (natAbs (v .y)) (natAbs (v .x)))
+      ∙ ap₂ gcd (ey ∙ ap natAbs (unread y hy)) (divisor-of-two x d hx hd ex ed exd)
+      ∙ sym (gcd-assoc (natAbs y) (natAbs x) (natAbs d))
+      ∙ ap (λ m. gcd m (natAbs d)) (gcd-comm (natAbs y) (natAbs x))
 
-module _ {d : Ray} (h : SmallRay d) {mx my g : ℕ} where
-  pub ray-divisor : mx ≡ natAbs (read (d .dx)) → my ≡ natAbs (read (d .dy)) → g ≡ gcd mx my → g ≡ gcd2 (d .dx) (d .dy)
-  ray-divisor ex ey eg =
-      eg ∙ ap₂ gcd (ex ∙ ap natAbs (within-unread (h .dx-small) tt)) (ey ∙ ap natAbs (within-unread (h .dy-small) tt))
+-- ---- a point, a ray and an amount are their numbers
 
--- it fits, and is not 0
-pub point-quotient : {v : Point} → SmallPoint v → {g : ℕ} → g ≡ gcd3 (v .x) (v .y) (v .d) → {z : ℤ} → Within 6442057734000000000 z → Quotient (read z) g
-point-quotient {v} h e s =
-    record {
-      z-small = within-read s tt;
-      g-small = subst (λ (n : ℕ). n < 2 ^ 63) (sym e) (omega (arith, gcd3-le (v .x) (v .y) (v .d) (h .d-proper), h .d-small .small));
-      g-proper = subst (λ (n : ℕ). 0 < n) (sym e) (gcd3-pos (v .x) (v .y) (v .d) (h .d-proper));
-    }
+pub point-same : {x y d x′ y′ d′ : ℤ} → x ≡ x′ → y ≡ y′ → d ≡ d′ → point x y d ≡ point x′ y′ d′
+point-same ex ey ed = λ i. point (ex i) (ey i) (ed i)
 
-pub ray-quotient : {d : Ray} → Reducible d → {g : ℕ} → g ≡ gcd2 (d .dx) (d .dy) → {z : ℤ} → Within 32767 z → Quotient (read z) g
-ray-quotient {d} h e s =
-    record {
-      z-small = within-read (weaken tt s) tt;
-      g-small =
-          subst (λ (n : ℕ). n < 2 ^ 63) (sym e)
-          (gcd-small (natAbs (d .dx)) (natAbs (d .dy)) (h .ray .dx-small .small) (h .ray .dy-small .small));
-      g-proper = subst (λ (n : ℕ). 0 < n) (sym e) (h .g-proper);
-    }
+pub ray-same : {x y x′ y′ : ℤ} → x ≡ x′ → y ≡ y′ → ray x y ≡ ray x′ y′
+ray-same ex ey = λ i. ray (ex i) (ey i)
 
--- ---- a fraction in lowest terms
-
-module _ {n d : ℤ} (h : Fraction n d) where
-  fraction-le : gcd2 n d ≤ 2147352578
-  fraction-le = omega (arith, gcd-le-right (natAbs n) (natAbs d) (natAbs-pos (h .d-proper)), h .d-small .small)
-
-  pub fraction-divisor : {mn md g : ℕ} → mn ≡ natAbs (read n) → md ≡ natAbs (read d) → g ≡ gcd mn md → g ≡ gcd2 n d
-  fraction-divisor en ed eg =
-      eg ∙ ap₂ gcd (en ∙ ap natAbs (within-unread (h .n-small) tt)) (ed ∙ ap natAbs (within-unread (h .d-small) tt))
-
-  pub fraction-quotient : {g : ℕ} → g ≡ gcd2 n d → {z : ℤ} → Within 6442057734000000000 z → Quotient (read z) g
-  fraction-quotient e s =
-      record {
-        z-small = within-read s tt;
-        g-small = subst (λ (n : ℕ). n < 2 ^ 63) (sym e) (omega (arith, fraction-le));
-        g-proper = subst (λ (n : ℕ). 0 < n) (sym e) (gcd-pos-right (natAbs n) (natAbs d) (natAbs-pos (h .d-proper)));
-      }
+pub amount-same : {n d n′ d′ : ℤ} → n ≡ n′ → d ≡ d′ → amount n d ≡ amount n′ d′
+amount-same en ed = λ i. amount (en i) (ed i)

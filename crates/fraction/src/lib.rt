@@ -1,4 +1,5 @@
-// Points, rays and amounts in lowest terms. The greatest common divisor is worked out by repeated remainders, on magnitudes.
+// Points, rays and amounts in lowest terms: their numbers are divided by what divides them all. The greatest common divisor is worked out by repeated remainders, on
+// magnitudes. Each function takes every i64 there is.
 use ints::magnitude;
 use lp::Amount;
 use lp::Point;
@@ -6,11 +7,9 @@ use lp::Ray;
 ghost use mathlib.Core.Path.{_≡_};
 ghost use lib.IntN.{pos};
 ghost use lib.Signed.{quotZ};
-ghost use Rattle.ints.specs.Gcd.{gcd, gcd2, gcd3};
+ghost use Rattle.ints.specs.Gcd.{gcd};
 ghost use Rattle.lp.specs.Outcome.{reduce as reduceOf, reduceRay};
-ghost use Rattle.model.specs.Bounds.{SmallPoint, SmallRay};
 ghost use Rattle.lp.specs.Slack.{lowest as lowestOf};
-ghost use Rattle.fraction.specs.Sizes.{Quotient, Reducible, Fraction};
 
 // Euclid's: the second number falls.
 fn divisor(m: u64, n: u64) -> u64
@@ -19,26 +18,24 @@ fn divisor(m: u64, n: u64) -> u64
     if n == 0 { m } else { divisor(n, m % n) }
 }
 
+// z by g. A divisor of 0, which divides zeros alone, gives 0. One that is no i64 is 2^63 or more: it goes once into the least i64, if it is 2^63, and into no other.
 fn quotient(z: i64, g: u64) -> i64
-    requires { ⌜ Quotient z g ⌝ }
     ensures { λ r. ⌜ r ≡ quotZ z (pos g) ⌝ }
 {
-    z / (g as i64)
+    if g == 0 {
+        return 0;
+    }
+    if g < 9223372036854775808 {
+        return z / (g as i64);
+    }
+    if magnitude(z) < g { 0 } else { -1 }
 }
 
-// What divides a point's three numbers. The first remainder of x by d is already small, where x and y are both large.
-fn point_divisor(v: Point) -> u64
-    requires { ⌜ SmallPoint v ⌝ }
-    ensures { λ g. ⌜ g ≡ gcd3 (v .x) (v .y) (v .d) ⌝ }
-{
-    divisor(magnitude(v.y), divisor(magnitude(v.x), magnitude(v.d)))
-}
-
+// The first remainder of x by d is already small, where x and y are both large.
 pub fn reduce(v: Point) -> Point
-    requires { ⌜ SmallPoint v ⌝ }
     ensures { λ w. ⌜ w ≡ reduceOf v ⌝ }
 {
-    let g = point_divisor(v);
+    let g = divisor(magnitude(v.y), divisor(magnitude(v.x), magnitude(v.d)));
     Point {
         x: quotient(v.x, g),
         y: quotient(v.y, g),
@@ -46,19 +43,10 @@ pub fn reduce(v: Point) -> Point
     }
 }
 
-// What divides a ray's two numbers.
-fn ray_divisor(d: Ray) -> u64
-    requires { ⌜ SmallRay d ⌝ }
-    ensures { λ g. ⌜ g ≡ gcd2 (d .dx) (d .dy) ⌝ }
-{
-    divisor(magnitude(d.dx), magnitude(d.dy))
-}
-
 pub fn reduce_ray(d: Ray) -> Ray
-    requires { ⌜ Reducible d ⌝ }
     ensures { λ e. ⌜ e ≡ reduceRay d ⌝ }
 {
-    let g = ray_divisor(d);
+    let g = divisor(magnitude(d.dx), magnitude(d.dy));
     Ray {
         dx: quotient(d.dx, g),
         dy: quotient(d.dy, g),
@@ -67,7 +55,6 @@ pub fn reduce_ray(d: Ray) -> Ray
 
 // n/d in lowest terms.
 pub fn lowest(n: i64, d: i64) -> Amount
-    requires { ⌜ Fraction n d ⌝ }
     ensures { λ a. ⌜ a ≡ lowestOf n d ⌝ }
 {
     let g = divisor(magnitude(n), magnitude(d));

@@ -7,11 +7,11 @@ use Rattle.ints.proofs.Gcd.{gcd-zero, gcd-step}
 use Prim.Native.Nat.{ℕ, _<_}
 use borrow.Fn.Kinds.{In}
 use borrow.Fn.PlainCycle.{Measures, is, falls, and}
-use Rattle.fraction.proofs.divisor.divisor.Reads as divisor
-use Rattle.fraction.proofs.divisor.divisor.Kinds as divisor-kinds
-use Rattle.fraction.proofs.divisor.+divisor.Lts-divisor as divisor-lts
-use Rattle.fraction.proofs.divisor.+divisor.{statement}
-use Rattle.fraction.proofs.divisor.+divisor.Tie.{close}
+use Rattle.fraction.proofs.divisor.Reads as divisor
+use Rattle.fraction.proofs.divisor.Kinds as divisor-kinds
+use Rattle.fraction.proofs.+divisor.Lts-divisor as divisor-lts
+use Rattle.fraction.proofs.+divisor.{statement}
+use Rattle.fraction.proofs.+divisor.Tie.{close}
 
 abbrev μ-divisor : Measures 0 divisor-kinds.ps ℕ
 μ-divisor κs a = a .1 .0
