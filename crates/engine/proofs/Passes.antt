@@ -86,20 +86,36 @@ abbrev pub Holds : Constraint → Held → Found → Type 0
 Holds l t found.Nothing = t .point ≡ far l
 Holds l t (found.At j k p) = t ≡ held j k p
 
-holds-step : (l : Constraint) (i : ℕ) (m : Constraint) (t : Held) (f : Found) → Holds l t f → Holds l (tightened l i m t) (tighter l i m f)
-holds-step l i m t found.Nothing e = go (ltZ (pos 0) (det m l)) refl
+holds-step :
+    (l : Constraint) (i : ℕ) (m : Constraint) (t : Held) (f : Found) →
+    Holds l t f →
+    Holds l (tightened l i m t) (tighter l i m f)
+holds-step l i m t found.Nothing e = go (ltZ (pos 0) (det m l)) refl (keeps m (t .point)) refl
   where
-    go : (s : Bool) → ltZ (pos 0) (det m l) ≡ s → Holds l (elim s [ true ↦ elim (keeps m (t .point)) [ true ↦ t | false ↦ held i m (meet m l) ] | false ↦ t ]) (elim s [ true ↦ found.At i m (meet m l) | false ↦ found.Nothing ])
-    go true k = ap (λ u. elim u [ true ↦ t | false ↦ held i m (meet m l) ]) (ap (keeps m) e ∙ far-breaks m l k)
-    go false k = e
+    go :
+        (s : Bool) →
+        ltZ (pos 0) (det m l) ≡ s →
+        (u : Bool) →
+        keeps m (t .point) ≡ u →
+        Holds l (elim u [ true ↦ t | false ↦ elim s [ true ↦ held i m (meet m l) | false ↦ t ] ])
+        (elim s [ true ↦ found.At i m (meet m l) | false ↦ found.Nothing ])
+    go true k true d = absurd (subst T (sym d ∙ ap (keeps m) e ∙ far-breaks m l k) tt)
+    go true k false d = refl
+    go false k true d = e
+    go false k false d = e
 holds-step l i m t (found.At j k p) e = go (ltZ (pos 0) (det m l)) (keeps m (t .point)) (keeps m p) (ap (λ u. keeps m (u .point)) e)
   where
-    go : (s u v : Bool) → u ≡ v → Holds l (elim s [ true ↦ elim u [ true ↦ t | false ↦ held i m (meet m l) ] | false ↦ t ]) (elim s [ true ↦ elim v [ true ↦ found.At j k p | false ↦ found.At i m (meet m l) ] | false ↦ found.At j k p ])
+    go :
+        (s u v : Bool) →
+        u ≡ v →
+        Holds l (elim u [ true ↦ t | false ↦ elim s [ true ↦ held i m (meet m l) | false ↦ t ] ])
+        (elim s [ true ↦ elim v [ true ↦ found.At j k p | false ↦ found.At i m (meet m l) ] | false ↦ found.At j k p ])
     go true true true d = e
     go true true false d = absurd (subst T d tt)
     go true false true d = absurd (subst T (sym d) tt)
     go true false false d = refl
-    go false u v d = e
+    go false true v d = e
+    go false false v d = e
 
 holds-found : (l : Constraint) (t : Held) (f : Found) → Holds l t f → SmallFound f → foundOf t ≡ f
 holds-found l t found.Nothing e s =

@@ -7,17 +7,18 @@ use lib.Dec.{T, ltb}
 use lib.IntN.{ℤ, pos, negℤ, _+ℤ_, _-ℤ_, _*ℤ_, +ℤ-idl}
 use lib.Signed.{mag}
 use mir.Syntax.{w64}
-use mir.Val.{SFits, toZ, ofZ}
+use mir.Val.{SFits}
 use mir.Facts.{toZ-ofZ}
 use Rattle.ints.specs.Within.{Within}
+use Rattle.ints.proofs.Bits.{read}
 use Rattle.ints.proofs.Machine.{within-fits, within-read, within-add, within-sub, within-mul, within-numeral, weaken}
 use Rattle.lp.specs.declared.Constraint.{Constraint}
 use Rattle.lp.specs.declared.Functional.{Functional}
 use Rattle.lp.specs.declared.Point.{Point}
 use Rattle.lp.specs.declared.Ray.{Ray}
-use Rattle.lp.specs.Program.{constraint, point, ray}
-use Rattle.lp.specs.Slack.{amount}
+use Rattle.lp.specs.Program.{constraint}
 use Rattle.lp.specs.Certificate.{isZero}
+use Rattle.fraction.proofs.Quotients.{unread}
 use Rattle.model.specs.Bounds.{SmallPoint}
 use Rattle.lp.specs.Range.{SmallConstraint}
 use Rattle.engine.specs.Sizes.{Factors, Distance, Lines, Risen, Gained}
@@ -44,13 +45,6 @@ distance-fits s =
 
 -- ---- a number that was read back from its bits
 
-abbrev pub read : ℤ → ℤ
-read z = toZ w64 (ofZ w64 z)
-
--- what a call returned
-pub result-read : {z : ℤ} → mag z < 2 ^ 63 → read z ≡ z
-result-read h = toZ-ofZ {w = w64} (record { sfits = h })
-
 pub within-unread : {n : ℕ} {z : ℤ} → Within n z → T (ltb n (2 ^ 63)) → read z ≡ z
 within-unread h t = toZ-ofZ {w = w64} (within-fits h t)
 
@@ -69,10 +63,10 @@ module _ {p q s t : ℤ} (f : Factors p q s t) where
       λ i. F (within-unread (f .p-small) tt i) (within-unread (f .q-small) tt i) (within-unread (f .s-small) tt i) (within-unread (f .t-small) tt i)
 
   pub sum-read : {z : ℤ} → mag z < 2 ^ 63 → z ≡ read p *ℤ read q +ℤ read s *ℤ read t → read z ≡ p *ℤ q +ℤ s *ℤ t
-  sum-read h e = result-read h ∙ e ∙ factors-same (λ p q s t. p *ℤ q +ℤ s *ℤ t)
+  sum-read h e = unread h ∙ e ∙ factors-same (λ p q s t. p *ℤ q +ℤ s *ℤ t)
 
   pub difference-read : {z : ℤ} → mag z < 2 ^ 63 → z ≡ read p *ℤ read q -ℤ read s *ℤ read t → read z ≡ p *ℤ q -ℤ s *ℤ t
-  difference-read h e = result-read h ∙ e ∙ factors-same (λ p q s t. p *ℤ q -ℤ s *ℤ t)
+  difference-read h e = unread h ∙ e ∙ factors-same (λ p q s t. p *ℤ q -ℤ s *ℤ t)
 
 module _ {a x b y c d : ℤ} (f : Distance a x b y c d) where
   pub distance-args : Distance (read a) (read x) (read b) (read y) (read c) (read d)
@@ -88,7 +82,7 @@ module _ {a x b y c d : ℤ} (f : Distance a x b y c d) where
 
   pub distance-read : {z : ℤ} → mag z < 2 ^ 63 → z ≡ read c *ℤ read d -ℤ (read a *ℤ read x +ℤ read b *ℤ read y) → read z ≡ c *ℤ d -ℤ (a *ℤ x +ℤ b *ℤ y)
   distance-read h e =
-      result-read h
+      unread h
       ∙ e
       ∙ λ i. within-unread (f .c-small) tt i *ℤ within-unread (f .d-small) tt i -ℤ (within-unread (f .a-small) tt i *ℤ within-unread (f .x-small) tt i +ℤ within-unread (f .b-small) tt i *ℤ within-unread (f .y-small) tt i)
 
@@ -151,16 +145,6 @@ kept-distance h k =
       d-small = k .d-small;
     }
 
--- a point is its three numbers
-pub point-same : {x y d x′ y′ d′ : ℤ} → x ≡ x′ → y ≡ y′ → d ≡ d′ → point x y d ≡ point x′ y′ d′
-point-same ex ey ed = λ i. point (ex i) (ey i) (ed i)
-
-pub ray-same : {x y x′ y′ : ℤ} → x ≡ x′ → y ≡ y′ → ray x y ≡ ray x′ y′
-ray-same ex ey = λ i. ray (ex i) (ey i)
-
-pub amount-same : {n d n′ d′ : ℤ} → n ≡ n′ → d ≡ d′ → amount n d ≡ amount n′ d′
-amount-same en ed = λ i. amount (en i) (ed i)
-
 pub constraint-same : {a b c a′ b′ c′ : ℤ} → a ≡ a′ → b ≡ b′ → c ≡ c′ → constraint a b c ≡ constraint a′ b′ c′
 constraint-same ea eb ec = λ i. constraint (ea i) (eb i) (ec i)
 
@@ -173,7 +157,7 @@ opposite-is {z} h =
     ∙ +ℤ-idl (negℤ z)
 
 pub opposite-read : {z : ℤ} → Within 1000000000 z → {y : ℤ} → mag y < 2 ^ 63 → y ≡ negℤ (read z) → read y ≡ negℤ z
-opposite-read h b e = result-read b ∙ e ∙ ap negℤ (within-unread h tt)
+opposite-read h b e = unread b ∙ e ∙ ap negℤ (within-unread h tt)
 
 -- of a coefficient
 pub zero-read : {n : ℕ} {z : ℤ} → Within n z → T (ltb n (2 ^ 63)) → {t : Bool} → t ≡ isZero (read z) → t ≡ isZero z

@@ -2,26 +2,29 @@
 use mathlib.Core.Path.{_≡_, refl, sym, _∙_, ap, subst}
 use mathlib.Core.List.{List, [], _∷_}
 use mathlib.Core.Bool.{Bool, true, false, cond, _&&_}
-use Prim.Native.Nat.{ℕ, suc, _+_, _*_, _≤_, _<_}
-use native.Mathlib.Omega.{arith}
+use Prim.Native.Nat.{ℕ, _+_, _*_, _^_, _≤_, _<_}
 use borrow.Author.Tests.{leb-true, le-leb}
 use lib.ListN.{length}
 use lib.Dec.{T, leb}
 use lib.IntN.{ℤ, pos, natAbs}
-use lib.Signed.{ltZ, ltZ-yes}
+use lib.Signed.{ltZ, ltZ-yes, mag}
+use Rattle.ints.proofs.Bits.{read}
+use Rattle.fraction.proofs.Quotients.{unread}
 use Rattle.ints.specs.Within.{Within}
 use Rattle.lp.specs.declared.Constraint.{Constraint}
 use Rattle.lp.specs.declared.Functional.{Functional}
 use Rattle.lp.specs.declared.Floors.{Floors}
 use Rattle.lp.specs.declared.Terms.{Terms}
 use Rattle.lp.specs.declared.Point.{Point}
-use Rattle.lp.specs.Program.{floorX, floorY}
+use Rattle.lp.specs.declared.Amount.{Amount}
+use Rattle.lp.specs.Program.{slack, floorX, floorY}
 use Rattle.lp.specs.Outcome.{every}
-use Rattle.lp.specs.Slack.{amount, slackOf}
+use Rattle.lp.specs.Slack.{amount, lowest, slackOf}
 use Rattle.lp.specs.Document.{tie}
 use Rattle.lp.specs.Range.{SmallConstraint, SmallSystem, SmallFunctional, SmallFloors, SmallTerms}
 use Rattle.model.specs.Bounds.{SmallPoint}
 use Rattle.model.specs.Step.{walk}
+use Rattle.engine.proofs.Sizes.{within-unread}
 use Rattle.engine.specs.declared.Solved.the-variants.{Outside, Walked}
 use Rattle.engine.specs.Entries.{entries, putEntry}
 use Rattle.engine.specs.Tests.{upTo, ruleInRange, objectiveInRange, floorsInRange, pointInRange}
@@ -44,6 +47,23 @@ both false t e = absurd (subst T (sym e) tt)
 is-true : (s : Bool) → T s → s ≡ true
 is-true true h = refl
 is-true false h = absurd h
+
+-- a number that a call took is read back from its bits
+pub passed : (n : ℕ) (z : ℤ) → mag z < 2 ^ 63 → {t : Bool} → t ≡ upTo n (read z) → t ≡ upTo n z
+passed n z h e = e ∙ ap (upTo n) (unread {z = z} h)
+
+-- two numbers of one range
+pub two-passed :
+    (n : ℕ) (y z : ℤ) →
+    mag y < 2 ^ 63 →
+    mag z < 2 ^ 63 →
+    {s t : Bool} →
+    s ≡ upTo n (read y) →
+    t ≡ upTo n (read z) →
+    {b : Bool} →
+    (s && t) ≡ b →
+    (upTo n y && upTo n z) ≡ b
+two-passed n y z hy hz es et e = sym (λ i. passed n y hy es i && passed n z hz et i) ∙ e
 
 -- ---- a rule, an objective, floors, a point
 
@@ -126,3 +146,19 @@ floors-laid f l h room =
 pub measured : (r : Constraint) (v : Point) → SmallConstraint r → SmallPoint v → amountOf r v ≡ slackOf r v
 measured r v h k =
     ap (λ b. cond b (slackOf r v) (amount (pos 0) (pos 0))) (ap (λ b. b && pointInRange v) (rule-passes h) ∙ point-passes k)
+
+-- as the code goes: the test, then the slack and its lowest terms
+module _ (r : Constraint) (v : Point) {a b : Bool} (ea : a ≡ ruleInRange r) (eb : b ≡ pointInRange v) where
+  pub amount-tests : (a && b) ≡ true → SmallConstraint r × SmallPoint v
+  amount-tests e = let t = both a b e in (rule-small (sym ea ∙ t .0), point-small (sym eb ∙ t .1))
+
+  amount-told : {s : Bool} → (a && b) ≡ s → cond s (slackOf r v) (amount (pos 0) (pos 0)) ≡ amountOf r v
+  amount-told e = ap (λ s. cond s (slackOf r v) (amount (pos 0) (pos 0))) (sym e ∙ (λ i. ea i && eb i))
+
+  pub amount-out : (a && b) ≡ false → amount (pos 0) (pos 0) ≡ amountOf r v
+  amount-out e = amount-told e
+
+  pub amount-in : (a && b) ≡ true → {z : ℤ} → mag z < 2 ^ 63 → z ≡ slack r v → {x : Amount} → x ≡ lowest (read z) (read (v .d)) → x ≡ amountOf r v
+  amount-in e {z} h ez ex =
+      let k = amount-tests e .1 in
+      ex ∙ (λ i. lowest ((unread {z = z} h ∙ ez) i) (within-unread (k .d-small) tt i)) ∙ amount-told e

@@ -23,9 +23,9 @@ farthest l = held 0 l (far l)
 
 abbrev pub tightened : Constraint → ℕ → Constraint → Held → Held
 tightened l i m t =
-    elim (ltZ (pos 0) (det m l)) [
-      | true ↦ elim (keeps m (t .point)) [ true ↦ t | false ↦ held i m (meet m l) ]
-      | false ↦ t
+    elim (keeps m (t .point)) [
+      | true ↦ t
+      | false ↦ elim (ltZ (pos 0) (det m l)) [ true ↦ held i m (meet m l) | false ↦ t ]
     ]
 
 abbrev pub foundOf : Held → Found

@@ -1,12 +1,10 @@
--- What the planner's private functions ask of numbers, one record for each: that they are within document 01's bounds. (What following a chain asks of its runs: Following.) No function that is
--- called from outside asks anything.
+-- What the engine's private functions ask of numbers, one record for each: that they are within document 01's bounds. No function that is called from outside
+-- asks anything.
 use mathlib.Core.Path.{_≡_}
 use mathlib.Core.List.{List}
 use Prim.Native.Nat.{ℕ, _+_, _*_, _^_, _≤_, _<_}
 use lib.ListN.{length}
-use lib.IntN.{ℤ, pos}
-use Rattle.ints.specs.Gcd.{gcd2}
-use Rattle.ints.specs.Order.{_<ᶻ_}
+use lib.IntN.{ℤ}
 use Rattle.ints.specs.Within.{Within}
 use Rattle.lp.specs.declared.Constraint.{Constraint}
 use Rattle.lp.specs.declared.Functional.{Functional}
@@ -56,23 +54,6 @@ pub record Risen (r : Constraint) (d : Ray) : Type 0 where
 pub record Gained (f : Functional) (d : Ray) : Type 0 where
   pub functional : SmallFunctional f
   pub ray : SmallRay d
-
--- of z / g, where z may be as large as a slack
-pub record Quotient (z : ℤ) (g : ℕ) : Type 0 where
-  pub z-small : Within 6442057734000000000 z
-  pub g-small : g < 2 ^ 63
-  pub g-proper : 0 < g
-
--- of n/d in lowest terms
-pub record Fraction (n d : ℤ) : Type 0 where
-  pub n-small : Within 6442057734000000000 n
-  pub d-small : Within 2147352578 d
-  pub d-proper : pos 0 <ᶻ d
-
--- a ray other than 0
-pub record Reducible (d : Ray) : Type 0 where
-  pub ray : SmallRay d
-  pub g-proper : 0 < gcd2 (d .dx) (d .dy)
 
 -- entry k is within the list
 pub record Room (l : List ℤ) (k : ℕ) : Type 0 where
@@ -168,13 +149,11 @@ pub record Beginning (f : Functional) (floors : Floors) : Type 0 where
   pub objective : SmallFunctional f
   pub floors-small : SmallFloors floors
 
--- n entries, of which the floors are the first two
-pub record Walking (f : Functional) (t : Tie) (floors : Floors) (l : List ℤ) (n : ℕ) : Type 0 where
+-- n rules after the floors; they are looked at as they are taken in
+pub record Walking (f : Functional) (floors : Floors) (l : List ℤ) (n : ℕ) : Type 0 where
   pub objective : SmallFunctional f
-  pub tie : SmallTie t
   pub floors-small : SmallFloors floors
-  pub entries : Entries l n
-  pub floors-count : 2 ≤ n
+  pub room : 3 * (n + 2) ≤ length l
   pub first : entry l 0 ≡ floorX floors
   pub second : entry l 1 ≡ floorY floors
 

@@ -59,6 +59,10 @@ solutionOf f w =
 
 -- ---- the promise of `solve`
 
+-- the rules alone, in a run that has room for them
+abbrev pub rulesSolved : Functional → Floors → List Constraint → Solved
+rulesSolved f floors rules = cond (every ruleInRange rules) (Walked (solutionOf f (walk tie floors f rules))) Outside
+
 -- the run has room for n rules after the floors, and all numbers are within their ranges
 abbrev pub inRange : Terms → List ℤ → ℕ → Bool
 inRange t l n =
@@ -73,6 +77,11 @@ solvedOf t l n = cond (inRange t l n) (Walked (solutionOf (t .objective) (walk t
 -- entries 0 and 1 are the floors, where six numbers have room and the floors are within their range; else the run is as it was
 abbrev pub withFloors : Floors → List ℤ → List ℤ
 withFloors f l = cond (leb 6 (length l) && floorsInRange f) (putEntry (putEntry l 0 (floorX f)) 1 (floorY f)) l
+
+-- the promise of laying them
+pub record Lays (f : Floors) (before : List ℤ) (t : Bool) (after : List ℤ) : Type 0 where
+  pub told : t ≡ (leb 6 (length before) && floorsInRange f)
+  pub run : after ≡ withFloors f before
 
 pub record Solves (t : Terms) (n : ℕ) (before : List ℤ) (r : Solved) (after : List ℤ) : Type 0 where
   pub answer : r ≡ solvedOf t before n

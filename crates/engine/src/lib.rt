@@ -3,6 +3,7 @@
 mod cone;
 mod entries;
 mod exact;
+mod floors;
 mod optimum;
 mod order;
 mod range;
@@ -43,14 +44,24 @@ pub enum Solved {
 pub fn solve(terms: Terms, run: &mut [i64], n: usize) -> Solved
     ensures { λ r. ⌜ Solves terms n (now (run .entry)) r (now (run .exit)) ⌝ }
 {
-    walk::solve_run(terms, run, n)
+    let objective = terms.objective;
+    let floors = terms.floors;
+    if !floors::lay_floors(floors, &mut *run) {
+        return Solved::Outside;
+    }
+    if range::up_to(32767, objective.p) & range::up_to(32767, objective.q) {
+        if n <= (run.len() - 6) / 3 {
+            return walk::walk_rules(objective, floors, run, n);
+        }
+    }
+    Solved::Outside
 }
 
 // How far a point is from a constraint's line, in lowest terms.
 pub fn amount(r: Constraint, v: Point) -> Amount
     ensures { λ a. ⌜ a ≡ amountOf r v ⌝ }
 {
-    if range::rule_in_range(r) && range::point_in_range(v) {
+    if range::rule_in_range(r) & range::point_in_range(v) {
         fraction::lowest(exact::slack(r, v), v.d)
     } else {
         Amount {

@@ -1,12 +1,12 @@
 // The optimum: it stays where it keeps the new constraint, and else moves to the tightest point on that constraint's line. No check is needed there: the
 // start point says whether the system is feasible.
 use crate::cone::gaining;
-use crate::divisor::reduce;
 use crate::exact::direction;
 use crate::exact::facing;
 use crate::exact::keeps;
 use crate::order::upward;
 use crate::scan::tightest;
+use fraction::reduce;
 use lp::Constraint;
 use lp::Functional;
 use lp::Point;

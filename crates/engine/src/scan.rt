@@ -1,4 +1,5 @@
 // The passes over the entries of a system. Entries stand in one lent slice, three numbers each, floors first; n says how many of them count.
+use crate::entries::entry;
 use crate::exact::crosses;
 use crate::exact::is_proper;
 use crate::exact::keeps;
@@ -11,21 +12,9 @@ use model::Found;
 ghost use mathlib.Core.Path.{_≡_};
 ghost use Rattle.model.specs.Scan.{tightest as tightestOf, firstBroken};
 ghost use Rattle.lp.specs.Range.{SmallConstraint};
-ghost use Rattle.engine.specs.Entries.{entry as entryOf, entries as entriesOf};
+ghost use Rattle.engine.specs.Entries.{entries as entriesOf};
 ghost use Rattle.engine.specs.Held.{farthest, tightened, foundOf};
-ghost use Rattle.engine.specs.Sizes.{Room, Tightening, Along, Checking};
-
-pub fn entry(entries: &[i64], k: usize) -> Constraint
-    requires { ⌜ Room (now entries) k ⌝ }
-    ensures { λ r. ⌜ r ≡ entryOf (now (entries .entry)) k ⌝ }
-{
-    let at = 3 * k;
-    Constraint {
-        a: entries[at],
-        b: entries[at + 1],
-        c: entries[at + 2],
-    }
-}
+ghost use Rattle.engine.specs.Sizes.{Tightening, Along, Checking};
 
 // The tightest point so far on a line that is walked, with the entry that makes it and the entry's index. At first it is the point at infinity, whose d is 0:
 // whatever meets the line breaks it. (The model's Found says the same; this has no tag, and so the loop holds it in registers.)
@@ -50,21 +39,20 @@ fn at_infinity(line: Constraint) -> Held
     }
 }
 
-// Entry m, at index i, is met along the line, and before the point held so far.
+// Entry m, at index i, is met along the line, and before the point held so far. Whether the point keeps it is asked first: most entries it keeps.
 fn tighter(line: Constraint, i: usize, m: Constraint, held: Held) -> Held
     requires { ⌜ Tightening line m held ⌝ }
     ensures { λ t. ⌜ t ≡ tightened line i m held ⌝ }
 {
     let p = held.point;
+    if keeps(m, p) {
+        return held;
+    }
     if crosses(m, line) {
-        if keeps(m, p) {
-            held
-        } else {
-            Held {
-                index: i,
-                entry: m,
-                point: meet(m, line),
-            }
+        Held {
+            index: i,
+            entry: m,
+            point: meet(m, line),
         }
     } else {
         held

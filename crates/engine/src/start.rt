@@ -1,6 +1,5 @@
 // The start point, which says whether the system is feasible: when a constraint breaks it, it moves to the tightest point on that constraint's line,
 // or there is none and three constraints say why.
-use crate::divisor::reduce;
 use crate::exact::det;
 use crate::exact::direction;
 use crate::exact::facing;
@@ -8,6 +7,7 @@ use crate::exact::is_level;
 use crate::order::tie_upward;
 use crate::scan::first_broken;
 use crate::scan::tightest;
+use fraction::reduce;
 use lp::Certificate;
 use lp::Constraint;
 use lp::Point;

@@ -1,6 +1,7 @@
-// The plan of document 01, from what the walk holds at the end, with its witness by index. Fields that an outcome does not use are zero.
+// What a walk comes to: the outcome, and where it is infeasible its place and certificate, else the start point. Fields that an outcome does not use are zero.
+use crate::Solution;
 use crate::cone::gaining;
-use crate::divisor::reduce_ray;
+use fraction::reduce_ray;
 use lp::Certificate;
 use lp::Functional;
 use lp::Outcome;
@@ -10,26 +11,10 @@ use model::Cone;
 use model::Gain;
 use model::State;
 use model::Walk;
-use report::Plan;
 ghost use mathlib.Core.Path.{_≡_};
 ghost use Rattle.model.specs.Step.{said as saidOf};
-ghost use Rattle.engine.specs.Verdict.{verdictOf};
-ghost use Rattle.witness.specs.Witness.{nobody};
+ghost use Rattle.engine.specs.Solving.{solutionOf};
 ghost use Rattle.engine.specs.Sizes.{Gaining, Answering};
-
-// No entry at all.
-fn no_certificate() -> Certificate
-    ensures { λ r. ⌜ r ≡ nobody ⌝ }
-{
-    Certificate {
-        first: 0,
-        first_weight: 0,
-        second: 0,
-        second_weight: 0,
-        third: 0,
-        third_weight: 0,
-    }
-}
 
 // The outcome of a feasible system.
 fn said(objective: Functional, s: Point, cone: Cone, best: Best) -> Outcome
@@ -45,27 +30,41 @@ fn said(objective: Functional, s: Point, cone: Cone, best: Best) -> Outcome
     }
 }
 
-pub fn verdict(objective: Functional, walk: Walk) -> Plan
+pub fn solution(objective: Functional, walk: Walk) -> Solution
     requires { ⌜ Answering objective walk ⌝ }
-    ensures { λ r. ⌜ r ≡ verdictOf objective walk ⌝ }
+    ensures { λ r. ⌜ r ≡ solutionOf objective walk ⌝ }
 {
     let state = walk.state;
     let moves = walk.moves;
     let opened = walk.opened;
+    let restarts = walk.restarts;
     match state {
-        State::Ended(place, certificate) => Plan {
+        State::Ended(place, certificate) => Solution {
             outcome: Outcome::Infeasible,
             moves,
             opened,
             place,
-            witness: certificate,
+            certificate,
+            held: false,
+            start: Point { x: 0, y: 0, d: 0 },
+            restarts,
         },
-        State::Going(s, cone, best) => Plan {
+        State::Going(s, cone, best) => Solution {
             outcome: said(objective, s, cone, best),
             moves,
             opened,
             place: 0,
-            witness: no_certificate(),
+            certificate: Certificate {
+                first: 0,
+                first_weight: 0,
+                second: 0,
+                second_weight: 0,
+                third: 0,
+                third_weight: 0,
+            },
+            held: true,
+            start: s,
+            restarts,
         },
     }
 }

@@ -1,13 +1,17 @@
 // The walk along a chain of constraints: after each prefix it holds the start point, the cone of rays and the optimum, or the place where the system became
-// infeasible, and it counts the constraints that broke the start point before them. Entries stand in one lent slice, the two floors first, and each constraint that arrives is scanned against those before it.
+// infeasible, and it counts the constraints that broke the start point before them. Entries stand in one lent slice, the two floors first, and each constraint that
+// arrives is scanned against those before it.
+use crate::Solved;
 use crate::cone::gaining;
 use crate::cone::narrow;
+use crate::entries::entry;
 use crate::exact::keeps;
 use crate::optimum::breaks;
 use crate::optimum::improved;
 use crate::optimum::is_open;
-use crate::scan::entry;
+use crate::range::rule_in_range;
 use crate::start::start;
+use crate::verdict::solution;
 use lp::Constraint;
 use lp::Floors;
 use lp::Functional;
@@ -21,10 +25,12 @@ use model::Restart;
 use model::State;
 use model::Walk;
 ghost use mathlib.Core.Path.{_≡_};
-ghost use Prim.Native.Nat.{_+_, _-_};
+ghost use Prim.Native.Nat.{_+_};
 ghost use Rattle.lp.specs.Prefixes.{one-if};
-ghost use Rattle.model.specs.Step.{going as goingOf, step as stepOf, begin as beginOf, walk as walkOf};
+ghost use Rattle.lp.specs.Document.{tie as tieOf};
+ghost use Rattle.model.specs.Step.{going as goingOf, step as stepOf, begin as beginOf};
 ghost use Rattle.engine.specs.Entries.{entries as entriesOf};
+ghost use Rattle.engine.specs.Solving.{rulesSolved};
 ghost use Rattle.engine.specs.Sizes.{Counting, Stepping, Beginning, Walking};
 
 // One more, if so.
@@ -101,23 +107,32 @@ fn begin(objective: Functional, floors: Floors) -> Walk
     }
 }
 
-// The walk along n entries, of which the floors are the first two.
-pub fn walk_entries(
-    objective: Functional,
-    tie: Tie,
-    floors: Floors,
-    entries: &[i64],
-    n: usize,
-) -> Walk
-    requires { ⌜ Walking objective tie floors (now entries) n ⌝ }
-    ensures { λ r. ⌜ r ≡ walkOf tie floors objective (entriesOf (now (entries .entry)) 2 (n - 2)) ⌝ }
+// Least x, then least y.
+fn tie() -> Tie
+    ensures { λ r. ⌜ r ≡ tieOf ⌝ }
 {
+    Tie {
+        first: Functional { p: -1, q: 0 },
+        second: Functional { p: 0, q: -1 },
+    }
+}
+
+// The walk along n rules, which stand after the floors. A rule is looked at before it is taken in, so that no pass of its own is made for that.
+pub fn walk_rules(objective: Functional, floors: Floors, run: &[i64], n: usize) -> Solved
+    requires { ⌜ Walking objective floors (now run) n ⌝ }
+    ensures { λ r. ⌜ r ≡ rulesSolved objective floors (entriesOf (now (run .entry)) 2 n) ⌝ }
+{
+    let end = n + 2;
     let mut walk = begin(objective, floors);
     let mut i = 2;
-    while i < n {
-        let h = entry(entries, i);
-        walk = step(objective, tie, entries, i, h, walk);
-        i += 1;
+    while i < end {
+        let h = entry(run, i);
+        if rule_in_range(h) {
+            walk = step(objective, tie(), run, i, h, walk);
+            i += 1;
+        } else {
+            return Solved::Outside;
+        }
     }
-    walk
+    Solved::Walked(solution(objective, walk))
 }

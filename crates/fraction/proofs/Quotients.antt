@@ -15,8 +15,8 @@ use Rattle.ints.proofs.Gcd.{gcd-comm, gcd-assoc}
 use Rattle.lp.specs.Program.{point, ray}
 use Rattle.lp.specs.Slack.{amount}
 
-pub unread : (z : ℤ) → mag z < 2 ^ 63 → read z ≡ z
-unread z h = toZ-ofZ {w = w64} (record { sfits = h })
+pub unread : {z : ℤ} → mag z < 2 ^ 63 → read z ≡ z
+unread h = toZ-ofZ {w = w64} (record { sfits = h })
 
 -- ---- a divisor that is an i64
 
@@ -32,7 +32,7 @@ module _ (g : ℕ) where
 
   module _ (z : ℤ) (h : mag z < 2 ^ 63) (k : g < 2 ^ 63) where
     same : quotZ (read z) (toZ w64 g) ≡ quotZ z (pos g)
-    same = ap₂ quotZ (unread z h) (toZ-ofZ {w = w64} {z = pos g} (record { sfits = k }))
+    same = ap₂ quotZ (unread {z = z} h) (toZ-ofZ {w = w64} {z = pos g} (record { sfits = k }))
 
     pub quot-fits : SFits w64 (quotZ (read z) (toZ w64 g))
     quot-fits = subst (λ y. SFits w64 y) (sym same) (fits z h)
@@ -51,11 +51,11 @@ by-zero z {g} e = nought z g (ap (λ (n : ℕ). natAbs z / n) e ∙ div-zero (na
 
 -- it is greater than the number
 pub by-greater : (z : ℤ) (g : ℕ) {m : ℕ} → m ≡ natAbs (read z) → mag z < 2 ^ 63 → m < g → pos 0 ≡ quotZ z (pos g)
-by-greater z g e h less = nought z g (div-eq-of-lt (subst (λ (n : ℕ). n < g) (e ∙ ap natAbs (unread z h)) less))
+by-greater z g e h less = nought z g (div-eq-of-lt (subst (λ (n : ℕ). n < g) (e ∙ ap natAbs (unread {z = z} h)) less))
 
 -- or it is 2^63, and the number is the least i64
 pub by-least : (z : ℤ) (g : ℕ) {m : ℕ} → m ≡ natAbs (read z) → mag z < 2 ^ 63 → 2 ^ 63 ≤ g → g ≤ m → negsuc 0 ≡ quotZ z (pos g)
-by-least z g e h big less = go z h (subst (λ (n : ℕ). g ≤ n) (e ∙ ap natAbs (unread z h)) less)
+by-least z g e h big less = go z h (subst (λ (n : ℕ). g ≤ n) (e ∙ ap natAbs (unread {z = z} h)) less)
   where
     go : (z : ℤ) → mag z < 2 ^ 63 → g ≤ natAbs z → negsuc 0 ≡ quotZ z (pos g)
     go (pos a) h k = absurd (few a h k)
@@ -79,12 +79,12 @@ pub quotient-read :
     mag q < 2 ^ 63 →
     q ≡ quotZ (read z) (pos g) →
     read q ≡ quotZ z (pos k)
-quotient-read z h eg q b e = unread q b ∙ e ∙ ap₂ (λ y (n : ℕ). quotZ y (pos n)) (unread z h) eg
+quotient-read z h eg q b e = unread {z = q} b ∙ e ∙ ap₂ (λ y (n : ℕ). quotZ y (pos n)) (unread {z = z} h) eg
 
 -- the divisor of two numbers, from their magnitudes
 module _ (x y : ℤ) (hx : mag x < 2 ^ 63) (hy : mag y < 2 ^ 63) {mx my g : ℕ} where
   pub divisor-of-two : mx ≡ natAbs (read x) → my ≡ natAbs (read y) → g ≡ gcd mx my → g ≡ gcd2 x y
-  divisor-of-two ex ey eg = eg ∙ ap₂ gcd (ex ∙ ap natAbs (unread x hx)) (ey ∙ ap natAbs (unread y hy))
+  divisor-of-two ex ey eg = eg ∙ ap₂ gcd (ex ∙ ap natAbs (unread {z = x} hx)) (ey ∙ ap natAbs (unread {z = y} hy))
 
 -- of three, y's last
 module _ (x y d : ℤ) (hx : mag x < 2 ^ 63) (hy : mag y < 2 ^ 63) (hd : mag d < 2 ^ 63) {mx my md mxd g : ℕ} where
@@ -97,7 +97,7 @@ module _ (x y d : ℤ) (hx : mag x < 2 ^ 63) (hy : mag y < 2 ^ 63) (hd : mag d <
       g ≡ gcd3 x y d
   divisor-of-three ey ex ed exd eg =
       eg
-      ∙ ap₂ gcd (ey ∙ ap natAbs (unread y hy)) (divisor-of-two x d hx hd ex ed exd)
+      ∙ ap₂ gcd (ey ∙ ap natAbs (unread {z = y} hy)) (divisor-of-two x d hx hd ex ed exd)
       ∙ sym (gcd-assoc (natAbs y) (natAbs x) (natAbs d))
       ∙ ap (λ m. gcd m (natAbs d)) (gcd-comm (natAbs y) (natAbs x))
 

@@ -24,7 +24,7 @@ use Rattle.lp.specs.Certificate.{Weighted, certifies}
 abbrev pub leastXThenY : Tie
 leastXThenY = record { first = functional (negsuc 0) (pos 0); second = functional (pos 0) (negsuc 0) }
 
--- the tie of the certificate in force, by the one name that every promise has for it
+-- the tie of the certificate in force. Every promise and every law says `tie`; what it is stands here alone
 abbrev pub tie : Tie
 tie = leastXThenY
 
@@ -82,8 +82,8 @@ witnessed e (Optimal v) = true
 
 abbrev pub holds : Example → Bool
 holds e =
-    sameOutcome (outcome leastXThenY zeroFloors (e .objective) (e .rules)) (e .answer)
-    && eqb (moves leastXThenY zeroFloors (e .objective) (e .rules)) (e .moved)
-    && eqb (opens leastXThenY zeroFloors (e .objective) (e .rules)) (e .opened)
-    && eqb (place leastXThenY zeroFloors (e .objective) (e .rules)) (e .placed)
+    sameOutcome (outcome tie zeroFloors (e .objective) (e .rules)) (e .answer)
+    && eqb (moves tie zeroFloors (e .objective) (e .rules)) (e .moved)
+    && eqb (opens tie zeroFloors (e .objective) (e .rules)) (e .opened)
+    && eqb (place tie zeroFloors (e .objective) (e .rules)) (e .placed)
     && witnessed e (e .answer)

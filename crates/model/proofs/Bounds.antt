@@ -27,7 +27,7 @@ use Rattle.lp.specs.Program.{point, ray, slack, along, rise, floorX, floorY, sy
 use Rattle.lp.specs.Outcome.{det, meet, keeps, above, reduce, reduceRay, tieOrder, gainOrder}
 use Rattle.lp.specs.Certificate.{isZero}
 use Rattle.lp.specs.Prefixes.{one-if}
-use Rattle.lp.specs.Document.{Lawful, leastXThenY, zeroFloors}
+use Rattle.lp.specs.Document.{Lawful, tie, zeroFloors}
 use Rattle.model.specs.declared.Found.{Found}
 use Rattle.model.specs.declared.Found.the-variants as found
 use Rattle.model.specs.declared.Broken.{Broken}
@@ -65,8 +65,8 @@ lawful-system [] h = tt
 lawful-system (r ∷ S) h = (lawful-small (h r (List·Memᴰ·head refl)), lawful-system S (λ s m. h s (List·Memᴰ·tail m)))
 
 -- document 01's own tie and floors
-pub leastXThenY-small : SmallTie leastXThenY
-leastXThenY-small =
+pub tie-small : SmallTie tie
+tie-small =
     record {
       first-small = record { p-small = within-numeral tt; q-small = within-numeral tt };
       second-small = record { p-small = within-numeral tt; q-small = within-numeral tt };

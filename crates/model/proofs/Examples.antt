@@ -7,7 +7,7 @@ use Rattle.ints.specs.Gcd.{gcd}
 use Rattle.lp.specs.Program.{system}
 use Rattle.lp.specs.Outcome.{every}
 use Rattle.lp.specs.Certificate.{named, certifies}
-use Rattle.lp.specs.Document.{Example, leastXThenY, zeroFloors, sameOutcome}
+use Rattle.lp.specs.Document.{Example, tie, zeroFloors, sameOutcome}
 use Rattle.lp.specs.Examples.{classExamples, slips}
 use Rattle.lp.specs.Starts.{Chain, chains, saidOf}
 use Rattle.model.specs.declared.State.{State}
@@ -31,7 +31,7 @@ walked e w =
     && witnessed e (w .state)
 
 abbrev pub walks : Example → Bool
-walks e = walked e (walk leastXThenY zeroFloors (e .objective) (e .rules))
+walks e = walked e (walk tie zeroFloors (e .objective) (e .rules))
 
 pub class-examples-walk : T (every walks classExamples)
 unfolding gcd
@@ -43,7 +43,7 @@ slips-walk = tt
 
 -- the start pair and its count, whatever the objective
 abbrev startsBy : Functional → Chain → Bool
-startsBy f c = saidOf c (startHeld (walk leastXThenY zeroFloors f (c .rules) .state)) (walk leastXThenY zeroFloors f (c .rules) .restarts)
+startsBy f c = saidOf c (startHeld (walk tie zeroFloors f (c .rules) .state)) (walk tie zeroFloors f (c .rules) .restarts)
 
 pub chains-start : T (every (startsBy (functional (pos 0) (pos 0))) chains && every (startsBy (functional (pos 1) (pos 1))) chains)
 unfolding gcd

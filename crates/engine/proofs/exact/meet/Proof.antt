@@ -1,5 +1,6 @@
 -- `engine::exact::meet` meets its contract: where two lines meet.
-use Rattle.engine.proofs.Sizes.{factors-read, det-factors, x-factors, y-factors, difference-read, point-same}
+use Rattle.fraction.proofs.Quotients.{point-same}
+use Rattle.engine.proofs.Sizes.{factors-read, det-factors, x-factors, y-factors, difference-read}
 use Rattle.engine.proofs.exact.meet.Statement.{statement}
 use Rattle.engine.proofs.exact.meet.Tie as tie
 

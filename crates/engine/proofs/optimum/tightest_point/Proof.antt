@@ -2,7 +2,6 @@
 use borrow.Author.Needs.{needs}
 use mathlib.Core.Path.{sym, _∙_, ap}
 use Rattle.model.specs.Step.{foundPoint}
-use Rattle.engine.proofs.Passes.{found-parts, along-small}
 use Rattle.engine.proofs.optimum.tightest_point.Statement.{statement}
 use Rattle.engine.proofs.optimum.tightest_point.Tie as tie
 
@@ -11,11 +10,6 @@ enum-told c = c .match .keys1
 
 enum-known-p : tie.Need-enum-known-p
 enum-known-p c = c .match .keys2
-
-reduce-requires : tie.Need-reduce-requires
-reduce-requires c κs =
-    found-parts (along-small (c .before .before .before .before .pre) (c .before .before .before .tightest .ensures))
-    (c .before .p .given .1) .1
 
 returns : tie.Need-returns
 returns c = sym (ap foundPoint (sym (c .before .before .tightest .ensures) ∙ c .enum-told .given .1))
@@ -26,4 +20,4 @@ returns-2 c =
 
 pub tightest-point-spec : {M : Type 1} → statement M
 tightest-point-spec =
-    tie.close (tie.spec (λ c κs. search needs) enum-told enum-known-p reduce-requires returns returns-2)
+    tie.close (tie.spec (λ c κs. search needs) enum-told enum-known-p (λ c κs. search needs) returns returns-2)

@@ -2,7 +2,8 @@
 use mathlib.Core.Path.{refl, ap}
 use Rattle.ints.proofs.Machine.{within-read, weaken}
 use Rattle.engine.specs.Held.{held}
-use Rattle.engine.proofs.Sizes.{within-unread, opposite-read, point-same}
+use Rattle.fraction.proofs.Quotients.{point-same}
+use Rattle.engine.proofs.Sizes.{within-unread, opposite-read}
 use Rattle.engine.proofs.scan.at_infinity.Statement.{statement}
 use Rattle.engine.proofs.scan.at_infinity.Tie as tie
 

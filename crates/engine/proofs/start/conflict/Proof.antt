@@ -4,7 +4,7 @@ use mathlib.Core.Path.{sym, _∙_, ap, subst}
 use Rattle.lp.specs.Outcome.{det}
 use Rattle.lp.specs.Range.{SmallConstraint}
 use Rattle.model.proofs.Bounds.{facing-small}
-use Rattle.engine.proofs.Sizes.{result-read}
+use Rattle.fraction.proofs.Quotients.{unread}
 use Rattle.engine.proofs.Steps.{certificate-same}
 use Rattle.engine.proofs.start.conflict.Statement.{statement}
 use Rattle.engine.proofs.start.conflict.Tie as tie
@@ -30,8 +30,8 @@ returns : tie.Need-returns
 returns c =
     let a = c .before .before .before .before .args in
     let e = c .before .before .before .facing .ensures in
-    certificate-same (a .n) (a .j) (a .i) (result-read (c .before .before .line-weight .ok) ∙ c .before .before .line-weight .ensures)
-    (result-read (c .before .det .ok) ∙ c .before .det .ensures ∙ ap (λ l. det l (a .m)) e) (result-read (c .det2 .ok) ∙ c .det2 .ensures ∙ ap (det (a .k)) e)
+    certificate-same (a .n) (a .j) (a .i) (unread (c .before .before .line-weight .ok) ∙ c .before .before .line-weight .ensures)
+    (unread (c .before .det .ok) ∙ c .before .det .ensures ∙ ap (λ l. det l (a .m)) e) (unread (c .det2 .ok) ∙ c .det2 .ensures ∙ ap (det (a .k)) e)
 
 pub conflict-spec : {M : Type 1} → statement M
 conflict-spec =

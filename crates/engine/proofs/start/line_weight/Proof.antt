@@ -2,19 +2,19 @@
 use borrow.Author.Needs.{needs}
 use mathlib.Core.Path.{sym, _∙_, ap}
 use Rattle.model.specs.Step.{lineWeight}
-use Rattle.engine.proofs.Sizes.{result-read}
+use Rattle.fraction.proofs.Quotients.{unread}
 use Rattle.engine.proofs.start.line_weight.Statement.{statement}
 use Rattle.engine.proofs.start.line_weight.Tie as tie
 
 returns : tie.Need-returns
 returns c =
-    result-read (c .det .ok)
+    unread (c .det .ok)
     ∙ c .det .ensures
     ∙ ap (λ s. lineWeight s (c .before .before .args .k) (c .before .before .args .m)) (sym (c .before .if1 .taken))
 
 returns-2 : tie.Need-returns-2
 returns-2 c =
-    result-read (c .det2 .ok)
+    unread (c .det2 .ok)
     ∙ c .det2 .ensures
     ∙ ap (λ s. lineWeight s (c .before .before .args .k) (c .before .before .args .m)) (sym (c .before .if1 .left))
 

@@ -19,11 +19,6 @@ first-broken-requires c κs =
 enum-told-2 : tie.Need-enum-told-2
 enum-told-2 c = c .match2 .keys1
 
-reduce-requires : tie.Need-reduce-requires
-reduce-requires c κs =
-    found-parts (c .before .before .before .before .before .before .pre .found-small)
-    (c .before .before .before .before .found .given .1) .1
-
 enum-known-i : tie.Need-enum-known-i
 enum-known-i c = c .match2 .keys2
 
@@ -64,7 +59,7 @@ resettled-spec =
     enum-known-found
     first-broken-requires
     enum-told-2
-    reduce-requires
+    (λ c κs. search needs)
     enum-known-i
     conflict-requires
     returns

@@ -1,7 +1,6 @@
 -- `engine::verdict::said` meets its contract: the outcome of a feasible system.
 use borrow.Author.Needs.{needs}
 use mathlib.Core.Path.{sym, _∙_}
-use Rattle.engine.proofs.Verdicts.{gain-reducible}
 use Rattle.engine.proofs.verdict.said.Statement.{statement}
 use Rattle.engine.proofs.verdict.said.Tie as tie
 
@@ -10,11 +9,6 @@ enum-told c = c .match .keys1
 
 enum-known-d : tie.Need-enum-known-d
 enum-known-d c = c .match2 .keys1
-
-reduce-ray-requires : tie.Need-reduce-ray-requires
-reduce-ray-requires c κs =
-    gain-reducible (c .before .before .before .before .before .before .pre) (c .before .before .before .gaining .ensures)
-    (c .before .d .given .1)
 
 enum-told-2 : tie.Need-enum-told-2
 enum-told-2 c = c .match2 .keys2
@@ -43,7 +37,7 @@ said-spec =
     enum-told
     (λ c κs. search needs)
     enum-known-d
-    reduce-ray-requires
+    (λ c κs. search needs)
     enum-told-2
     enum-known-best
     returns

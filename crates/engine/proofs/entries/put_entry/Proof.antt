@@ -1,9 +1,9 @@
--- `engine::layout::put_entry` meets its contract.
+-- `engine::entries::put_entry` meets its contract.
 use borrow.Author.Needs.{needs}
 use native.Mathlib.Omega.{arith}
 use lib.ListN.{length-set}
-use Rattle.engine.proofs.layout.put_entry.Statement.{statement}
-use Rattle.engine.proofs.layout.put_entry.Tie as tie
+use Rattle.engine.proofs.entries.put_entry.Statement.{statement}
+use Rattle.engine.proofs.entries.put_entry.Tie as tie
 
 slice-set-from-b : tie.Need-slice-set-from-b
 slice-set-from-b c = simp length-set (omega arith)
