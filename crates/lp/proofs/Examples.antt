@@ -1,4 +1,4 @@
--- The class examples marked * in document 01 hold of the definitions, and so do its slips and the slacks: one computation over each table, and every row follows.
+-- The class examples marked * in document 01 hold of the definitions, and so do its pitfalls and the slacks: one computation over each table, and every row follows.
 use mathlib.Core.Path.{_≡_, refl}
 use mathlib.Core.List.{List, [], _∷_, map, List·Memᴰ, List·Memᴰ·cases-cons, List·Memᴰ·not-nil}
 use mathlib.Core.Bool.{Bool, true, false}
@@ -9,16 +9,16 @@ use Rattle.ints.specs.Gcd.{gcd}
 use Rattle.lp.specs.Outcome.{every}
 use Rattle.lp.specs.Document.{Example, holds}
 use Rattle.lp.specs.Slack.{slackOf}
-use Rattle.lp.specs.Examples.{classExamples, slips, Slack, slacks}
+use Rattle.lp.specs.Examples.{classExamples, pitfalls, Slack, slacks}
 use Rattle.lp.specs.Starts.{chains, starts}
 
 pub class-examples-hold : T (every holds classExamples)
 unfolding gcd
 class-examples-hold = tt
 
-pub slips-hold : T (every holds slips)
+pub pitfalls-hold : T (every holds pitfalls)
 unfolding gcd
-slips-hold = tt
+pitfalls-hold = tt
 
 pub slacks-hold : map (λ (e : Slack). slackOf (e .rule) (e .at)) slacks ≡ map (λ (e : Slack). e .left) slacks
 unfolding gcd

@@ -1,13 +1,12 @@
--- Document 01's own values: its tie, its floors, the range of its numbers, and its class examples marked *, with the test that one theorem runs over them.
+-- Document 01's own values: its tie, its floors, and its class examples marked *, with the test that one theorem runs over them.
 use mathlib.Core.Path.{_≡_}
 use mathlib.Core.List.{List, [], _∷_}
 use mathlib.Core.Bool.{Bool, true, false, _&&_}
 use Prim.Native.Nat.{ℕ, _+_}
 use lib.Dec.{eqb}
 use lib.ListN.{take}
-use lib.IntN.{ℤ, pos, negsuc, natAbs}
+use lib.IntN.{ℤ, pos, negsuc}
 use lib.Signed.{leZ}
-use Prim.Native.Nat.{_≤_}
 use Rattle.lp.specs.declared.Constraint.{Constraint}
 use Rattle.lp.specs.declared.Functional.{Functional}
 use Rattle.lp.specs.declared.Floors.{Floors}
@@ -24,18 +23,12 @@ use Rattle.lp.specs.Certificate.{Weighted, certifies}
 abbrev pub leastXThenY : Tie
 leastXThenY = record { first = functional (negsuc 0) (pos 0); second = functional (pos 0) (negsuc 0) }
 
--- the tie of the certificate in force, by the one name that every promise has for it
+-- the tie of the certificate in force. Every promise and every law says `tie`; what it is stands here alone
 abbrev pub tie : Tie
 tie = leastXThenY
 
 abbrev pub zeroFloors : Floors
 zeroFloors = record { lx = pos 0; ly = pos 0 }
-
--- a and b: −32,767 to 32,767. c: −1,000,000,000 to 1,000,000,000
-pub record Lawful (r : Constraint) : Type 0 where
-  pub a-range : natAbs (r .a) ≤ 32767
-  pub b-range : natAbs (r .b) ≤ 32767
-  pub c-range : natAbs (r .c) ≤ 1000000000
 
 -- ---- alike in rules: each (a, b, c) stands as often in one chain as in the other
 
@@ -82,8 +75,8 @@ witnessed e (Optimal v) = true
 
 abbrev pub holds : Example → Bool
 holds e =
-    sameOutcome (outcome leastXThenY zeroFloors (e .objective) (e .rules)) (e .answer)
-    && eqb (moves leastXThenY zeroFloors (e .objective) (e .rules)) (e .moved)
-    && eqb (opens leastXThenY zeroFloors (e .objective) (e .rules)) (e .opened)
-    && eqb (place leastXThenY zeroFloors (e .objective) (e .rules)) (e .placed)
+    sameOutcome (outcome tie zeroFloors (e .objective) (e .rules)) (e .answer)
+    && eqb (moves tie zeroFloors (e .objective) (e .rules)) (e .moved)
+    && eqb (opens tie zeroFloors (e .objective) (e .rules)) (e .opened)
+    && eqb (place tie zeroFloors (e .objective) (e .rules)) (e .placed)
     && witnessed e (e .answer)

@@ -1,4 +1,4 @@
--- The ten class examples marked * in document 01, and what its list of slips warns of; and slacks. In a witness 0 is floor x, 1 floor y, and 2 the first rule.
+-- The ten class examples marked * in document 01, and the mistakes that it warns of; and slacks. In a witness 0 is floor x, 1 floor y, and 2 the first rule.
 use mathlib.Core.List.{List, [], _∷_}
 use Prim.Native.Nat.{ℕ}
 use lib.IntN.{ℤ, pos, negsuc, negℤ}
@@ -45,14 +45,15 @@ classExamples =
     ∷ []
 
 -- a gaining direction where no pair is allowed; a parallel rule that is met after a move; a tie that the rule's own direction would break the other way; a
--- broken start pair of an unlimited prefix, which is no move; a rule after the place
-abbrev pub slips : List Example
-slips =
+-- broken start pair of an unlimited prefix, which is no move; a rule after the place; a direction that is a multiple of its lowest terms
+abbrev pub pitfalls : List Example
+pitfalls =
     impossible (atMost (pos 1) (pos 0) (negsuc 0) ∷ []) (pos 0) (pos 1) 1 (once 0 ∷ once 2 ∷ []) 0 1
     ∷ example (atMost (pos 1) (pos 0) (pos 5) ∷ atMost (pos 1) (pos 0) (pos 3) ∷ []) (pos 1) (pos 0) (Optimal (point (pos 3) (pos 0) (pos 1))) 1 1
     ∷ example (atLeast (pos 2) (pos 1) (pos 4) ∷ []) (negsuc 1) (negsuc 0) (Optimal (point (pos 0) (pos 4) (pos 1))) 1 0
     ∷ example (atLeast (pos 1) (pos 1) (pos 4) ∷ atMost (pos 1) (pos 1) (pos 6) ∷ []) (pos 1) (pos 1) (Optimal (point (pos 0) (pos 6) (pos 1))) 0 2
     ∷ impossible (atMost (pos 1) (pos 0) (negsuc 0) ∷ atMost (pos 0) (pos 1) (pos 5) ∷ []) (pos 0) (pos 0) 1 (once 0 ∷ once 2 ∷ []) 1 0
+    ∷ example (atMost (pos 2) (negsuc 1) (pos 4) ∷ []) (pos 1) (pos 0) (Unbounded (point (pos 0) (pos 0) (pos 1)) (ray (pos 1) (pos 1))) 0 2
     ∷ []
 
 -- ---- slacks: a rule, a pair and the amount

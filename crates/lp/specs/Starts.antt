@@ -7,7 +7,7 @@ use lib.IntN.{ℤ, pos, negsuc, negℤ}
 use Rattle.lp.specs.declared.Constraint.{Constraint}
 use Rattle.lp.specs.Program.{constraint, point}
 use Rattle.lp.specs.Start.{Start, none, at, startOf, restarts}
-use Rattle.lp.specs.Document.{leastXThenY, zeroFloors, samePoint}
+use Rattle.lp.specs.Document.{tie, zeroFloors, samePoint}
 
 pub record Chain : Type 0 where
   pub rules : List Constraint
@@ -47,4 +47,4 @@ abbrev pub saidOf : Chain → Start → ℕ → Bool
 saidOf c s n = sameStart s (c .start) && eqb n (c .restarted)
 
 abbrev pub starts : Chain → Bool
-starts c = saidOf c (startOf leastXThenY zeroFloors (c .rules)) (restarts leastXThenY zeroFloors (c .rules))
+starts c = saidOf c (startOf tie zeroFloors (c .rules)) (restarts tie zeroFloors (c .rules))

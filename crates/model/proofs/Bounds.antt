@@ -27,7 +27,7 @@ use Rattle.lp.specs.Program.{point, ray, slack, along, rise, floorX, floorY, sy
 use Rattle.lp.specs.Outcome.{det, meet, keeps, above, reduce, reduceRay, tieOrder, gainOrder}
 use Rattle.lp.specs.Certificate.{isZero}
 use Rattle.lp.specs.Prefixes.{one-if}
-use Rattle.lp.specs.Document.{Lawful, leastXThenY, tie, zeroFloors}
+use Rattle.lp.specs.Document.{tie, zeroFloors}
 use Rattle.model.specs.declared.Found.{Found}
 use Rattle.model.specs.declared.Found.the-variants as found
 use Rattle.model.specs.declared.Broken.{Broken}
@@ -48,11 +48,7 @@ use Rattle.model.specs.Step.{alone, lineWeight, conflict, checked, reset
 use Rattle.model.specs.Bounds.{SmallPoint, SmallRay, SmallCertificate, SmallFound, SmallBroken, SmallRestart, SmallCone, SmallGain, SmallBest, SmallState, SmallOutcome, SmallWalk}
 use Rattle.lp.specs.Range.{SmallConstraint, SmallSystem, SmallTie, SmallFloors}
 
--- ---- lawful rules, and the floors
-
-pub lawful-small : {r : Constraint} → Lawful r → SmallConstraint r
-lawful-small h =
-    record { a-small = record { small = h .a-range }; b-small = record { small = h .b-range }; c-small = record { small = h .c-range } }
+-- ---- systems, and the floors
 
 pub floorX-small : {f : Floors} → SmallFloors f → SmallConstraint (floorX f)
 floorX-small h = record { a-small = within-numeral tt; b-small = within-numeral tt; c-small = weaken tt (within-neg (h .lx-small)) }
@@ -60,20 +56,17 @@ floorX-small h = record { a-small = within-numeral tt; b-small = within-numeral 
 pub floorY-small : {f : Floors} → SmallFloors f → SmallConstraint (floorY f)
 floorY-small h = record { a-small = within-numeral tt; b-small = within-numeral tt; c-small = weaken tt (within-neg (h .ly-small)) }
 
-pub lawful-system : (S : List Constraint) → ((r : Constraint) → List·Memᴰ r S → Lawful r) → SmallSystem S
-lawful-system [] h = tt
-lawful-system (r ∷ S) h = (lawful-small (h r (List·Memᴰ·head refl)), lawful-system S (λ s m. h s (List·Memᴰ·tail m)))
+pub small-system : (S : List Constraint) → ((r : Constraint) → List·Memᴰ r S → SmallConstraint r) → SmallSystem S
+small-system [] h = tt
+small-system (r ∷ S) h = (h r (List·Memᴰ·head refl), small-system S (λ s m. h s (List·Memᴰ·tail m)))
 
 -- document 01's own tie and floors
-pub leastXThenY-small : SmallTie leastXThenY
-leastXThenY-small =
+pub tie-small : SmallTie tie
+tie-small =
     record {
       first-small = record { p-small = within-numeral tt; q-small = within-numeral tt };
       second-small = record { p-small = within-numeral tt; q-small = within-numeral tt };
     }
-
-pub tie-small : SmallTie tie
-tie-small = leastXThenY-small
 
 pub zeroFloors-small : SmallFloors zeroFloors
 zeroFloors-small = record { lx-small = within-numeral tt; ly-small = within-numeral tt }

@@ -1,4 +1,4 @@
--- The model walks the class examples and the slips of document 01 to their answers, places and counts, with valid certificates. That it does so for every
+-- The model walks the class examples and the pitfalls of document 01 to their answers, places and counts, with valid certificates. That it does so for every
 -- system is proved in `theory`; these rows are what a wrong model trips over.
 use mathlib.Core.Bool.{Bool, true, _&&_}
 use lib.Dec.{T, eqb}
@@ -7,8 +7,8 @@ use Rattle.ints.specs.Gcd.{gcd}
 use Rattle.lp.specs.Program.{system}
 use Rattle.lp.specs.Outcome.{every}
 use Rattle.lp.specs.Certificate.{named, certifies}
-use Rattle.lp.specs.Document.{Example, leastXThenY, zeroFloors, sameOutcome}
-use Rattle.lp.specs.Examples.{classExamples, slips}
+use Rattle.lp.specs.Document.{Example, tie, zeroFloors, sameOutcome}
+use Rattle.lp.specs.Examples.{classExamples, pitfalls}
 use Rattle.lp.specs.Starts.{Chain, chains, saidOf}
 use Rattle.model.specs.declared.State.{State}
 use Rattle.model.specs.declared.State.the-variants.{Ended, Going}
@@ -31,19 +31,19 @@ walked e w =
     && witnessed e (w .state)
 
 abbrev pub walks : Example → Bool
-walks e = walked e (walk leastXThenY zeroFloors (e .objective) (e .rules))
+walks e = walked e (walk tie zeroFloors (e .objective) (e .rules))
 
 pub class-examples-walk : T (every walks classExamples)
 unfolding gcd
 class-examples-walk = tt
 
-pub slips-walk : T (every walks slips)
+pub pitfalls-walk : T (every walks pitfalls)
 unfolding gcd
-slips-walk = tt
+pitfalls-walk = tt
 
 -- the start pair and its count, whatever the objective
 abbrev startsBy : Functional → Chain → Bool
-startsBy f c = saidOf c (startHeld (walk leastXThenY zeroFloors f (c .rules) .state)) (walk leastXThenY zeroFloors f (c .rules) .restarts)
+startsBy f c = saidOf c (startHeld (walk tie zeroFloors f (c .rules) .state)) (walk tie zeroFloors f (c .rules) .restarts)
 
 pub chains-start : T (every (startsBy (functional (pos 0) (pos 0))) chains && every (startsBy (functional (pos 1) (pos 1))) chains)
 unfolding gcd

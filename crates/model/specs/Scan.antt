@@ -15,13 +15,13 @@ use Rattle.model.specs.declared.Broken.{Broken}
 use Rattle.model.specs.declared.Broken.the-variants as broken
 
 -- the same line, with the other side allowed
-abbrev pub turned : Constraint → Constraint
-turned h = constraint (negℤ (h .a)) (negℤ (h .b)) (negℤ (h .c))
+abbrev pub reversed : Constraint → Constraint
+reversed h = constraint (negℤ (h .a)) (negℤ (h .b)) (negℤ (h .c))
 
 -- h as it stands, or turned round
 abbrev pub facing : Bool → Constraint → Constraint
 facing true h = h
-facing false h = turned h
+facing false h = reversed h
 
 -- the direction in which the line of l is walked
 abbrev pub direction : Constraint → Ray

@@ -21,17 +21,17 @@ use Rattle.lp.specs.declared.Point.{Point}
 use Rattle.lp.specs.Program.{constraint, slack, Keeps}
 use Rattle.lp.specs.Outcome.{det, meet, every}
 use Rattle.lp.specs.Certificate.{Weighted, weighted, named, total, distinct, greatestWeight, isZero, certifies}
-use Rattle.lp.specs.Document.{Lawful}
+use Rattle.lp.specs.Range.{SmallConstraint}
 use Rattle.model.specs.Scan.{facing}
 use Rattle.model.specs.Step.{alone, lineWeight, conflict}
 use Rattle.theory.proofs.Lists.{and-both, every-of, for-members, At, at-member, at-getD, at-below, at-append, at-new, at-unique}
 use Rattle.theory.proofs.Line.{meet-on-first}
 use Rattle.theory.proofs.Farkas.{Sound, Refutes, line-weight-positive, weights-cancel-a, weights-cancel-b, weights-sum-c}
 
--- valid whatever the coefficients, and within the bound where they are lawful
+-- valid whatever the coefficients, and within the bound where they are within their ranges
 pub record Certified (S : List Constraint) (c : Certificate) : Type 0 where
   pub refutes : Refutes S (named c)
-  pub valid : ((r : Constraint) → List·Memᴰ r S → Lawful r) → T (certifies S (named c))
+  pub valid : ((r : Constraint) → List·Memᴰ r S → SmallConstraint r) → T (certifies S (named c))
 
 abbrev none : Constraint
 none = constraint (pos 0) (pos 0) (pos 0)
@@ -150,8 +150,8 @@ record SmallNormal (r : Constraint) : Type 0 where
   small-a : Within 32767 (r .a)
   small-b : Within 32767 (r .b)
 
-lawful-normal : (r : Constraint) → Lawful r → SmallNormal r
-lawful-normal r h = record { small-a = record { small = h .a-range }; small-b = record { small = h .b-range } }
+normal : (r : Constraint) → SmallConstraint r → SmallNormal r
+normal r h = record { small-a = h .a-small; small-b = h .b-small }
 
 facing-normal : (side : Bool) (r : Constraint) → SmallNormal r → SmallNormal (facing side r)
 facing-normal true r h = h
@@ -209,7 +209,7 @@ module _ (S : List Constraint) (h : Constraint) where
     pub conflict-certified : Certified S′ (conflict side (length S) h j k i m)
     conflict-certified = record { refutes = refuted; valid = valid }
       where
-        valid : ((r : Constraint) → List·Memᴰ r S′ → Lawful r) → T (certifies S′ (named (conflict side (length S) h j k i m)))
+        valid : ((r : Constraint) → List·Memᴰ r S′ → SmallConstraint r) → T (certifies S′ (named (conflict side (length S) h j k i m)))
         valid lawful =
             certifies-of S′ (named (conflict side (length S) h j k i m)) refuted
             (some-entries S′ (length S) j i weight (det l m) (det k l) weight-positive away crosses)
@@ -221,7 +221,7 @@ module _ (S : List Constraint) (h : Constraint) where
             l = facing side h
 
             normal-at : (e : ℕ) (r : Constraint) → At S′ e r → SmallNormal r
-            normal-at e r a = lawful-normal r (lawful r (at-member S′ e r a))
+            normal-at e r a = normal r (lawful r (at-member S′ e r a))
 
             nk : SmallNormal k
             nk = normal-at j k (at-append S (h ∷ []) j k at-k)

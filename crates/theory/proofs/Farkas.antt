@@ -17,11 +17,11 @@ use Rattle.lp.specs.Program.{constraint, slack, Keeps, Feasible}
 use Rattle.lp.specs.Textbook.{Infeasible}
 use Rattle.lp.specs.Outcome.{det, meet, every}
 use Rattle.lp.specs.Certificate.{Weighted, total, distinct, greatestWeight, isZero, certifies}
-use Rattle.model.specs.Scan.{turned, facing}
+use Rattle.model.specs.Scan.{reversed, facing}
 use Rattle.model.specs.Step.{lineWeight}
 use Rattle.theory.proofs.Solver.{equal, nn-by, pos-by, clash-by, C, P, Z, slackᵖ, detᵖ, meetᵖ}
 use Rattle.theory.proofs.Lists.{and-left, and-right, every-at, getD-member}
-use Rattle.theory.proofs.Line.{turnedᵖ}
+use Rattle.theory.proofs.Line.{reversedᵖ}
 
 -- ---- a valid certificate excludes every point
 
@@ -91,27 +91,27 @@ module _ (h k m : Constraint) (v : Point) (proper : pos 0 <ᶻ v .d) (breaks : s
   line-weight-positive false crosses away broken =
       pos-cancel (neg-pos breaks)
       (pos-by (C ∷ C ∷ C ∷ P ∷ [])
-      (λ h k m v. ⊝ slackᵖ h v ⊗ detᵖ k m ≐ detᵖ k (turnedᵖ h) ⊗ slackᵖ m v ⊕ detᵖ (turnedᵖ h) m ⊗ slackᵖ k v ⊕ ⊝ slackᵖ m (meetᵖ k (turnedᵖ h)) ⊗ v .d) refl h k m v
-      (others (turned h) crosses away broken))
+      (λ h k m v. ⊝ slackᵖ h v ⊗ detᵖ k m ≐ detᵖ k (reversedᵖ h) ⊗ slackᵖ m v ⊕ detᵖ (reversedᵖ h) m ⊗ slackᵖ k v ⊕ ⊝ slackᵖ m (meetᵖ k (reversedᵖ h)) ⊗ v .d) refl h k m v
+      (others (reversed h) crosses away broken))
 
 -- with these weights a and b cancel, and c sums to the slack of m at the meeting point
 pub weights-cancel-a : (side : Bool) (h k m : Constraint) → lineWeight side k m *ℤ h .a +ℤ (det (facing side h) m *ℤ k .a +ℤ (det k (facing side h) *ℤ m .a +ℤ pos 0)) ≡ pos 0
 weights-cancel-a true =
     equal (C ∷ C ∷ C ∷ []) (λ h k m. detᵖ m k ⊗ h .a ⊕ (detᵖ h m ⊗ k .a ⊕ (detᵖ k h ⊗ m .a ⊕ con (pos 0))) ≐ con (pos 0)) refl
 weights-cancel-a false =
-    equal (C ∷ C ∷ C ∷ []) (λ h k m. detᵖ k m ⊗ h .a ⊕ (detᵖ (turnedᵖ h) m ⊗ k .a ⊕ (detᵖ k (turnedᵖ h) ⊗ m .a ⊕ con (pos 0))) ≐ con (pos 0)) refl
+    equal (C ∷ C ∷ C ∷ []) (λ h k m. detᵖ k m ⊗ h .a ⊕ (detᵖ (reversedᵖ h) m ⊗ k .a ⊕ (detᵖ k (reversedᵖ h) ⊗ m .a ⊕ con (pos 0))) ≐ con (pos 0)) refl
 
 pub weights-cancel-b : (side : Bool) (h k m : Constraint) → lineWeight side k m *ℤ h .b +ℤ (det (facing side h) m *ℤ k .b +ℤ (det k (facing side h) *ℤ m .b +ℤ pos 0)) ≡ pos 0
 weights-cancel-b true =
     equal (C ∷ C ∷ C ∷ []) (λ h k m. detᵖ m k ⊗ h .b ⊕ (detᵖ h m ⊗ k .b ⊕ (detᵖ k h ⊗ m .b ⊕ con (pos 0))) ≐ con (pos 0)) refl
 weights-cancel-b false =
-    equal (C ∷ C ∷ C ∷ []) (λ h k m. detᵖ k m ⊗ h .b ⊕ (detᵖ (turnedᵖ h) m ⊗ k .b ⊕ (detᵖ k (turnedᵖ h) ⊗ m .b ⊕ con (pos 0))) ≐ con (pos 0)) refl
+    equal (C ∷ C ∷ C ∷ []) (λ h k m. detᵖ k m ⊗ h .b ⊕ (detᵖ (reversedᵖ h) m ⊗ k .b ⊕ (detᵖ k (reversedᵖ h) ⊗ m .b ⊕ con (pos 0))) ≐ con (pos 0)) refl
 
 pub weights-sum-c : (side : Bool) (h k m : Constraint) → lineWeight side k m *ℤ h .c +ℤ (det (facing side h) m *ℤ k .c +ℤ (det k (facing side h) *ℤ m .c +ℤ pos 0)) ≡ slack m (meet k (facing side h))
 weights-sum-c true =
     equal (C ∷ C ∷ C ∷ []) (λ h k m. detᵖ m k ⊗ h .c ⊕ (detᵖ h m ⊗ k .c ⊕ (detᵖ k h ⊗ m .c ⊕ con (pos 0))) ≐ slackᵖ m (meetᵖ k h)) refl
 weights-sum-c false =
-    equal (C ∷ C ∷ C ∷ []) (λ h k m. detᵖ k m ⊗ h .c ⊕ (detᵖ (turnedᵖ h) m ⊗ k .c ⊕ (detᵖ k (turnedᵖ h) ⊗ m .c ⊕ con (pos 0))) ≐ slackᵖ m (meetᵖ k (turnedᵖ h))) refl
+    equal (C ∷ C ∷ C ∷ []) (λ h k m. detᵖ k m ⊗ h .c ⊕ (detᵖ (reversedᵖ h) m ⊗ k .c ⊕ (detᵖ k (reversedᵖ h) ⊗ m .c ⊕ con (pos 0))) ≐ slackᵖ m (meetᵖ k (reversedᵖ h))) refl
 
 -- ---- the test of `lp` says so
 

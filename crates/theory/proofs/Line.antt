@@ -12,23 +12,23 @@ use Rattle.lp.specs.declared.Point.{Point}
 use Rattle.lp.specs.declared.Ray.{Ray}
 use Rattle.lp.specs.Program.{slack, Keeps, between}
 use Rattle.lp.specs.Outcome.{det, meet}
-use Rattle.model.specs.Scan.{turned, facing, direction}
+use Rattle.model.specs.Scan.{reversed, facing, direction}
 use Rattle.theory.proofs.Solver.{equal, nn-by, C, P, Constraintᵖ, slackᵖ, detᵖ, meetᵖ, betweenᵖ}
 use Rattle.theory.proofs.Direction.{Upward, AtMost, ray-path}
 
-abbrev pub turnedᵖ : Constraintᵖ → Constraintᵖ
-turnedᵖ h = record { a = ⊝ h .a; b = ⊝ h .b; c = ⊝ h .c }
+abbrev pub reversedᵖ : Constraintᵖ → Constraintᵖ
+reversedᵖ h = record { a = ⊝ h .a; b = ⊝ h .b; c = ⊝ h .c }
 
-turned-slack : (h : Constraint) (z : Point) → slack (turned h) z ≡ negℤ (slack h z)
-turned-slack = equal (C ∷ P ∷ []) (λ h z. slackᵖ (turnedᵖ h) z ≐ ⊝ slackᵖ h z) refl
+reversed-slack : (h : Constraint) (z : Point) → slack (reversed h) z ≡ negℤ (slack h z)
+reversed-slack = equal (C ∷ P ∷ []) (λ h z. slackᵖ (reversedᵖ h) z ≐ ⊝ slackᵖ h z) refl
 
 pub on-line : (side : Bool) (h : Constraint) (z : Point) → slack h z ≡ pos 0 → slack (facing side h) z ≡ pos 0
 on-line true h z e = e
-on-line false h z e = turned-slack h z ∙ ap negℤ e
+on-line false h z e = reversed-slack h z ∙ ap negℤ e
 
 pub off-line : (side : Bool) (h : Constraint) (z : Point) → slack (facing side h) z ≡ pos 0 → slack h z ≡ pos 0
 off-line true h z e = e
-off-line false h z e = equal (C ∷ P ∷ []) (λ h z. slackᵖ h z ≐ ⊝ slackᵖ (turnedᵖ h) z) refl h z ∙ ap negℤ e
+off-line false h z e = equal (C ∷ P ∷ []) (λ h z. slackᵖ h z ≐ ⊝ slackᵖ (reversedᵖ h) z) refl h z ∙ ap negℤ e
 
 -- ---- the meeting point
 

@@ -142,9 +142,10 @@ module _ (t : Tie) (good : GoodTie t) (floors : Floors) (f : Functional) where
       pub first : (w : Point) → Feasible S w → AtMost (Up (tieOrder t)) w s
       pub reduced : LowestTerms s
 
-    -- the ray is lawful, no lawful candidate has a smaller slope, and it is divided by its greatest common divisor
+    -- the ray is lawful, it is one of document 01's candidates divided by its greatest common divisor, and no lawful candidate has a smaller slope
     pub record FlattestRay (d : Ray) : Type 0 where
       pub lawful-ray : T (lawful S f d)
+      pub from-candidate : (e : Ray) × Candidate S e × T (lawful S f e) × (d ≡ reduceRay e)
       pub flattest : (e : Ray) → Candidate S e → T (lawful S f e) → pos 0 ≤ᶻ cross d e
       pub divided : Reduced2 (d .dx) (d .dy)
 
@@ -160,6 +161,7 @@ module _ (t : Tie) (good : GoodTie t) (floors : Floors) (f : Functional) where
         subst FlattestRay (sym (m .divided))
         (record {
           lawful-ray = lawful-of S f low (λ r i. recedes r (flat .recedes r i)) gains;
+          from-candidate = (ρ, flat .candidate, lawful-of S f ρ (flat .recedes) (flat .gains), refl);
           flattest = λ e c l. nn-cancel g-positive (nn-by (Z ∷ R ∷ R ∷ []) (λ g d e. g ⊗ crossᵖ d e ≐ g ⊗ d .dx ⊗ e .dy ⊖ g ⊗ d .dy ⊗ e .dx) refl g low e (subst (λ z. pos 0 ≤ᶻ z .dx *ℤ e .dy -ℤ z .dy *ℤ e .dx) (sym whole) (flat .flattest e (lawful-recedes S f e l) c (lawful-gains S f e l))));
           divided = reduce2-reduced (ρ .dx) (ρ .dy) g-pos;
         })

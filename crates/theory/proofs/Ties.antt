@@ -14,7 +14,7 @@ use Rattle.lp.specs.declared.Ray.{Ray}
 use Rattle.lp.specs.declared.Tie.{Tie}
 use Rattle.lp.specs.Program.{functional, along}
 use Rattle.lp.specs.Outcome.{tieOrder, gainOrder}
-use Rattle.lp.specs.Document.{leastXThenY, tie}
+use Rattle.lp.specs.Document.{tie}
 use Rattle.theory.proofs.Solver.{equal, F, R, alongᵖ}
 use Rattle.theory.proofs.Direction.{Upward, Null, null-of-size, along-null, opposite}
 use Rattle.theory.proofs.Lexicographic.{Up, lexicographic, along-opposite}
@@ -99,26 +99,22 @@ not-null d hx hy other = go (sign (d .dx)) (sign (d .dy))
 below : (f : Functional) (d : Ray) (z : ℤ) → along f d ≡ negℤ z → pos 0 <ᶻ z → along f d <ᶻ pos 0
 below f d z e h = subst (λ x. x <ᶻ pos 0) (sym e) (pos-neg (subst (λ x. pos 0 <ᶻ x) (sym (negℤ-negℤ z)) h))
 
-least-x : (d : Ray) → along (leastXThenY .first) d ≡ negℤ (d .dx)
+least-x : (d : Ray) → along (tie .first) d ≡ negℤ (d .dx)
 least-x = equal (R ∷ []) (λ d. con (negsuc 0) ⊗ d .dx ⊕ con (pos 0) ⊗ d .dy ≐ ⊝ d .dx) refl
 
-pub least-x-then-y-good : GoodTie leastXThenY
-least-x-then-y-good =
+pub tie-good : GoodTie tie
+tie-good =
     record {
       independent = λ e. clashℤ (pos-nat 0) (le-of-eq e);
       falls = λ d hx hy other. go d (not-null d hx hy other);
     }
   where
-    least-y : (d : Ray) → along (leastXThenY .second) d ≡ negℤ (d .dy)
+    least-y : (d : Ray) → along (tie .second) d ≡ negℤ (d .dy)
     least-y = equal (R ∷ []) (λ d. con (pos 0) ⊗ d .dx ⊕ con (negsuc 0) ⊗ d .dy ≐ ⊝ d .dy) refl
 
-    go : (d : Ray) → (pos 0 <ᶻ d .dx) ⊎ ((d .dx ≡ pos 0) × (pos 0 <ᶻ d .dy)) → (along (leastXThenY .first) d <ᶻ pos 0) ⊎ ((along (leastXThenY .first) d ≡ pos 0) × (along (leastXThenY .second) d <ᶻ pos 0))
-    go d (inl p) = inl (below (leastXThenY .first) d (d .dx) (least-x d) p)
-    go d (inr (e, p)) = inr (least-x d ∙ ap negℤ e, below (leastXThenY .second) d (d .dy) (least-y d) p)
-
--- the tie in force serves
-pub tie-good : GoodTie tie
-tie-good = least-x-then-y-good
+    go : (d : Ray) → (pos 0 <ᶻ d .dx) ⊎ ((d .dx ≡ pos 0) × (pos 0 <ᶻ d .dy)) → (along (tie .first) d <ᶻ pos 0) ⊎ ((along (tie .first) d ≡ pos 0) × (along (tie .second) d <ᶻ pos 0))
+    go d (inl p) = inl (below (tie .first) d (d .dx) (least-x d) p)
+    go d (inr (e, p)) = inr (least-x d ∙ ap negℤ e, below (tie .second) d (d .dy) (least-y d) p)
 
 -- least x + y, then least x
 abbrev pub leastTotalThenX : Tie

@@ -11,9 +11,9 @@ use Rattle.ints.proofs.Ring.{_≐_}
 use Rattle.lp.specs.declared.Constraint.{Constraint}
 use Rattle.lp.specs.declared.Point.{Point}
 use Rattle.lp.specs.Outcome.{det, meet, reduce, meetings, verticesOf, vertices}
-use Rattle.model.specs.Scan.{turned, facing}
+use Rattle.model.specs.Scan.{reversed, facing}
 use Rattle.theory.proofs.Solver.{equal, C, detᵖ, meetᵖ}
-use Rattle.theory.proofs.Line.{turnedᵖ}
+use Rattle.theory.proofs.Line.{reversedᵖ}
 use Rattle.theory.proofs.Reduction.{point-path, reduced-proper, reduced-lowest, LowestTerms}
 
 pub record Vertex (S : List Constraint) (v : Point) : Type 0 where
@@ -54,14 +54,14 @@ meeting-vertex S false h k i j c =
       lowest = ap reduce (point-path turn-x turn-y turn-d);
     }
   where
-    turn-d : det k (turned h) ≡ det h k
-    turn-d = equal (C ∷ C ∷ []) (λ k h. detᵖ k (turnedᵖ h) ≐ detᵖ h k) refl k h
+    turn-d : det k (reversed h) ≡ det h k
+    turn-d = equal (C ∷ C ∷ []) (λ k h. detᵖ k (reversedᵖ h) ≐ detᵖ h k) refl k h
 
-    turn-x : (meet k (turned h)) .x ≡ (meet h k) .x
-    turn-x = equal (C ∷ C ∷ []) (λ k h. (meetᵖ k (turnedᵖ h)) .x ≐ (meetᵖ h k) .x) refl k h
+    turn-x : (meet k (reversed h)) .x ≡ (meet h k) .x
+    turn-x = equal (C ∷ C ∷ []) (λ k h. (meetᵖ k (reversedᵖ h)) .x ≐ (meetᵖ h k) .x) refl k h
 
-    turn-y : (meet k (turned h)) .y ≡ (meet h k) .y
-    turn-y = equal (C ∷ C ∷ []) (λ k h. (meetᵖ k (turnedᵖ h)) .y ≐ (meetᵖ h k) .y) refl k h
+    turn-y : (meet k (reversed h)) .y ≡ (meet h k) .y
+    turn-y = equal (C ∷ C ∷ []) (λ k h. (meetᵖ k (reversedᵖ h)) .y ≐ (meetᵖ h k) .y) refl k h
 
 -- ---- the enumeration
 

@@ -1,0 +1,137 @@
+-- Entries put into a run: what stands at each entry afterwards, and what a run with the floors laid holds.
+use mathlib.Core.Path.{_≡_, refl, sym, _∙_, ap, ap₂, subst}
+use mathlib.Core.List.{List, [], _∷_}
+use mathlib.Core.Bool.{Bool, true, false, cond, _&&_}
+use Prim.Native.Nat.{ℕ, zero, suc, _+_, _*_, _≤_, _<_}
+use native.Mathlib.Omega.{arith}
+use lib.ListN.{length, getD, set, length-set}
+use lib.Seq.{getD-set-same, getD-set-other}
+use lib.Dec.{leb}
+use lib.IntN.{ℤ, pos, negsuc, negℤ}
+use borrow.Author.Tests.{le-leb, lt-leb, leb-true}
+use Rattle.lp.specs.declared.Constraint.{Constraint}
+use Rattle.lp.specs.declared.Floors.{Floors}
+use Rattle.lp.specs.Program.{constraint, floorX, floorY}
+use Rattle.engine.specs.Entries.{entry, entries, putEntry}
+use Rattle.engine.specs.Tests.{floorsInRange}
+use Rattle.engine.specs.Solving.{Lays}
+use Rattle.engine.proofs.Tests.{both}
+
+pub put-length : (l : List ℤ) (k : ℕ) (c : Constraint) → length (putEntry l k c) ≡ length l
+put-length l k c = simp length-set
+
+-- ---- what stands at each entry
+
+at-set : (l : List ℤ) (i j : ℕ) (v : ℤ) → (j ≡ i → ⊥) → getD (set l i v) j (pos 0) ≡ getD l j (pos 0)
+at-set l i j v other = getD-set-other l i j v (pos 0) other
+
+-- the three numbers of an entry, and those of another
+module _ (l : List ℤ) (k : ℕ) (c : Constraint) where
+  pub put-same : 3 * k + 2 < length l → entry (putEntry l k c) k ≡ c
+  put-same room = λ i. record { a = first i; b = second i; c = third i }
+    where
+      first : getD (putEntry l k c) (3 * k) (pos 0) ≡ c .a
+      first =
+          at-set (set (set l (3 * k) (c .a)) (3 * k + 1) (c .b)) (3 * k + 2) (3 * k) (c .c) (λ e. omega arith)
+          ∙ at-set (set l (3 * k) (c .a)) (3 * k + 1) (3 * k) (c .b) (λ e. omega arith)
+          ∙ getD-set-same l (3 * k) (c .a) (pos 0) (omega arith)
+
+      second : getD (putEntry l k c) (3 * k + 1) (pos 0) ≡ c .b
+      second =
+          at-set (set (set l (3 * k) (c .a)) (3 * k + 1) (c .b)) (3 * k + 2) (3 * k + 1) (c .c) (λ e. omega arith)
+          ∙ getD-set-same (set l (3 * k) (c .a)) (3 * k + 1) (c .b) (pos 0) (simp length-set (omega arith))
+
+      third : getD (putEntry l k c) (3 * k + 2) (pos 0) ≡ c .c
+      third = getD-set-same (set (set l (3 * k) (c .a)) (3 * k + 1) (c .b)) (3 * k + 2) (c .c) (pos 0) (simp length-set (omega arith))
+
+  -- a place of another entry
+  put-away :
+      (p : ℕ) →
+      (p ≡ 3 * k → ⊥) →
+      (p ≡ 3 * k + 1 → ⊥) →
+      (p ≡ 3 * k + 2 → ⊥) →
+      getD (putEntry l k c) p (pos 0) ≡ getD l p (pos 0)
+  put-away p a b d =
+      at-set (set (set l (3 * k) (c .a)) (3 * k + 1) (c .b)) (3 * k + 2) p (c .c) d
+      ∙ at-set (set l (3 * k) (c .a)) (3 * k + 1) p (c .b) b
+      ∙ at-set l (3 * k) p (c .a) a
+
+  pub put-other : (j : ℕ) → (j ≡ k → ⊥) → entry (putEntry l k c) j ≡ entry l j
+  put-other j other = λ i. record { a = first i; b = second i; c = third i }
+    where
+      first : getD (putEntry l k c) (3 * j) (pos 0) ≡ getD l (3 * j) (pos 0)
+      first = put-away (3 * j) (λ e. other (omega arith)) (λ e. other (omega arith)) (λ e. other (omega arith))
+
+      second : getD (putEntry l k c) (3 * j + 1) (pos 0) ≡ getD l (3 * j + 1) (pos 0)
+      second = put-away (3 * j + 1) (λ e. other (omega arith)) (λ e. other (omega arith)) (λ e. other (omega arith))
+
+      third : getD (putEntry l k c) (3 * j + 2) (pos 0) ≡ getD l (3 * j + 2) (pos 0)
+      third = put-away (3 * j + 2) (λ e. other (omega arith)) (λ e. other (omega arith)) (λ e. other (omega arith))
+
+-- ---- the floors
+
+module _ (f : Floors) (l : List ℤ) where
+  abbrev pub laid : List ℤ
+  laid = putEntry (putEntry l 0 (floorX f)) 1 (floorY f)
+
+  pub laid-length : length laid ≡ length l
+  laid-length = put-length (putEntry l 0 (floorX f)) 1 (floorY f) ∙ put-length l 0 (floorX f)
+
+  pub laid-x : 6 ≤ length l → entry laid 0 ≡ floorX f
+  laid-x room = put-other (putEntry l 0 (floorX f)) 1 (floorY f) 0 (λ e. omega arith) ∙ put-same l 0 (floorX f) (omega arith)
+
+  pub laid-y : 6 ≤ length l → entry laid 1 ≡ floorY f
+  laid-y room = put-same (putEntry l 0 (floorX f)) 1 (floorY f) (omega (arith, put-length l 0 (floorX f)))
+
+  -- the rules stay
+  pub laid-rules : (i n : ℕ) → 2 ≤ i → entries laid i n ≡ entries l i n
+  laid-rules i zero h = refl
+  laid-rules i (suc n) h =
+      ap₂ (λ (r : Constraint) (S : List Constraint). r ∷ S)
+      (put-other (putEntry l 0 (floorX f)) 1 (floorY f) i (λ e. omega arith) ∙ put-other l 0 (floorX f) i (λ e. omega arith))
+      (laid-rules (suc i) n (omega arith))
+
+  -- as the code lays them
+  pub laid-by :
+      {cx cy : ℤ} →
+      cx ≡ negℤ (f .lx) →
+      cy ≡ negℤ (f .ly) →
+      {l₁ l₂ : List ℤ} →
+      l₁ ≡ putEntry l 0 (constraint (negsuc 0) (pos 0) cx) →
+      l₂ ≡ putEntry l₁ 1 (constraint (pos 0) (negsuc 0) cy) →
+      l₂ ≡ laid
+  laid-by ex ey e₁ e₂ =
+      e₂ ∙ (λ i. putEntry ((e₁ ∙ ap (λ z. putEntry l 0 (constraint (negsuc 0) (pos 0) z)) ex) i) 1 (constraint (pos 0) (negsuc 0) (ey i)))
+
+  -- ---- the promise of laying them
+
+  pub lays : 6 ≤ length l → floorsInRange f ≡ true → {after : List ℤ} → after ≡ laid → Lays f l true after
+  lays room e a =
+      let so = ap (λ s. s && floorsInRange f) (le-leb 6 (length l) room) ∙ e in
+      record { told = sym so; run = a ∙ sym (ap (λ s. cond s laid l) so) }
+
+  lays-not : (leb 6 (length l) && floorsInRange f) ≡ false → Lays f l false l
+  lays-not so = record { told = sym so; run = sym (ap (λ s. cond s laid l) so) }
+
+  pub lays-no-room : length l < 6 → Lays f l false l
+  lays-no-room less = lays-not (ap (λ s. s && floorsInRange f) (lt-leb 6 (length l) less))
+
+  pub lays-out-of-range : 6 ≤ length l → floorsInRange f ≡ false → Lays f l false l
+  lays-out-of-range room e = lays-not (ap (λ s. s && floorsInRange f) (le-leb 6 (length l) room) ∙ e)
+
+  pub lays-length : {t : Bool} {after : List ℤ} → Lays f l t after → length after ≡ length l
+  lays-length {t} h = ap length (h .run) ∙ go (leb 6 (length l) && floorsInRange f)
+    where
+      go : (s : Bool) → length (cond s laid l) ≡ length l
+      go true = laid-length
+      go false = refl
+
+  module _ {t : Bool} {after : List ℤ} (h : Lays f l t after) (so : t ≡ true) where
+    pub lays-laid : after ≡ laid
+    lays-laid = h .run ∙ ap (λ s. cond s laid l) (sym (h .told) ∙ so)
+
+    pub lays-tests : (leb 6 (length l) ≡ true) × (floorsInRange f ≡ true)
+    lays-tests = both (leb 6 (length l)) (floorsInRange f) (sym (h .told) ∙ so)
+
+    pub lays-six : 6 ≤ length after
+    lays-six = omega (arith, lays-length h, leb-true 6 (length l) (lays-tests .0))

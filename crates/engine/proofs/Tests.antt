@@ -1,0 +1,164 @@
+-- Each test of a range says what its record says, both ways; and so the promises of `solve` and `amount` for numbers that are within their ranges.
+use mathlib.Core.Path.{_≡_, refl, sym, _∙_, ap, subst}
+use mathlib.Core.List.{List, [], _∷_}
+use mathlib.Core.Bool.{Bool, true, false, cond, _&&_}
+use Prim.Native.Nat.{ℕ, _+_, _*_, _^_, _≤_, _<_}
+use borrow.Author.Tests.{leb-true, le-leb}
+use lib.ListN.{length}
+use lib.Dec.{T, leb}
+use lib.IntN.{ℤ, pos, natAbs}
+use lib.Signed.{ltZ, ltZ-yes, mag}
+use Rattle.ints.proofs.Bits.{read}
+use Rattle.fraction.proofs.Quotients.{unread}
+use Rattle.ints.specs.Within.{Within}
+use Rattle.lp.specs.declared.Constraint.{Constraint}
+use Rattle.lp.specs.declared.Functional.{Functional}
+use Rattle.lp.specs.declared.Floors.{Floors}
+use Rattle.lp.specs.declared.Terms.{Terms}
+use Rattle.lp.specs.declared.Point.{Point}
+use Rattle.lp.specs.declared.Amount.{Amount}
+use Rattle.lp.specs.Program.{slack, floorX, floorY}
+use Rattle.lp.specs.Outcome.{every}
+use Rattle.lp.specs.Slack.{amount, lowest, slackOf}
+use Rattle.lp.specs.Document.{tie}
+use Rattle.lp.specs.Range.{SmallConstraint, SmallSystem, SmallFunctional, SmallFloors, SmallTerms}
+use Rattle.model.specs.Bounds.{SmallPoint}
+use Rattle.model.specs.Step.{walk}
+use Rattle.engine.proofs.Sizes.{within-unread}
+use Rattle.engine.specs.declared.Solved.the-variants.{Outside, Walked}
+use Rattle.engine.specs.Entries.{entries, putEntry}
+use Rattle.engine.specs.Tests.{upTo, ruleInRange, objectiveInRange, floorsInRange, pointInRange}
+use Rattle.engine.specs.Solving.{solutionOf, inRange, solvedOf, withFloors, amountOf}
+
+-- ---- one number
+
+up-to : {n : ℕ} {z : ℤ} → Within n z → leb (natAbs z) n ≡ true
+up-to {n} {z} h = le-leb (natAbs z) n (h .small)
+
+within : (n : ℕ) (z : ℤ) → upTo n z ≡ true → Within n z
+within n z e = record { small = leb-true (natAbs z) n e }
+
+-- ---- tests joined by `and`
+
+pub both : (s t : Bool) → (s && t) ≡ true → (s ≡ true) × (t ≡ true)
+both true t e = (refl, e)
+both false t e = absurd (subst T (sym e) tt)
+
+is-true : (s : Bool) → T s → s ≡ true
+is-true true h = refl
+is-true false h = absurd h
+
+-- a number that a call took is read back from its bits
+pub passed : (n : ℕ) (z : ℤ) → mag z < 2 ^ 63 → {t : Bool} → t ≡ upTo n (read z) → t ≡ upTo n z
+passed n z h e = e ∙ ap (upTo n) (unread {z = z} h)
+
+-- two numbers of one range
+pub two-passed :
+    (n : ℕ) (y z : ℤ) →
+    mag y < 2 ^ 63 →
+    mag z < 2 ^ 63 →
+    {s t : Bool} →
+    s ≡ upTo n (read y) →
+    t ≡ upTo n (read z) →
+    {b : Bool} →
+    (s && t) ≡ b →
+    (upTo n y && upTo n z) ≡ b
+two-passed n y z hy hz es et e = sym (λ i. passed n y hy es i && passed n z hz et i) ∙ e
+
+-- ---- a rule, an objective, floors, a point
+
+module _ {r : Constraint} where
+  pub rule-passes : SmallConstraint r → ruleInRange r ≡ true
+  rule-passes h = rw (up-to (h .a-small), up-to (h .b-small), up-to (h .c-small))
+
+  pub rule-small : ruleInRange r ≡ true → SmallConstraint r
+  rule-small e =
+      let c = both (upTo 32767 (r .a) && upTo 32767 (r .b)) (upTo 1000000000 (r .c)) e in
+      let b = both (upTo 32767 (r .a)) (upTo 32767 (r .b)) (c .0) in
+      record { a-small = within 32767 (r .a) (b .0); b-small = within 32767 (r .b) (b .1); c-small = within 1000000000 (r .c) (c .1) }
+
+module _ {f : Functional} where
+  pub objective-passes : SmallFunctional f → objectiveInRange f ≡ true
+  objective-passes h = rw (up-to (h .p-small), up-to (h .q-small))
+
+  pub objective-small : objectiveInRange f ≡ true → SmallFunctional f
+  objective-small e =
+      let pq = both (upTo 32767 (f .p)) (upTo 32767 (f .q)) e in
+      record { p-small = within 32767 (f .p) (pq .0); q-small = within 32767 (f .q) (pq .1) }
+
+module _ {f : Floors} where
+  pub floors-pass : SmallFloors f → floorsInRange f ≡ true
+  floors-pass h = rw (up-to (h .lx-small), up-to (h .ly-small))
+
+  pub floors-small : floorsInRange f ≡ true → SmallFloors f
+  floors-small e =
+      let xy = both (upTo 32768 (f .lx)) (upTo 32768 (f .ly)) e in
+      record { lx-small = within 32768 (f .lx) (xy .0); ly-small = within 32768 (f .ly) (xy .1) }
+
+module _ {v : Point} where
+  pub point-passes : SmallPoint v → pointInRange v ≡ true
+  point-passes h = rw (up-to (h .x-small), up-to (h .y-small), up-to (h .d-small)) (is-true (ltZ (pos 0) (v .d)) (h .d-proper .lt))
+
+  pub point-small : pointInRange v ≡ true → SmallPoint v
+  point-small e =
+      let p = both (upTo 65534000000000 (v .x) && upTo 65534000000000 (v .y) && upTo 2147352578 (v .d)) (ltZ (pos 0) (v .d)) e in
+      let d = both (upTo 65534000000000 (v .x) && upTo 65534000000000 (v .y)) (upTo 2147352578 (v .d)) (p .0) in
+      let y = both (upTo 65534000000000 (v .x)) (upTo 65534000000000 (v .y)) (d .0) in
+      record {
+        x-small = within 65534000000000 (v .x) (y .0);
+        y-small = within 65534000000000 (v .y) (y .1);
+        d-small = within 2147352578 (v .d) (d .1);
+        d-proper = ltZ-yes (subst T (sym (p .1)) tt);
+      }
+
+-- ---- a system
+
+pub system-passes : (S : List Constraint) → SmallSystem S → every ruleInRange S ≡ true
+system-passes [] h = refl
+system-passes (r ∷ S) h =
+    ap (λ s. elim s [ true ↦ every ruleInRange S | false ↦ false ]) (rule-passes (h .0)) ∙ system-passes S (h .1)
+
+-- ---- the promises, for numbers within their ranges
+
+pub solved :
+    (t : Terms) (l : List ℤ) (n : ℕ) →
+    SmallTerms t →
+    3 * (n + 2) ≤ length l →
+    SmallSystem (entries l 2 n) →
+    solvedOf t l n ≡ Walked (solutionOf (t .objective) (walk tie (t .floors) (t .objective) (entries l 2 n)))
+solved t l n h room s =
+    ap (λ b. cond b (Walked (solutionOf (t .objective) (walk tie (t .floors) (t .objective) (entries l 2 n)))) Outside)
+    (passes (leb (3 * (n + 2)) (length l)) (objectiveInRange (t .objective)) (floorsInRange (t .floors)) (every ruleInRange (entries l 2 n))
+    (le-leb (3 * (n + 2)) (length l) room) (objective-passes (h .objective-small)) (floors-pass (h .floors-small)) (system-passes (entries l 2 n) s))
+  where
+    passes : (a b c d : Bool) → a ≡ true → b ≡ true → c ≡ true → d ≡ true → (a && b && c && d) ≡ true
+    passes a b c d ea eb ec ed = rw (ea, eb, ec, ed)
+
+pub floors-laid :
+    (f : Floors) (l : List ℤ) →
+    SmallFloors f →
+    6 ≤ length l →
+    withFloors f l ≡ putEntry (putEntry l 0 (floorX f)) 1 (floorY f)
+floors-laid f l h room =
+    ap (λ b. cond b (putEntry (putEntry l 0 (floorX f)) 1 (floorY f)) l)
+    (ap (λ b. b && floorsInRange f) (le-leb 6 (length l) room) ∙ floors-pass h)
+
+pub measured : (r : Constraint) (v : Point) → SmallConstraint r → SmallPoint v → amountOf r v ≡ slackOf r v
+measured r v h k =
+    ap (λ b. cond b (slackOf r v) (amount (pos 0) (pos 0))) (ap (λ b. b && pointInRange v) (rule-passes h) ∙ point-passes k)
+
+-- as the code goes: the test, then the slack and its lowest terms
+module _ (r : Constraint) (v : Point) {a b : Bool} (ea : a ≡ ruleInRange r) (eb : b ≡ pointInRange v) where
+  pub amount-tests : (a && b) ≡ true → SmallConstraint r × SmallPoint v
+  amount-tests e = let t = both a b e in (rule-small (sym ea ∙ t .0), point-small (sym eb ∙ t .1))
+
+  amount-told : {s : Bool} → (a && b) ≡ s → cond s (slackOf r v) (amount (pos 0) (pos 0)) ≡ amountOf r v
+  amount-told e = ap (λ s. cond s (slackOf r v) (amount (pos 0) (pos 0))) (sym e ∙ (λ i. ea i && eb i))
+
+  pub amount-out : (a && b) ≡ false → amount (pos 0) (pos 0) ≡ amountOf r v
+  amount-out e = amount-told e
+
+  pub amount-in : (a && b) ≡ true → {z : ℤ} → mag z < 2 ^ 63 → z ≡ slack r v → {x : Amount} → x ≡ lowest (read z) (read (v .d)) → x ≡ amountOf r v
+  amount-in e {z} h ez ex =
+      let k = amount-tests e .1 in
+      ex ∙ (λ i. lowest ((unread {z = z} h ∙ ez) i) (within-unread (k .d-small) tt i)) ∙ amount-told e

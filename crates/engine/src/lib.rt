@@ -1,0 +1,72 @@
+// The engine: a chain of rules planned, with no byte of a book in sight. Exact arithmetic on 64-bit integers, equal function by function to the functional model
+// of crate `model`. What a private function asks of its numbers is one record, and document 01's bounds answer it; the two functions below ask nothing.
+mod cone;
+mod entries;
+mod exact;
+mod floors;
+mod optimum;
+mod order;
+mod range;
+mod scan;
+mod start;
+mod verdict;
+mod walk;
+
+use lp::Amount;
+use lp::Certificate;
+use lp::Constraint;
+use lp::Outcome;
+use lp::Point;
+use lp::Terms;
+ghost use mathlib.Core.Path.{_≡_};
+ghost use Rattle.engine.specs.Solving.{Solves, amountOf};
+
+// What the walk along a chain of rules comes to: the outcome, the counts, the place and a certificate by index (0 and 1 are the floors, i + 2 is rule i), and the
+// start pair with how often it was worked out. What is not used is zero.
+pub struct Solution {
+    pub outcome: Outcome,
+    pub moves: usize,
+    pub opened: usize,
+    pub place: usize,
+    pub certificate: Certificate,
+    pub held: bool,
+    pub start: Point,
+    pub restarts: usize,
+}
+
+// Outside: some number is out of its range, or the run has no room.
+pub enum Solved {
+    Outside,
+    Walked(Solution),
+}
+
+// Plans n rules, which stand in a run of numbers from its seventh on (a, b, c each); the floors are laid out before them.
+pub fn solve(terms: Terms, run: &mut [i64], n: usize) -> Solved
+    ensures { λ r. ⌜ Solves terms n (now (run .entry)) r (now (run .exit)) ⌝ }
+{
+    let objective = terms.objective;
+    let floors = terms.floors;
+    if !floors::lay_floors(floors, &mut *run) {
+        return Solved::Outside;
+    }
+    if range::up_to(32767, objective.p) & range::up_to(32767, objective.q) {
+        if n <= (run.len() - 6) / 3 {
+            return walk::walk_rules(objective, floors, run, n);
+        }
+    }
+    Solved::Outside
+}
+
+// How far a point is from a constraint's line, in lowest terms.
+pub fn amount(r: Constraint, v: Point) -> Amount
+    ensures { λ a. ⌜ a ≡ amountOf r v ⌝ }
+{
+    if range::rule_in_range(r) & range::point_in_range(v) {
+        fraction::lowest(exact::slack(r, v), v.d)
+    } else {
+        Amount {
+            numerator: 0,
+            denominator: 0,
+        }
+    }
+}

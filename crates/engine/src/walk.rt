@@ -1,0 +1,138 @@
+// The walk along a chain of constraints: after each prefix it holds the start point, the cone of rays and the optimum, or the place where the system became
+// infeasible, and it counts the constraints that broke the start point before them. Entries stand in one lent slice, the two floors first, and each constraint that
+// arrives is scanned against those before it.
+use crate::Solved;
+use crate::cone::gaining;
+use crate::cone::narrow;
+use crate::entries::entry;
+use crate::exact::keeps;
+use crate::optimum::breaks;
+use crate::optimum::improved;
+use crate::optimum::is_open;
+use crate::range::rule_in_range;
+use crate::start::start;
+use crate::verdict::solution;
+use lp::Constraint;
+use lp::Floors;
+use lp::Functional;
+use lp::Point;
+use lp::Ray;
+use lp::Tie;
+use model::Best;
+use model::Cone;
+use model::Gain;
+use model::Restart;
+use model::State;
+use model::Walk;
+ghost use mathlib.Core.Path.{_≡_};
+ghost use Prim.Native.Nat.{_+_};
+ghost use Rattle.lp.specs.Prefixes.{one-if};
+ghost use Rattle.lp.specs.Document.{tie as tieOf};
+ghost use Rattle.model.specs.Step.{going as goingOf, step as stepOf, begin as beginOf};
+ghost use Rattle.engine.specs.Entries.{entries as entriesOf};
+ghost use Rattle.engine.specs.Solving.{rulesSolved};
+ghost use Rattle.engine.specs.Sizes.{Counting, Stepping, Beginning, Walking};
+
+// One more, if so.
+fn counted(count: usize, so: bool) -> usize
+    requires { ⌜ Counting count ⌝ }
+    ensures { λ r. ⌜ r ≡ count + one-if so ⌝ }
+{
+    if so { count + 1 } else { count }
+}
+
+fn going(s: Point, cone: Cone, best: Best, moves: usize, opened: usize, restarts: usize) -> Walk
+    requires { ⌜ Counting opened ⌝ }
+    ensures { λ r. ⌜ r ≡ goingOf s cone best moves opened restarts ⌝ }
+{
+    Walk {
+        state: State::Going(s, cone, best),
+        moves,
+        opened: counted(opened, is_open(best)),
+        restarts,
+    }
+}
+
+// What the walk holds after one more constraint h, at index n.
+fn step(
+    objective: Functional,
+    tie: Tie,
+    entries: &[i64],
+    n: usize,
+    h: Constraint,
+    walk: Walk,
+) -> Walk
+    requires { ⌜ Stepping objective tie (now entries) n h walk ⌝ }
+    ensures { λ r. ⌜ r ≡ stepOf tie objective (entriesOf (now (entries .entry)) 0 n) n h walk ⌝ }
+{
+    let state = walk.state;
+    let State::Going(s, cone, best) = state else {
+        return walk;
+    };
+    let broken = breaks(h, best);
+    let moves = counted(walk.moves, broken);
+    let opened = walk.opened;
+    let kept = keeps(h, s);
+    let restarts = counted(walk.restarts, !kept);
+    let place = n - 1;
+    match start(tie, entries, n, h, s, kept) {
+        Restart::Moved(p) => {
+            let wedge = narrow(h, cone);
+            let next = improved(objective, tie, entries, n, h, wedge, best);
+            going(p, wedge, next, moves, opened, restarts)
+        }
+        Restart::Failed(c) => Walk {
+            state: State::Ended(place, c),
+            moves,
+            opened,
+            restarts,
+        },
+    }
+}
+
+// Before the first rule: the floors' corner, and the two axes.
+fn begin(objective: Functional, floors: Floors) -> Walk
+    requires { ⌜ Beginning objective floors ⌝ }
+    ensures { λ r. ⌜ r ≡ beginOf floors objective ⌝ }
+{
+    let corner = Point {
+        x: floors.lx,
+        y: floors.ly,
+        d: 1,
+    };
+    let axes = Cone::Wedge(Ray { dx: 1, dy: 0 }, Ray { dx: 0, dy: 1 });
+    match gaining(objective, axes) {
+        Gain::Along(_) => going(corner, axes, Best::Open, 0, 0, 0),
+        Gain::Nowhere => going(corner, axes, Best::At(corner), 0, 0, 0),
+    }
+}
+
+// Least x, then least y.
+fn tie() -> Tie
+    ensures { λ r. ⌜ r ≡ tieOf ⌝ }
+{
+    Tie {
+        first: Functional { p: -1, q: 0 },
+        second: Functional { p: 0, q: -1 },
+    }
+}
+
+// The walk along n rules, which stand after the floors. A rule is looked at before it is taken in, so that no pass of its own is made for that.
+pub fn walk_rules(objective: Functional, floors: Floors, run: &[i64], n: usize) -> Solved
+    requires { ⌜ Walking objective floors (now run) n ⌝ }
+    ensures { λ r. ⌜ r ≡ rulesSolved objective floors (entriesOf (now (run .entry)) 2 n) ⌝ }
+{
+    let end = n + 2;
+    let mut walk = begin(objective, floors);
+    let mut i = 2;
+    while i < end {
+        let h = entry(run, i);
+        if rule_in_range(h) {
+            walk = step(objective, tie(), run, i, h, walk);
+            i += 1;
+        } else {
+            return Solved::Outside;
+        }
+    }
+    Solved::Walked(solution(objective, walk))
+}
