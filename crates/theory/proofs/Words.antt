@@ -10,12 +10,13 @@ use Rattle.ints.proofs.Ring.{_⊕_, _⊖_, _⊗_, ⊝_, _≐_, con}
 use Rattle.ints.proofs.Order.{pos-nn, nn-zero, nn-sub, neg-nn, le-of-eq}
 use Rattle.lp.specs.declared.Constraint.{Constraint}
 use Rattle.lp.specs.declared.Functional.{Functional}
+use Rattle.lp.specs.declared.Floors.{Floors}
 use Rattle.lp.specs.declared.Point.{Point}
 use Rattle.lp.specs.declared.Ray.{Ray}
 use Rattle.lp.specs.Program.{along, rise, between, system}
 use Rattle.lp.specs.Outcome.{lawful, tieOrder}
 use Rattle.lp.specs.Textbook.{NoLater, LawfulDirection}
-use Rattle.lp.specs.Document.{tie, zeroFloors}
+use Rattle.lp.specs.Document.{tie}
 use Rattle.theory.proofs.Solver.{equal, nn-by, P, R, betweenᵖ}
 use Rattle.theory.proofs.Direction.{AtMost}
 use Rattle.theory.proofs.Lexicographic.{Up}
@@ -51,14 +52,16 @@ module _ (v w : Point) where
 
 -- ---- lawful directions
 
-pub lawful-in-words : (rules : List Constraint) (f : Functional) (d : Ray) → T (lawful (system zeroFloors rules) f d) → LawfulDirection rules f d
-lawful-in-words rules f d t =
+pub lawful-in-words : (floors : Floors) (rules : List Constraint) (f : Functional) (d : Ray) →
+    T (lawful (system floors rules) f d) →
+    LawfulDirection rules f d
+lawful-in-words floors rules f d t =
     record {
       dx-not-negative = nn-by (R ∷ []) (λ d. d .dx ≐ ⊝ (con (negsuc 0) ⊗ d .dx ⊕ con (pos 0) ⊗ d .dy)) refl d (neg-nn (recedes _ (List·Memᴰ·head refl)));
       dy-not-negative = nn-by (R ∷ []) (λ d. d .dy ≐ ⊝ (con (pos 0) ⊗ d .dx ⊕ con (negsuc 0) ⊗ d .dy)) refl d (neg-nn (recedes _ (List·Memᴰ·tail (List·Memᴰ·head refl))));
       never-leaves = λ r i. recedes r (List·Memᴰ·tail (List·Memᴰ·tail i));
-      gains = lawful-gains (system zeroFloors rules) f d t;
+      gains = lawful-gains (system floors rules) f d t;
     }
   where
-    recedes : (r : Constraint) → List·Memᴰ r (system zeroFloors rules) → rise r d ≤ᶻ pos 0
-    recedes = lawful-recedes (system zeroFloors rules) f d t
+    recedes : (r : Constraint) → List·Memᴰ r (system floors rules) → rise r d ≤ᶻ pos 0
+    recedes = lawful-recedes (system floors rules) f d t
