@@ -1,5 +1,6 @@
 -- Numbers as bytes, little-endian: the byte that counts least comes first. Bytes that are not there read as zero.
 use Prim.Native.Nat.{ℕ, zero, suc, _+_, _*_, _/_, _%_, _<_}
+use mathlib.Core.Path.{_≡_}
 use mathlib.Core.List.{List, [], _∷_}
 use lib.ListN.{getD}
 
@@ -17,3 +18,7 @@ bytesOf (suc n) v = (v % 256) ∷ bytesOf n (v / 256)
 -- a list of bytes, as the code's slices are
 abbrev pub Bytes : List ℕ → Type 0
 Bytes s = (i : ℕ) → getD s i 0 < 256
+
+-- n bytes of a list from an index on, with zeros for those that are not there
+pub record Copied (s : List ℕ) (at n : ℕ) (r : List ℕ) : Type 0 where
+  pub bytes : (j : ℕ) → j < n → getD r j 0 ≡ getD s (at + j) 0

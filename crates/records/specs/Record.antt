@@ -9,6 +9,7 @@ use lib.IntN.{ℤ, pos, negsuc}
 use lib.Signed.{ltZ}
 use mir.Syntax.{w16, w32}
 use mir.Val.{toZ}
+use Rattle.records.specs.declared.fields.Fields.{Fields}
 use Rattle.records.specs.declared.Rule.{Rule}
 use Rattle.records.specs.declared.Decoded.{Decoded}
 use Rattle.records.specs.declared.Decoded.the-variants.{Sound, Kind, Slope, Bound}
@@ -46,6 +47,18 @@ module _ (L : Layout) where
   abbrev pub cOf : List ℕ → ℕ
   cOf r = number 4 (drop (atC L) r)
 
+  abbrev pub fieldsOf : List ℕ → Fields
+  fieldsOf r =
+      record {
+        link = linkOf r;
+        kind = kindOf r;
+        pad = padOf r;
+        a = aOf r;
+        b = bOf r;
+        label = labelOf r;
+        c = cOf r;
+      }
+
   -- a rule record's rule, as written
   abbrev pub ruleOf : List ℕ → Rule
   ruleOf r = ruleWith (kindOf r) (aOf r) (bOf r) (labelOf r) (cOf r)
@@ -54,8 +67,8 @@ module _ (L : Layout) where
 abbrev pub isLeast : ℤ → Bool
 isLeast z = ltZ z (negsuc 32766)
 
-abbrev pub beyond : ℤ → Bool
-beyond z = ltZ z (negsuc 999999999) || ltZ (pos 1000000000) z
+abbrev pub isBeyond : ℤ → Bool
+isBeyond z = ltZ z (negsuc 999999999) || ltZ (pos 1000000000) z
 
 -- causes 8, 9 and 10; `clear` says that the record's padding is zero
 abbrev pub badKind : Bool → Rule → Bool
@@ -65,7 +78,7 @@ abbrev pub badSlope : Rule → Bool
 badSlope r = isLeast (r .a) || isLeast (r .b)
 
 abbrev pub badBound : Rule → Bool
-badBound r = beyond (r .c)
+badBound r = isBeyond (r .c)
 
 -- a rule with its link: sound, or what refuses it first
 unfoldable pub decodedWith : Bool → Rule → ℕ → Decoded
