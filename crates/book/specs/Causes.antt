@@ -7,10 +7,11 @@ use mathlib.Core.List.{List, [], _∷_, _++_, map}
 use lib.ListN.{length}
 use lib.IntN.{pos, negsuc}
 use lib.Signed.{_<ℤ_}
-use Rattle.lp.specs.declared.Functional.{Functional}
-use Rattle.book.specs.Layout.{Layout, width}
-use Rattle.book.specs.Record.{recordAt, linkOf, kindOf, padOf, cOf, ruleOf}
-use Rattle.book.specs.Reading.{Reading, refused, accepted, Entry, objectiveOf, countOf, entryAt, labelAt, memb}
+use Rattle.lp.specs.declared.Terms.{Terms}
+use Rattle.records.specs.Layout.{Layout, width}
+use Rattle.records.specs.Record.{recordAt, linkOf, kindOf, padOf, cOf, ruleOf}
+use Rattle.records.specs.Header.{objectiveOf, termsOf, countOf}
+use Rattle.book.specs.Reading.{Reading, refused, accepted, Entry, entryAt, labelAt, memb}
 
 -- ---- the header: 1 to 5
 
@@ -27,11 +28,11 @@ pub data WrongCount (L : Layout) (s : List ℕ) : Type 0 where
   differs : (countOf L s ≡ length s / width L - 1 → ⊥) → WrongCount L s
 
 pub data WrongObjective (L : Layout) (s : List ℕ) : Type 0 where
-  p-lowest : objectiveOf L s .p ≡ negsuc 32767 → WrongObjective L s
-  q-lowest : objectiveOf L s .q ≡ negsuc 32767 → WrongObjective L s
+  p-least : objectiveOf L s .p ≡ negsuc 32767 → WrongObjective L s
+  q-least : objectiveOf L s .q ≡ negsuc 32767 → WrongObjective L s
 
 pub data WrongTail (L : Layout) (s : List ℕ) : Type 0 where
-  set : (cOf L (recordAt L s 0) ≡ 0 → ⊥) → WrongTail L s
+  set : L .floors ≡ false → (cOf L (recordAt L s 0) ≡ 0 → ⊥) → WrongTail L s
 
 -- ---- a rule record, from its bytes: 8 to 10
 
@@ -40,8 +41,8 @@ pub data WrongKind (L : Layout) (r : List ℕ) : Type 0 where
   padding : (padOf L r ≡ 0 → ⊥) → WrongKind L r
 
 pub data WrongSlope (L : Layout) (r : List ℕ) : Type 0 where
-  a-lowest : ruleOf L r .a ≡ negsuc 32767 → WrongSlope L r
-  b-lowest : ruleOf L r .b ≡ negsuc 32767 → WrongSlope L r
+  a-least : ruleOf L r .a ≡ negsuc 32767 → WrongSlope L r
+  b-least : ruleOf L r .b ≡ negsuc 32767 → WrongSlope L r
 
 pub data WrongBound (L : Layout) (r : List ℕ) : Type 0 where
   low : ruleOf L r .c <ℤ negsuc 999999999 → WrongBound L r
@@ -79,15 +80,15 @@ pub data Applies (L : Layout) (s : List ℕ) : ℕ → ℕ → Type 0 where
   cause-12 : {i : ℕ} → (r : Reached L s i) → (WrongKind L (recordAt L s i) → ⊥) → (WrongSlope L (recordAt L s i) → ⊥) → (WrongBound L (recordAt L s i) → ⊥) → memb (labelAt L s i) (map (labelAt L s) (r .done)) ≡ true → Applies L s 12 i
 
 -- the chain ends with no cause on the way
-pub record Accepts (L : Layout) (s : List ℕ) (o : Functional) (es : List Entry) : Type 0 where
+pub record Accepts (L : Layout) (s : List ℕ) (t : Terms) (es : List Entry) : Type 0 where
   pub done : List ℕ
   pub at : ℕ
   pub walked : Walked L s done at
   pub ends : linkOf L (recordAt L s at) ≡ 0
-  pub objective : o ≡ objectiveOf L s
+  pub terms : t ≡ termsOf L s
   pub entries : es ≡ map (entryAt L s) done
 
 -- what a reading says of its book
 abbrev pub Meets : (L : Layout) → List ℕ → Reading → Type 0
 Meets L s (refused k i) = Applies L s k i
-Meets L s (accepted o es) = Accepts L s o es
+Meets L s (accepted t es) = Accepts L s t es

@@ -1,12 +1,8 @@
--- The definitions of this crate.
-pub mod Layout
-pub mod Number
-pub mod Record
+-- What a book reads as (Reading), what that leaves in runs that are lent (Runs), its repacked form (Repacking), what the public functions promise of both
+-- (Promises), the documents' table of causes as statements (Causes), and which records are spare (Spare).
 pub mod Reading
+pub mod Runs
 pub mod Repacking
-pub mod Answers
-pub mod Labels
-pub mod Judging
+pub mod Promises
 pub mod Causes
 pub mod Spare
-pub mod Lawful

@@ -1,5 +1,5 @@
 -- The repacked form of document 01: n rules in records 1 to n in chain order, each link one higher, the last 0.
--- The bytes are a function of the objective and the rules alone, so that there is one form for each.
+-- The bytes are a function of the terms and the rules alone, so that there is one form for each.
 use Prim.Native.Nat.{ℕ, suc, _+_, _*_}
 use mathlib.Core.Path.{_≡_}
 use mathlib.Core.Bool.{cond}
@@ -8,10 +8,10 @@ use lib.ListN.{length}
 use lib.Dec.{ltb}
 use mir.Syntax.{w16, w32}
 use mir.Val.{ofZ}
-use Rattle.lp.specs.declared.Functional.{Functional}
-use Rattle.book.specs.declared.Rule.{Rule}
-use Rattle.book.specs.Layout.{Layout, width}
-use Rattle.book.specs.Number.{bytesOf}
+use Rattle.lp.specs.declared.Terms.{Terms}
+use Rattle.records.specs.declared.Rule.{Rule}
+use Rattle.records.specs.Layout.{Layout, width}
+use Rattle.records.specs.Number.{bytesOf}
 use Rattle.book.specs.Reading.{Reading, refused, accepted, Entry, readOf}
 
 module _ (L : Layout) where
@@ -21,8 +21,13 @@ module _ (L : Layout) where
       bytesOf (L .link) link
       ++ (bytesOf 1 kind ++ (bytesOf (L .pad) 0 ++ (bytesOf 2 a ++ (bytesOf 2 b ++ (bytesOf 2 label ++ bytesOf 4 c)))))
 
-  abbrev pub headerBytes : ℕ → Functional → ℕ → List ℕ
-  headerBytes first o n = recordBytes first (L .version) (ofZ w16 (o .p)) (ofZ w16 (o .q)) n 0
+  -- the header's tail: the floors, where the layout has them, else zero
+  abbrev pub tailOf : Terms → ℕ
+  tailOf t = cond (L .floors) (ofZ w16 (t .floors .lx) + 65536 * ofZ w16 (t .floors .ly)) 0
+
+  abbrev pub headerBytes : ℕ → Terms → ℕ → List ℕ
+  headerBytes first t n =
+      recordBytes first (L .version) (ofZ w16 (t .objective .p)) (ofZ w16 (t .objective .q)) n (tailOf t)
 
   abbrev pub ruleBytes : ℕ → Rule → List ℕ
   ruleBytes next r = recordBytes next (r .kind) (ofZ w16 (r .a)) (ofZ w16 (r .b)) (r .label) (ofZ w32 (r .c))
@@ -38,8 +43,8 @@ module _ (L : Layout) where
   chainBytes k [] = []
   chainBytes k (r ∷ rs) = ruleBytes L (nextOf k rs) r ++ chainBytes (suc k) rs
 
-  unfoldable pub bookOf : Functional → List Rule → List ℕ
-  bookOf o rs = headerBytes L (nextOf 0 rs) o (length rs) ++ chainBytes 1 rs
+  unfoldable pub bookOf : Terms → List Rule → List ℕ
+  bookOf t rs = headerBytes L (nextOf 0 rs) t (length rs) ++ chainBytes 1 rs
 
 -- rules as the entries of records k, k + 1, ..
 abbrev pub numbered : ℕ → List Rule → List Entry
@@ -57,17 +62,17 @@ ruleIn e = e .rule
 -- the repacked form of what was read, if it has room; 11 comes last
 unfoldable pub packOf : Layout → Reading → ℕ → Packing
 packOf L (refused n r) room = declined n r
-packOf L (accepted o es) room =
-    cond (ltb room (width L * (length es + 1))) (declined 11 0) (packed (bookOf L o (map ruleIn es)))
+packOf L (accepted t es) room =
+    cond (ltb room (width L * (length es + 1))) (declined 11 0) (packed (bookOf L t (map ruleIn es)))
 
 abbrev pub repackOf : Layout → List ℕ → ℕ → Packing
 repackOf L s room = packOf L (readOf L s) room
 
--- two books that are accepted with one objective and the same rules, labels and kinds in the same order, wherever their records lie
+-- two books that are accepted with the same terms and the same rules, labels and kinds in the same order, wherever their records lie
 pub record ReadAlike (x y : Reading) : Type 0 where
-  pub goal : Functional
+  pub terms : Terms
   pub first : List Entry
   pub second : List Entry
-  pub one : x ≡ accepted goal first
-  pub two : y ≡ accepted goal second
+  pub one : x ≡ accepted terms first
+  pub two : y ≡ accepted terms second
   pub rules : map ruleIn first ≡ map ruleIn second

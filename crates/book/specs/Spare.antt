@@ -1,8 +1,8 @@
 -- Which records are not spare: the header, and what links lead to from there on.
 use Prim.Native.Nat.{ℕ}
 use mathlib.Core.List.{List}
-use Rattle.book.specs.Layout.{Layout}
-use Rattle.book.specs.Record.{recordAt, linkOf}
+use Rattle.records.specs.Layout.{Layout}
+use Rattle.records.specs.Record.{recordAt, linkOf}
 
 pub data OnChain (L : Layout) (s : List ℕ) : ℕ → Type 0 where
   header : OnChain L s 0

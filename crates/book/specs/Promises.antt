@@ -1,0 +1,43 @@
+-- The answers of the code for each thing defined, and what the public functions promise. Whatever an answer does not use is zero.
+use Prim.Native.Nat.{ℕ}
+use mathlib.Core.Path.{_≡_}
+use mathlib.Core.List.{List, _++_}
+use lib.ListN.{length, drop}
+use lib.IntN.{ℤ, pos}
+use Rattle.lp.specs.declared.Terms.{Terms}
+use Rattle.records.specs.Layout.{Layout}
+use Rattle.book.specs.declared.Head.{Head}
+use Rattle.book.specs.declared.Repacked.{Repacked}
+use Rattle.book.specs.Reading.{Reading, refused, accepted, readOf, passedOf}
+use Rattle.book.specs.Runs.{putRecords, putRules}
+use Rattle.book.specs.Repacking.{Packing, declined, packed, repackOf}
+
+abbrev pub noTerms : Terms
+noTerms = record { objective = record { p = pos 0; q = pos 0 }; floors = record { lx = pos 0; ly = pos 0 } }
+
+-- what a book reads as, but for its chain
+abbrev pub headOf : Reading → Head
+headOf (refused n r) = record { refusal = record { number = n; at = r }; terms = noTerms; n = 0 }
+headOf (accepted t es) = record { refusal = record { number = 0; at = 0 }; terms = t; n = length es }
+
+-- the promise of `read`
+pub record ReadInto
+    (L : Layout) (s : List ℕ) (records : List ℕ) (rules : List ℤ)
+    (h : Head) (records′ : List ℕ) (rules′ : List ℤ) : Type 0 where
+  pub answer : h ≡ headOf (readOf L s)
+  pub recorded : records′ ≡ putRecords records 0 (passedOf L s)
+  pub ruled : rules′ ≡ putRules rules 0 (passedOf L s)
+
+-- what repacking answers, and what the output then holds
+abbrev pub repackedOf : Packing → Repacked
+repackedOf (declined n r) = record { refusal = record { number = n; at = r }; filled = 0 }
+repackedOf (packed bs) = record { refusal = record { number = 0; at = 0 }; filled = length bs }
+
+abbrev pub outputOf : Packing → List ℕ → List ℕ
+outputOf (declined n r) out = out
+outputOf (packed bs) out = bs ++ drop (length bs) out
+
+-- the promise of `repack`
+pub record Repacks (L : Layout) (s out : List ℕ) (r : Repacked) (after : List ℕ) : Type 0 where
+  pub answer : r ≡ repackedOf (repackOf L s (length out))
+  pub output : after ≡ outputOf (repackOf L s (length out)) out

@@ -1,0 +1,84 @@
+-- The causes 1 to 5, test by test, as the code goes through them, of the header's fields.
+use Prim.Native.Nat.{ℕ, _-_, _/_}
+use mathlib.Core.Path.{_≡_, refl, ap, _∙_}
+use mathlib.Core.Bool.{true, false, cond, not, _||_, _&&_}
+use mathlib.Core.List.{List}
+use borrow.Author.Tests.{eq-eqb, ne-eqb}
+use lib.ListN.{length}
+use lib.Dec.{eqb}
+use lib.IntN.{pos}
+use Rattle.lp.specs.declared.Floors.{Floors}
+use mir.Syntax.{w16}
+use mir.Val.{toZ}
+use Rattle.records.specs.declared.Version.{Version}
+use Rattle.records.specs.declared.Version.the-variants.{One, Two}
+use Rattle.records.specs.declared.fields.Fields.{Fields}
+use Rattle.records.specs.Layout.{Layout, width, layoutOf}
+use Rattle.records.specs.Record.{recordAt, fieldsOf, isLeast}
+use Rattle.records.specs.Header.{floorsOf, headerFault, badLength}
+
+-- no version has floors in its header's tail
+pub no-floors : (v : Version) → layoutOf v .floors ≡ false
+no-floors One = refl
+no-floors Two = refl
+
+-- so the floors are zero
+pub zero-floors : (v : Version) (s : List ℕ) → _≡_ {A = Floors} (record { lx = pos 0; ly = pos 0 }) (floorsOf (layoutOf v) s)
+zero-floors v s = rw (no-floors v)
+
+-- the first cause that applies to a header with these fields
+abbrev faultIn : Layout → List ℕ → Fields → ℕ
+faultIn L s f =
+    cond (badLength L s) 1
+    (cond (not (eqb (f .kind) (L .version)) || not (eqb (f .pad) 0)) 2
+    (cond (not (eqb (f .label) (length s / width L - 1))) 3
+    (cond (isLeast (toZ w16 (f .a)) || isLeast (toZ w16 (f .b))) 4
+    (cond (not (L .floors) && not (eqb (f .c) 0)) 5 0))))
+
+fault-in : (L : Layout) (s : List ℕ) → faultIn L s (fieldsOf L (recordAt L s 0)) ≡ headerFault L s
+unfolding headerFault
+fault-in L s = refl
+
+module _ (v : Version) (s : List ℕ) (f : Fields) (pre : f ≡ fieldsOf (layoutOf v) (recordAt (layoutOf v) s 0)) where
+  abbrev L : Layout
+  L = layoutOf v
+
+  so : {n : ℕ} → n ≡ faultIn L s f → n ≡ headerFault L s
+  so e = e ∙ ap (faultIn L s) pre ∙ fault-in L s
+
+  pub wrong-length : badLength L s ≡ true → 1 ≡ headerFault L s
+  wrong-length a = so (rw a)
+
+  module _ (a : badLength L s ≡ false) where
+    pub other-version : (f .kind ≡ L .version → ⊥) → 2 ≡ headerFault L s
+    other-version k = so (rw (a, ne-eqb (f .kind) (L .version) k))
+
+    module _ (k : f .kind ≡ L .version) where
+      pub set-padding : (f .pad ≡ 0 → ⊥) → 2 ≡ headerFault L s
+      set-padding p = so (rw (a, eq-eqb (f .kind) (L .version) k, ne-eqb (f .pad) 0 p))
+
+      module _ (p : f .pad ≡ 0) where
+        pub other-count : (f .label ≡ length s / width L - 1 → ⊥) → 3 ≡ headerFault L s
+        other-count n =
+            so (rw (a, eq-eqb (f .kind) (L .version) k, eq-eqb (f .pad) 0 p, ne-eqb (f .label) (length s / width L - 1) n))
+
+        module _ (n : f .label ≡ length s / width L - 1) where
+          clear : (m : ℕ) →
+              m ≡ cond (isLeast (toZ w16 (f .a)) || isLeast (toZ w16 (f .b))) 4 (cond (not (L .floors) && not (eqb (f .c) 0)) 5 0) →
+              m ≡ headerFault L s
+          clear m e =
+              so (rw (a, eq-eqb (f .kind) (L .version) k, eq-eqb (f .pad) 0 p, eq-eqb (f .label) (length s / width L - 1) n) e)
+
+          pub least-p : isLeast (toZ w16 (f .a)) ≡ true → 4 ≡ headerFault L s
+          least-p x = clear 4 (rw x)
+
+          module _ (x : isLeast (toZ w16 (f .a)) ≡ false) where
+            pub least-q : isLeast (toZ w16 (f .b)) ≡ true → 4 ≡ headerFault L s
+            least-q y = clear 4 (rw (x, y))
+
+            module _ (y : isLeast (toZ w16 (f .b)) ≡ false) where
+              pub set-tail : (f .c ≡ 0 → ⊥) → 5 ≡ headerFault L s
+              set-tail t = clear 5 (rw (x, y, no-floors v, ne-eqb (f .c) 0 t))
+
+              pub no-fault : f .c ≡ 0 → 0 ≡ headerFault L s
+              no-fault t = clear 0 (rw (x, y, no-floors v, eq-eqb (f .c) 0 t))

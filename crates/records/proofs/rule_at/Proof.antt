@@ -1,0 +1,20 @@
+-- `records::rule_at` meets its contract: the rule of the fields that are read.
+use mathlib.Core.Path.{ap, _∙_}
+use Rattle.records.specs.declared.fields.Fields.{Fields}
+use Rattle.records.specs.Record.{ruleWith}
+use borrow.Author.Needs.{needs}
+use Rattle.records.proofs.rule_at.Statement.{statement}
+use Rattle.records.proofs.rule_at.Tie as tie
+
+returns : tie.Need-returns
+returns c =
+    c .rule-in .ensures
+    ∙ ap (λ (g : Fields). ruleWith (g .kind) (g .a) (g .b) (g .label) (g .c)) (c .before .fields-at .ensures)
+
+pub rule-at-spec : {M : Type 1} → statement M
+rule-at-spec =
+    tie.close
+    (tie.spec
+    (λ c κs. search needs)
+    (λ c κs. search needs)
+    returns)

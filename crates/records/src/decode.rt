@@ -1,0 +1,96 @@
+// A rule record: its rule, and its check (the causes 8, 9 and 10).
+use crate::Decoded;
+use crate::Rule;
+use crate::Version;
+use crate::bytes::signed16;
+use crate::bytes::signed32;
+use crate::fields::Fields;
+use crate::fields::fields_at;
+ghost use mathlib.Core.Path.{_≡_};
+ghost use Rattle.records.specs.Layout.{layoutOf};
+ghost use Rattle.records.specs.Record.{recordAt, ruleWith, isLeast, isBeyond, badKind, badSlope, badBound, decodedWith, decodedOf};
+
+// A rule, from its fields as they stand.
+pub fn rule_in(f: Fields) -> Rule
+    ensures { λ r. ⌜ r ≡ ruleWith (f .kind) (f .a) (f .b) (f .label) (f .c) ⌝ }
+{
+    Rule {
+        kind: f.kind,
+        a: signed16(f.a),
+        b: signed16(f.b),
+        c: signed32(f.c),
+        label: f.label,
+    }
+}
+
+// -32,768, which no number of sixteen bits of a book may be.
+pub fn least(x: i16) -> bool
+    ensures { λ r. ⌜ r ≡ isLeast x ⌝ }
+{
+    x < -32767
+}
+
+// Outside the range of c.
+fn beyond(x: i32) -> bool
+    ensures { λ r. ⌜ r ≡ isBeyond x ⌝ }
+{
+    x < -1000000000 || x > 1000000000
+}
+
+// Cause 8; a record's padding must be clear.
+fn bad_kind(clear: bool, rule: Rule) -> bool
+    ensures { λ r. ⌜ r ≡ badKind clear rule ⌝ }
+{
+    let kind = rule.kind;
+    if kind == 1 {
+        return !clear;
+    }
+    if kind == 2 {
+        return !clear;
+    }
+    true
+}
+
+// Cause 9.
+fn bad_slope(rule: Rule) -> bool
+    ensures { λ r. ⌜ r ≡ badSlope rule ⌝ }
+{
+    if least(rule.a) {
+        return true;
+    }
+    least(rule.b)
+}
+
+// Cause 10.
+fn bad_bound(rule: Rule) -> bool
+    ensures { λ r. ⌜ r ≡ badBound rule ⌝ }
+{
+    beyond(rule.c)
+}
+
+// A rule with its link, or the first of 8, 9 and 10 that turns it back.
+fn check(clear: bool, rule: Rule, next: u16) -> Decoded
+    ensures { λ r. ⌜ r ≡ decodedWith clear rule next ⌝ }
+{
+    let kind = bad_kind(clear, rule);
+    let slope = bad_slope(rule);
+    let bound = bad_bound(rule);
+    if kind {
+        return Decoded::Kind;
+    }
+    if slope {
+        return Decoded::Slope;
+    }
+    if bound {
+        return Decoded::Bound;
+    }
+    Decoded::Sound(rule, next)
+}
+
+// What the record at an index comes to.
+pub fn decode(version: Version, book: &[u8], index: u16) -> Decoded
+    ensures { λ r. ⌜ r ≡ decodedOf (layoutOf version) (recordAt (layoutOf version) (now (book .entry)) index) ⌝ }
+{
+    let f = fields_at(version, book, index);
+    check(f.pad == 0, rule_in(f), f.link)
+}
