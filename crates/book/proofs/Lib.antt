@@ -8,3 +8,5 @@ pub mod Causes
 pub mod Runs
 pub mod Leading
 pub mod Underway
+pub mod Packed
+pub mod Output

@@ -6,8 +6,8 @@ use mathlib.Core.List.{List, [], _∷_, _++_}
 use native.Mathlib.Omega.{arith}
 use native.Mathlib.Nat.{add-zero}
 use borrow.Author.Tests.{lt-ltb}
-use lib.ListN.{length, getD, set, length-set}
-use lib.Seq.{getD-set-same, getD-set-other}
+use lib.ListN.{length, getD, set, take, length-set, length-map}
+use lib.Seq.{getD-set-same, getD-set-other, getD-take, length-take-le, ext-getD}
 use lib.Dec.{ltb}
 use lib.IntN.{ℤ, pos}
 use Rattle.lp.specs.declared.Constraint.{Constraint}
@@ -64,6 +64,14 @@ pub record-placed : (l : List ℕ) (es : List Entry) (k : ℕ) →
 record-placed l es k room h =
     let z : 0 + k ≡ k = omega arith in
     ap (λ i. getD (putRecords l 0 es) i 0) (sym z) ∙ record-from l 0 es k (omega arith) h
+
+-- so that the run starts with the chain's records
+pub records-taken : (l : List ℕ) (es : List Entry) → length es ≤ length l → take (length es) (putRecords l 0 es) ≡ recordsOf es
+records-taken l es room =
+    let long : length (take (length es) (putRecords l 0 es)) ≡ length es = length-take-le (length es) (putRecords l 0 es) (omega (arith, records-length l 0 es)) in
+    let many : length (recordsOf es) ≡ length es = length-map es (λ (e : Entry). e .index) in
+    ext-getD 0 (take (length es) (putRecords l 0 es)) (recordsOf es) (long ∙ sym many)
+    (λ j h. getD-take (length es) (putRecords l 0 es) j 0 (omega (arith, long)) ∙ record-placed l es j room (omega (arith, long)))
 
 -- ---- the rules
 

@@ -2,9 +2,9 @@
 use crate::Head;
 use crate::judge::Judged;
 use crate::judge::judge;
-use crate::refused;
 use crate::put::put_entry;
 use crate::put::put_record;
+use crate::refused;
 use answers::Refusal;
 use records::Heading;
 use records::Version;
@@ -14,7 +14,13 @@ ghost use Rattle.book.specs.Promises.{ReadInto};
 ghost use Rattle.book.specs.Judging.{Headed};
 
 // The chain from the header's link on. A record that is turned back stops the walk there.
-pub fn walk(version: Version, book: &[u8], heading: Heading, indices: &mut [u16], rules: &mut [i64]) -> Head
+pub fn walk(
+    version: Version,
+    book: &[u8],
+    heading: Heading,
+    indices: &mut [u16],
+    rules: &mut [i64],
+) -> Head
     requires { ⌜ Headed (layoutOf version) (now book) heading ⌝ }
     ensures { λ r. ⌜ ReadInto (layoutOf version) (now (book .entry)) (now (indices .entry)) (now (rules .entry)) r (now (indices .exit)) (now (rules .exit)) ⌝ }
 {
