@@ -13,11 +13,11 @@ use Rattle.records.specs.Layout.{Layout, v1}
 use Rattle.records.specs.Record.{recordAt, ruleOf}
 use Rattle.records.specs.Header.{termsOf}
 use Rattle.book.specs.declared.Head.{Head}
-use Rattle.book.specs.Reading.{Reading, refused, accepted, entryAt, readOf}
-use Rattle.book.specs.Runs.{putRecords}
+use Rattle.book.specs.Reading.{refused, accepted, recordsOf, entryAt, readOf}
 use Rattle.book.specs.Repacking.{headerBytes, nextOf, chainBytes, bookOf, Packing, packed, ruleIn, packOf, rulesAt}
-use Rattle.book.specs.Promises.{headOf, ReadInto, repackedOf, outputOf, Repacks}
-use Rattle.book.proofs.Causes.{cause-number, refusal-applies, acceptance-means, accepted-passed, walked-length, walked-count}
+use Rattle.book.specs.Promises.{ReadInto, repackedOf, outputOf, Repacks}
+use Rattle.book.proofs.Causes.{acceptance-means, walked-length, walked-count}
+use Rattle.book.proofs.Said.{none-said, said-count}
 use Rattle.book.proofs.Links.{indices}
 use Rattle.book.proofs.Runs.{records-taken}
 use Rattle.book.proofs.Packed.{length-recordBytes, length-chainBytes, length-bookOf, next-is}
@@ -35,41 +35,29 @@ pub record ChainRead (s : List ℕ) (h : Head) (run : List ℕ) : Type 0 where
   pub kept : take (h .n) run ≡ done
   pub few : length done ≤ 255
 
-module _ {s : List ℕ} {h : Head} {first run : List ℕ} {blank rules : List ℤ} (e : ReadInto v1 s first blank h run rules) where
-  pub chain-refused : (h .refusal .number ≡ 0 → ⊥) → readOf v1 s ≡ refused (h .refusal .number) (h .refusal .at)
-  chain-refused n = go (readOf v1 s) refl
-    where
-      go : (x : Reading) → readOf v1 s ≡ x → readOf v1 s ≡ refused (h .refusal .number) (h .refusal .at)
-      go (refused k i) p =
-          p ∙ sym (λ j. refused ((e .answer ∙ ap headOf p) j .refusal .number) ((e .answer ∙ ap headOf p) j .refusal .at))
-      go (accepted t es) p = absurd (n (ap (λ (x : Head). x .refusal .number) (e .answer ∙ ap headOf p)))
-
-  pub chain-accepted : h .refusal .number ≡ 0 → 255 ≤ length first → ChainRead s h run
-  chain-accepted z room = go (readOf v1 s) refl
-    where
-      go : (x : Reading) → readOf v1 s ≡ x → ChainRead s h run
-      go (refused k i) p =
-          absurd
-          (let n : k ≡ 0 = sym (ap (λ (x : Head). x .refusal .number) (e .answer ∙ ap headOf p)) ∙ z in
-          let y : ⊥ = omega (arith, cause-number (refusal-applies v1 s p)) in
-          y)
-      go (accepted t es) p =
-          let a = acceptance-means v1 s p in
-          let q : readOf v1 s ≡ accepted (termsOf v1 s) (map (entryAt v1 s) (a .done)) = p ∙ (λ j. accepted (a .terms j) (a .entries j)) in
-          let few : length (a .done) ≤ 255 = omega (arith, walked-length v1 s (a .walked), walked-count v1 s (a .walked)) in
-          let many : length (map (entryAt v1 s) (a .done)) ≡ length (a .done) = length-map (a .done) (entryAt v1 s) in
-          let n : h .n ≡ length (map (entryAt v1 s) (a .done)) = ap (λ (x : Head). x .n) (e .answer ∙ ap headOf q) in
-          record {
-            done = a .done;
-            reads = q;
-            clear = ap (λ (x : Head). x .refusal) (e .answer ∙ ap headOf q);
-            count = n ∙ many;
-            kept =
-                (λ j. take (n j) ((e .recorded ∙ ap (putRecords first 0) (accepted-passed v1 s q)) j))
-                ∙ records-taken first (map (entryAt v1 s) (a .done)) (omega (arith, many))
-                ∙ indices v1 s (a .done);
-            few = few;
-          }
+pub chain-accepted : {s : List ℕ} {h : Head} {first run : List ℕ} {blank rules : List ℤ} →
+    ReadInto v1 s first blank h run rules →
+    h .refusal .number ≡ 0 →
+    255 ≤ length first →
+    ChainRead s h run
+chain-accepted {s} {h} {first} r z room =
+    let x = none-said r z in
+    let a = acceptance-means v1 s (x .reads) in
+    let few : length (a .done) ≤ 255 = omega (arith, walked-length v1 s (a .walked), walked-count v1 s (a .walked)) in
+    let many : length (x .entries) ≡ length (a .done) = ap length (a .entries) ∙ length-map (a .done) (entryAt v1 s) in
+    let n = said-count x in
+    record {
+      done = a .done;
+      reads = x .reads ∙ (λ j. accepted (a .terms j) (a .entries j));
+      clear = ap (λ (y : Head). y .refusal) (x .head);
+      count = n ∙ many;
+      kept =
+          (λ j. take (n j) (x .recorded j))
+          ∙ records-taken first (x .entries) (omega (arith, many))
+          ∙ ap recordsOf (a .entries)
+          ∙ indices v1 s (a .done);
+      few = few;
+    }
 
 -- two copies from the front on fill the front
 two-pastes : (out H T : List ℕ) (m : ℕ) → length H ≡ 12 → length T ≡ m → 12 ≤ length out → paste (paste out 0 H 12) 12 T m ≡ H ++ T ++ drop (length (H ++ T)) out

@@ -159,7 +159,7 @@ placed-before l k es j r h p =
       c = rules-before l k es (3 * j + 2) (omega arith) ∙ p .c;
     }
 
-abbrev noRule : Constraint
+abbrev pub noRule : Constraint
 noRule = constraint (pos 0) (pos 0) (pos 0)
 
 rule-from : (l : List ℤ) (k : ℕ) (es : List Entry) (j : ℕ) →

@@ -1,4 +1,4 @@
--- A label is sixteen bits.
+-- Two bytes of a book make a number of sixteen bits, and so a label is one.
 use Prim.Native.Nat.{ℕ, _+_, _*_, _<_}
 use mathlib.Core.List.{List}
 use native.Mathlib.Omega.{arith}
@@ -24,6 +24,12 @@ bytes-take n s b i = go (decLt i n)
 two-small : (s : List ℕ) → Bytes s → number 2 s < 65536
 two-small s b = omega (arith, two-bytes s 0, b 0, b 1)
 
-pub label-small : (L : Layout) (s : List ℕ) → Bytes s → (i : ℕ) → ruleOf L (recordAt L s i) .label < 65536
+-- two bytes of a record, wherever they stand
+pub two-bytes-small : (L : Layout) (s : List ℕ) → Bytes s → (i n : ℕ) → number 2 (drop n (recordAt L s i)) < 65536
 unfolding recordAt
-label-small L s b i = two-small (drop (atLabel L) (take (width L) (drop (i * width L) s))) (bytes-drop (atLabel L) (take (width L) (drop (i * width L) s)) (bytes-take (width L) (drop (i * width L) s) (bytes-drop (i * width L) s b)))
+two-bytes-small L s b i n =
+    two-small (drop n (take (width L) (drop (i * width L) s)))
+    (bytes-drop n (take (width L) (drop (i * width L) s)) (bytes-take (width L) (drop (i * width L) s) (bytes-drop (i * width L) s b)))
+
+pub label-small : (L : Layout) (s : List ℕ) → Bytes s → (i : ℕ) → ruleOf L (recordAt L s i) .label < 65536
+label-small L s b i = two-bytes-small L s b i (atLabel L)

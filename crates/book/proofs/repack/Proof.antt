@@ -2,8 +2,9 @@
 use native.Mathlib.Omega.{arith}
 use Prim.Native.Nat.{_≤_}
 use lib.Dec.{lit≤}
-use Rattle.book.proofs.Output.{ChainRead, chain-refused, chain-accepted, packs-refused, packs-declined, packs-packed}
+use Rattle.book.proofs.Output.{ChainRead, chain-accepted, packs-refused, packs-declined, packs-packed}
 use Rattle.book.proofs.Packed.{next-small}
+use Rattle.book.proofs.Said.{said-refused}
 use borrow.Author.Needs.{needs}
 use Rattle.book.proofs.repack.Statement.{statement}
 use Rattle.book.proofs.repack.Tie as tie
@@ -18,7 +19,7 @@ few c = omega (arith, chained c .count, chained c .few)
 returns : tie.Need-returns
 returns c =
     packs-refused (c .before .before .before .before .before .before .before .before .before .before .args .book .now) (c .before .before .before .before .before .before .before .before .before .before .args .out .now) (c .before .before .before .before .before .read .result .refusal .number) (c .before .before .before .before .before .read .result .refusal .at)
-    (chain-refused (c .before .before .before .before .before .read .ensures) (c .if1 .taken))
+    (said-refused (c .before .before .before .before .before .read .ensures) (c .if1 .taken))
 
 add-filled : tie.Need-add-filled
 add-filled c = omega (arith, few c)
