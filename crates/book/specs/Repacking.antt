@@ -1,6 +1,6 @@
 -- The repacked form of document 01: n rules in records 1 to n in chain order, each link one higher, the last 0.
 -- The bytes are a function of the terms and the rules alone, so that there is one form for each.
-use Prim.Native.Nat.{ℕ, suc, _+_, _*_}
+use Prim.Native.Nat.{ℕ, suc, _+_, _*_, _≤_}
 use mathlib.Core.Path.{_≡_}
 use mathlib.Core.Bool.{cond}
 use mathlib.Core.List.{List, [], _∷_, _++_, map}
@@ -12,6 +12,7 @@ use Rattle.lp.specs.declared.Terms.{Terms}
 use Rattle.records.specs.declared.Rule.{Rule}
 use Rattle.records.specs.Layout.{Layout, width}
 use Rattle.records.specs.Number.{bytesOf}
+use Rattle.records.specs.Record.{recordAt, ruleOf}
 use Rattle.book.specs.Reading.{Reading, refused, accepted, Entry, readOf}
 
 module _ (L : Layout) where
@@ -67,6 +68,15 @@ packOf L (accepted t es) room =
 
 abbrev pub repackOf : Layout → List ℕ → ℕ → Packing
 repackOf L s room = packOf L (readOf L s) room
+
+-- the rules of some records
+abbrev pub rulesAt : Layout → List ℕ → List ℕ → List Rule
+rulesAt L s is = map (λ (i : ℕ). ruleOf L (recordAt L s i)) is
+
+-- an output with room for n rules of version 1
+pub record OutputRoom (n : ℕ) (out : List ℕ) : Type 0 where
+  pub few : n ≤ 255
+  pub room : 12 * (n + 1) ≤ length out
 
 -- two books that are accepted with the same terms and the same rules, labels and kinds in the same order, wherever their records lie
 pub record ReadAlike (x y : Reading) : Type 0 where

@@ -2,6 +2,7 @@
 // A case is a name and a book, each after its length, and then the length of the output: two bytes for a length, low byte first.
 use io::print_decimal;
 use io::print_hex;
+use records::Version;
 ghost use mathlib.Core.Path.{_≡_};
 ghost use Prim.Native.Nat.{_<_, _^_};
 ghost use lib.ListN.{length};
@@ -60,14 +61,14 @@ fn part(s: &[u8], from: usize, len: usize) -> &[u8]
 
 // A rule of the chain: its record, kind, a, b, c and label, and then a, b, c as they are planned.
 fn print_rule(bytes: &[u8], index: u16) {
-    let rule = book::rule_at(bytes, index);
-    let planned = book::constraint(rule);
+    let rule = records::rule_at(Version::One, bytes, index);
+    let planned = records::constraint(rule);
     io::write_all(1, b" |");
     number(index as u64);
     number(rule.kind as u64);
-    signed(rule.a);
-    signed(rule.b);
-    signed(rule.c);
+    signed(rule.a as i64);
+    signed(rule.b as i64);
+    signed(rule.c as i64);
     number(rule.label as u64);
     io::write_all(1, b" as");
     signed(planned.a);
@@ -76,11 +77,11 @@ fn print_rule(bytes: &[u8], index: u16) {
 }
 
 // The first n rules of the chain.
-fn print_rules(bytes: &[u8], records: [u16; 255], n: usize) {
+fn print_rules(bytes: &[u8], indices: [u16; 255], n: usize) {
     let mut k: usize = 0;
     while k < 255 {
         if k < n {
-            print_rule(bytes, records[k]);
+            print_rule(bytes, indices[k]);
         }
         k += 1;
     }
@@ -88,22 +89,24 @@ fn print_rules(bytes: &[u8], records: [u16; 255], n: usize) {
 
 // What a book reads as.
 fn print_reading(bytes: &[u8]) {
-    let chain = book::read(bytes);
-    let number_said = chain.number;
-    if number_said != 0 {
+    let mut indices = [0u16; 255];
+    let mut rules = [0i64; 765];
+    let head = book::read(Version::One, bytes, &mut indices, &mut rules);
+    let refusal = head.refusal;
+    if refusal.number != 0 {
         io::write_all(1, b" refused");
-        number(number_said as u64);
-        number(chain.at as u64);
+        number(refusal.number as u64);
+        number(refusal.at as u64);
         return;
     }
-    let goal = chain.objective;
+    let terms = head.terms;
+    let goal = terms.objective;
     io::write_all(1, b" accepted");
     signed(goal.p);
     signed(goal.q);
-    let n = chain.n;
+    let n = head.n;
     number(n as u64);
-    let records = chain.records;
-    print_rules(bytes, records, n);
+    print_rules(bytes, indices, n);
 }
 
 // Bytes in hexadecimal.
@@ -131,8 +134,9 @@ fn changed(out: &[u8], from: usize) -> usize {
 // What repacking a book does to an output.
 fn print_repacking(bytes: &[u8], out: &mut [u8]) {
     let answer = book::repack(bytes, &mut *out);
-    number(answer.number as u64);
-    number(answer.at as u64);
+    let refusal = answer.refusal;
+    number(refusal.number as u64);
+    number(refusal.at as u64);
     let filled = answer.filled;
     number(filled as u64);
     io::write_all(1, b" ");

@@ -2,7 +2,7 @@
 // while a chain is walked. A function takes the version and any bytes, and answers; a byte that is not there reads as zero.
 mod bytes;
 mod decode;
-mod fields;
+pub mod fields;
 mod header;
 
 use bytes::signed16;

@@ -1,0 +1,19 @@
+-- The laws of this crate: lists and tables, the walk and the causes, the runs and the state of the walk, what holds of accepted books, the repacked form.
+pub mod Members
+pub mod TableLaws
+pub mod Small
+pub mod Links
+pub mod Decided
+pub mod Causes
+pub mod Runs
+pub mod Leading
+pub mod Underway
+pub mod Spare
+pub mod Bounds
+pub mod OneLabel
+pub mod Said
+pub mod Packed
+pub mod Output
+pub mod Readback
+pub mod RepackLaws
+pub mod Examples
