@@ -337,3 +337,21 @@ none-applies-accepted L s none = go (readOf L s) refl
     go : (r : Reading) → readOf L s ≡ r → (t : Terms) × (es : List Entry) × (readOf L s ≡ accepted t es)
     go (refused k i) e = absurd (none k i (refusal-applies L s e))
     go (accepted t es) e = (t, es, e)
+
+-- no refusal has the number 0, which stands for none
+pub refusal-number : (L : Layout) (s : List ℕ) {k i : ℕ} → readOf L s ≡ refused k i → k ≡ 0 → ⊥
+refusal-number L s e z = omega (arith, cause-number (refusal-applies L s e) .0)
+
+-- an accepted book's header is lawful
+pub accepted-clear : (L : Layout) (s : List ℕ) {t : Terms} {es : List Entry} → readOf L s ≡ accepted t es → headerFault L s ≡ 0
+accepted-clear L s e = go (headerFault L s) refl
+  where
+    go : (n : ℕ) → headerFault L s ≡ n → headerFault L s ≡ 0
+    go zero q = q
+    go (suc n) q = absurd (no-chain (ends-faulty L s (λ z. omega (arith, q, z))))
+      where
+        no-chain : endOf L s ≡ record { reading = refused (headerFault L s) 0; passed = [] } → ⊥
+        no-chain f =
+            let p = sym e ∙ ap (λ (x : Ending). x .reading) f in
+            let z : _≡_ {A = ℕ} 0 1 = cc in
+            omega arith

@@ -20,8 +20,8 @@ use Rattle.lp.specs.Document.{tie, AlikeInRules}
 use Rattle.records.specs.Layout.{Layout}
 use Rattle.book.specs.Reading.{Reading, refused, accepted, Entry, readOf, rulesOf, recordsOf}
 use Rattle.book.specs.Causes.{Applies}
-use Rattle.book.proofs.Causes.{refusal-applies, applies-refused, accepted-no-cause}
 use Rattle.book.proofs.Bounds.{rules-small, terms-small}
+use Rattle.book.proofs.Causes.{refusal-applies, applies-refused, accepted-no-cause}
 use Rattle.answers.specs.declared.Answer.{Answer}
 use Rattle.answers.specs.declared.Answer.the-variants.{Refused, Planned}
 use Rattle.answers.specs.declared.Plan.{Plan}

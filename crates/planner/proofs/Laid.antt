@@ -10,7 +10,7 @@ use lib.IntN.{ℤ, pos}
 use Rattle.lp.specs.declared.Constraint.{Constraint}
 use Rattle.book.specs.Reading.{Entry, rulesOf}
 use Rattle.book.specs.Runs.{putRules}
-use Rattle.book.proofs.Runs.{rule-laid, rules-length}
+use Rattle.book.proofs.Runs.{rule-placed, rules-length}
 use Rattle.engine.specs.Entries.{entry, entries}
 use Rattle.planner.proofs.Chains.{none, length-rules}
 
@@ -82,10 +82,15 @@ module _ (head mid post : List ℤ) (six : length head ≡ 6) (es : List Entry) 
   chain-entries =
       ap (entries laid 2) (sym (length-rules es))
       ∙ entries-are laid 2 (rulesOf es)
-      (λ k h. entry-after head (putRules mid 0 es) post six k (inside k h) ∙ rule-laid mid es k (less k h) (omega (arith, less k h)))
+      (λ k h. entry-after head (putRules mid 0 es) post six k (inside k h) ∙ placed k (less k h))
     where
       less : (k : ℕ) → k < length (rulesOf es) → k < length es
       less k h = omega (arith, length-rules es)
+
+      placed : (k : ℕ) → k < length es → entry (putRules mid 0 es) k ≡ getD (rulesOf es) k none
+      placed k h =
+          let p = rule-placed mid es k room h in
+          λ i. record { a = p .a i; b = p .b i; c = p .c i }
 
       inside : (k : ℕ) → k < length (rulesOf es) → 3 * k + 2 < length (putRules mid 0 es)
       inside k h = omega (arith, less k h, rules-length mid 0 es)

@@ -2,9 +2,9 @@
 -- its numbers are all in range and the runs have room.
 use mathlib.Core.Path.{_≡_, refl, sym, _∙_, ap, subst}
 use mathlib.Core.List.{List, _++_}
-use Prim.Native.Nat.{ℕ, min, _+_, _*_, _≤_, _<_}
+use Prim.Native.Nat.{ℕ, min, _+_, _-_, _*_, _≤_, _<_}
 use native.Mathlib.Omega.{arith}
-use lib.ListN.{length, getD, take, length-append}
+use lib.ListN.{length, getD, take, drop, length-append, length-take, length-drop}
 use lib.IntN.{ℤ}
 use Rattle.lp.specs.declared.Constraint.{Constraint}
 use Rattle.lp.specs.declared.Terms.{Terms}
@@ -16,9 +16,9 @@ use Rattle.book.specs.declared.Head.{Head}
 use Rattle.book.specs.Reading.{Reading, refused, accepted, Entry, readOf, passedOf, rulesOf, recordsOf}
 use Rattle.book.specs.Runs.{putRecords, putRules}
 use Rattle.book.specs.Promises.{headOf, ReadInto}
-use Rattle.book.proofs.Causes.{accepted-clear, refusal-number}
 use Rattle.book.proofs.Bounds.{chain-count, rules-small, terms-small}
-use Rattle.book.proofs.Runs.{accepted-passed, record-laid, records-length, rules-length}
+use Rattle.book.proofs.Causes.{accepted-clear, refusal-number, accepted-passed}
+use Rattle.book.proofs.Runs.{record-placed, records-length, rules-length}
 use Rattle.answers.specs.Refusal.{refusal, notRefused}
 use Rattle.engine.specs.declared.Solution.{Solution}
 use Rattle.engine.specs.declared.Solved.{Solved}
@@ -31,6 +31,10 @@ use Rattle.plans.proofs.Finish.{small-take}
 use Rattle.planner.specs.declared.run.Findings.{Findings}
 use Rattle.planner.specs.Running.{Roomy, noSolution, Found, RunsBy, Runs}
 use Rattle.planner.proofs.Laid.{prefix-entries}
+
+-- the part after six numbers has room for all the rules
+pub part-room : (l : List ℤ) (n : ℕ) → 3 * (n + 2) ≤ length l → 3 * n ≤ length (take (length l - 6) (drop 6 l))
+part-room l n h = simp (length-take, length-drop) (omega arith)
 
 -- a run of numbers whose middle part was lent to the reader, after six numbers for the floors
 module _
@@ -102,7 +106,7 @@ module _
             count = ap (λ (y : Head). y .n) same-head;
             solution = let both = q ∙ planned em in let same : x ≡ solutionOf (t .objective) (walk tie (t .floors) (t .objective) (take k (rulesOf es))) = cc in same;
             enough = omega (arith, chain-count L s e, names (accepted-clear L s e), ap length noted, records-length records 0 es);
-            recorded = λ i less. ap (λ (l : List ℕ). getD l i 0) noted ∙ record-laid records es i less (omega (arith, chain-count L s e, names (accepted-clear L s e)));
+            recorded = λ i less. ap (λ (l : List ℕ). getD l i 0) noted ∙ record-placed records es i (omega (arith, chain-count L s e, names (accepted-clear L s e))) less;
           }
         where
           noted : records′ ≡ putRecords records 0 es

@@ -1,5 +1,6 @@
 -- From what a run found to what is told of a book: its answer, its view and its panel are those of its reading.
 use mathlib.Core.Path.{_≡_, refl, sym, _∙_, ap, ap₂, subst}
+use mathlib.Core.Bool.{Bool, true, false, true≢false}
 use mathlib.Core.List.{List, [], _∷_, map}
 use Prim.Native.Nat.{ℕ, zero, suc, _≤_, _<_}
 use native.Mathlib.Omega.{arith}
@@ -16,12 +17,14 @@ use Rattle.lp.specs.Outcome as defined
 use Rattle.lp.specs.Start.{Start, none, at, startOf, restarts}
 use Rattle.lp.specs.Range.{SmallSystem}
 use Rattle.lp.specs.Document.{tie}
-use Rattle.records.specs.Layout.{Layout}
+use Rattle.records.specs.declared.Version.{Version}
+use Rattle.records.specs.declared.Version.the-variants.{One, Two}
+use Rattle.records.specs.Layout.{Layout, layoutOf}
 use Rattle.records.specs.Record.{recordAt, ruleOf}
 use Rattle.records.specs.Planned.{plannedRule}
 use Rattle.book.specs.Reading.{Reading, refused, accepted, Entry, readOf, entryAt, rulesOf, recordsOf}
-use Rattle.book.proofs.Causes.{refusal-number}
 use Rattle.book.proofs.Bounds.{accepted-entries, chain-count, count-room, rules-small, terms-small}
+use Rattle.book.proofs.Causes.{refusal-number}
 use Rattle.answers.specs.declared.Answer.{Answer}
 use Rattle.answers.specs.declared.Answer.the-variants.{Refused, Planned}
 use Rattle.answers.specs.declared.Refusal.{Refusal}
@@ -35,6 +38,7 @@ use Rattle.model.specs.Step.{walk, said, startHeld}
 use Rattle.theory.proofs.Ties.{tie-good}
 use Rattle.theory.proofs.Theorems.{walk-is-defined}
 use Rattle.theory.proofs.Starts.{WalkStarts, walk-starts}
+use Rattle.text.specs.Append.{Fills}
 use Rattle.report.specs.declared.panel.Row.{Row}
 use Rattle.report.specs.Line.{lineOf}
 use Rattle.report.specs.Panel.{rowLines}
@@ -44,9 +48,9 @@ use Rattle.plans.proofs.Finish.{finished}
 use Rattle.planner.specs.declared.StartView.{StartView}
 use Rattle.planner.specs.declared.run.Findings.{Findings}
 use Rattle.planner.specs.Planning.{AnsweredBy, Answers}
-use Rattle.planner.specs.Panel.{rowOf, rowsFor, panelText}
+use Rattle.planner.specs.Panel.{rowOf, rowsFor, panelText, panelRoom}
 use Rattle.planner.specs.View.{nowhere, viewed, startView, unseen, viewOf, Views}
-use Rattle.planner.specs.Running.{noSolution, Found, RunsBy, Runs, Whole, answerOf, viewFrom, rowFor, rowsFrom, panelFrom, Showing}
+use Rattle.planner.specs.Running.{noSolution, Found, RunsBy, Runs, Whole, answerOf, viewFrom, rowFor, rowsFrom, panelFrom, Showing, Shows, Tells}
 use Rattle.planner.proofs.Chains.{length-rules, length-records, rule-planned}
 
 -- ---- of lists
@@ -186,3 +190,38 @@ module _ (L : Layout) (s : List ℕ) (k : ℕ) (r : Findings) (records : List �
               measured-rows L s v (subst SmallOutcome f (outcome-small t (rulesOf es) (terms-small L s e .floors-small) (rules-small L s e)))
               (recordsOf es) (subst (λ (l : List Entry). SmallSystem (rulesOf l)) (accepted-entries L s e) (rules-small L s e))
               ∙ ap (map (rowOf v)) (sym (accepted-entries L s e))
+
+  -- ---- all of it
+
+  pub told-shown : {a : Answer} →
+      a ≡ answerOf r records →
+      {v : StartView} →
+      v ≡ viewFrom r →
+      {panel : Bool} {before after : List ℕ} {count : ℕ} →
+      Shows L s r records before after count →
+      Tells L s k panel before (record { answer = a; count = count; view = v }) after
+  told-shown ea ev {panel} {before} {after} {count} f =
+      record {
+        answered = λ whole. subst (Answers L s) (sym ea) (run-answers whole);
+        seen = record { answer = ev ∙ run-views .answer };
+        shown = λ whole asked. subst (λ (l : List ℕ). Fills l (panelRoom L) before after count) (run-shows whole) f;
+      }
+
+  pub told-unshown : {a : Answer} →
+      a ≡ answerOf r records →
+      {v : StartView} →
+      v ≡ viewFrom r →
+      {panel : Bool} {before after : List ℕ} {count : ℕ} →
+      panel ≡ false →
+      Tells L s k panel before (record { answer = a; count = count; view = v }) after
+  told-unshown ea ev not-asked =
+      record {
+        answered = λ whole. subst (Answers L s) (sym ea) (run-answers whole);
+        seen = record { answer = ev ∙ run-views .answer };
+        shown = λ whole asked. absurd (true≢false (sym asked ∙ not-asked));
+      }
+
+-- a book of either version may have four records
+pub four-records : (v : Version) → 4 ≤ layoutOf v .records
+four-records One = omega arith
+four-records Two = omega arith

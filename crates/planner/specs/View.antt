@@ -17,7 +17,6 @@ use Rattle.book.specs.Reading.{Reading, refused, accepted, readOf, rulesOf}
 use Rattle.answers.specs.Refusal.{refusal, notRefused}
 use Rattle.planner.specs.declared.StartView.{StartView}
 
-
 abbrev pub nowhere : Point
 nowhere = point (pos 0) (pos 0) (pos 0)
 

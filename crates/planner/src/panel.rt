@@ -52,7 +52,13 @@ fn list(version: Version, book: &[u8], records: &[u16], n: usize, v: Point, out:
 }
 
 // The panel of what a run found.
-pub fn show(version: Version, book: &[u8], found: Findings, records: &[u16], out: &mut [u8]) -> usize
+pub fn show(
+    version: Version,
+    book: &[u8],
+    found: Findings,
+    records: &[u16],
+    out: &mut [u8],
+) -> usize
     requires { ⌜ Showing (layoutOf version) found (now records) ⌝ }
     ensures { λ r. ⌜ Shows (layoutOf version) (now (book .entry)) found (now (records .entry)) (now (out .entry)) (now (out .exit)) r ⌝ }
 {

@@ -65,7 +65,11 @@ fn tell_in(
     if panel {
         count = show(version, book, found, &*records, out);
     }
-    Told { answer, count, view }
+    Told {
+        answer,
+        count,
+        view,
+    }
 }
 
 // Of a book with 30 rules at most.
@@ -75,7 +79,15 @@ fn tell_short(version: Version, book: &[u8], prefix: usize, panel: bool, out: &m
 {
     let mut records = [0u16; 30];
     let mut entries = [0i64; 96];
-    tell_in(version, book, prefix, panel, out, &mut records, &mut entries)
+    tell_in(
+        version,
+        book,
+        prefix,
+        panel,
+        out,
+        &mut records,
+        &mut entries,
+    )
 }
 
 // Of one with 255.
@@ -85,7 +97,15 @@ fn tell_middle(version: Version, book: &[u8], prefix: usize, panel: bool, out: &
 {
     let mut records = [0u16; 255];
     let mut entries = [0i64; 771];
-    tell_in(version, book, prefix, panel, out, &mut records, &mut entries)
+    tell_in(
+        version,
+        book,
+        prefix,
+        panel,
+        out,
+        &mut records,
+        &mut entries,
+    )
 }
 
 // Of one with as many as a book can have.
@@ -94,7 +114,15 @@ fn tell_long(version: Version, book: &[u8], prefix: usize, panel: bool, out: &mu
 {
     let mut records = [0u16; 4095];
     let mut entries = [0i64; 12291];
-    tell_in(version, book, prefix, panel, out, &mut records, &mut entries)
+    tell_in(
+        version,
+        book,
+        prefix,
+        panel,
+        out,
+        &mut records,
+        &mut entries,
+    )
 }
 
 // How many bytes a record has.

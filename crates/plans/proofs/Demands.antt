@@ -164,8 +164,8 @@ module _ (t : Terms) (names : List ℕ) (rules : List Constraint) (p : Plan) (pl
     -- looked up and multiplied by their weights, the entries that it names add up to 0, 0 and a limit below 0
     pub witness-sums : (look : ℕ → Constraint) →
         ((k i : ℕ) →
-          i < length (system (t .floors) (take k rules)) →
-          look (codeAt names i) ≡ getD (system (t .floors) (take k rules)) i (constraint (pos 0) (pos 0) (pos 0))) →
+        i < length (system (t .floors) (take k rules)) →
+        look (codeAt names i) ≡ getD (system (t .floors) (take k rules)) i (constraint (pos 0) (pos 0) (pos 0))) →
         p .outcome ≡ outcome.Infeasible →
         AddsUp look names (p .place) (p .witness)
     witness-sums look looked f =

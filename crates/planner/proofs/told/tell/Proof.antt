@@ -1,0 +1,39 @@
+-- `planner::told::tell` meets its contract: by its length a book has no more rules than the runs have room for.
+use native.Mathlib.Omega.{arith}
+use borrow.Author.Needs.{needs}
+use Rattle.planner.proofs.Classes.{short-width, few-by-length}
+use Rattle.planner.proofs.told.tell.Statement.{statement}
+use Rattle.planner.proofs.told.tell.Tie as tie
+
+mul-if1 : tie.Need-mul-if1
+mul-if1 c = omega (arith, c .width .ensures, short-width (c .before .before .before .args .version))
+
+tell-short-requires : tie.Need-tell-short-requires
+tell-short-requires c κs =
+    let start = c .before .before .before .before .before in
+    few-by-length (start .args .version) (start .args .book .now) 30 (c .before .before .width .ensures) (c .before .if1 .taken)
+
+mul-if2 : tie.Need-mul-if2
+mul-if2 c = omega (arith, c .before .width .ensures, short-width (c .before .before .before .before .args .version))
+
+tell-middle-requires : tie.Need-tell-middle-requires
+tell-middle-requires c κs =
+    let start = c .before .before .before .before .before .before in
+    few-by-length (start .args .version) (start .args .book .now) 255 (c .before .before .before .width .ensures) (c .before .if2 .taken)
+
+pub tell-spec : {M : Type 1} → statement M
+tell-spec =
+    tie.close
+    (tie.spec
+    (λ c κs. search needs)
+    mul-if1
+    tell-short-requires
+    mul-if2
+    tell-middle-requires
+    (λ c κs. search needs)
+    (λ c. search needs)
+    (λ c. search needs)
+    (λ c. search needs)
+    (λ c. search needs)
+    (λ c. search needs)
+    (λ c. search needs))
