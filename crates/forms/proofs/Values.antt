@@ -38,7 +38,8 @@ small-fits h = within-fits h tt
 -- an operation on numbers that were read back
 two-is : (op : ℤ → ℤ → ℤ) {y z r : ℤ} → Within limit y → Within limit z → SFits w64 (op y z) → r ≡ op (read y) (read z) → read r ≡ op y z
 two-is op {y} {z} {r} h k f e =
-    let g : r ≡ op y z = e ∙ ap (λ (t : ℤ). op t (read z)) (toZ-ofZ {w = w64} (small-fits h)) ∙ ap (op y) (toZ-ofZ {w = w64} (small-fits k)) in
+    let g : r ≡ op y z = e ∙ ap (λ (t : ℤ). op t (read z)) (toZ-ofZ {w = w64} (small-fits h))
+    ∙ ap (op y) (toZ-ofZ {w = w64} (small-fits k)) in
     ap read g ∙ toZ-ofZ {w = w64} f
 
 pub add-is : {y z r : ℤ} → Within limit y → Within limit z → r ≡ read y +ℤ read z → read r ≡ y +ℤ z
@@ -47,7 +48,13 @@ add-is h k e = two-is _+ℤ_ h k (within-fits (within-add h k) tt) e
 pub sub-is : {y z r : ℤ} → Within limit y → Within limit z → r ≡ read y -ℤ read z → read r ≡ y -ℤ z
 sub-is h k e = two-is _-ℤ_ h k (within-fits (within-sub h k) tt) e
 
-pub cross-is : {p q s t r : ℤ} → Within limit p → Within limit q → Within limit s → Within limit t → r ≡ read p *ℤ read q +ℤ read s *ℤ read t → read r ≡ p *ℤ q +ℤ s *ℤ t
+pub cross-is : {p q s t r : ℤ} →
+    Within limit p →
+    Within limit q →
+    Within limit s →
+    Within limit t →
+    r ≡ read p *ℤ read q +ℤ read s *ℤ read t →
+    read r ≡ p *ℤ q +ℤ s *ℤ t
 cross-is {p} {q} {s} {t} {r} hp hq hs ht e =
     let g : r ≡ p *ℤ q +ℤ s *ℤ t =
     e ∙ ap (λ (z : ℤ). z *ℤ read q +ℤ read s *ℤ read t) (toZ-ofZ {w = w64} (small-fits hp))
@@ -156,7 +163,10 @@ module _ {v w : Value} {p : Pair} (x : Paired v w p) where
   pub combined : (op : Form → Form → Value) {q : Pair} {r : Value} → p ≡ q → Valued (joined op Beyond q) r → Valued (combine op v w) r
   combined op e h = same-value (sym (combine-pair op v w ∙ ap (joined op Beyond) (sym (x .same) ∙ e))) h
 
-  pub concluded : (k : ℕ) {q : Pair} {r : Typed} → p ≡ q → r ≡ joined (λ f g. final (written k f g)) (λ n. refusal n) q → r ≡ conclude k v w
+  pub concluded : (k : ℕ) {q : Pair} {r : Typed} →
+      p ≡ q →
+      r ≡ joined (λ f g. final (written k f g)) (λ n. refusal n) q →
+      r ≡ conclude k v w
   concluded k e h = h ∙ sym (conclude-pair k v w ∙ ap (joined (λ f g. final (written k f g)) (λ n. refusal n)) (sym (x .same) ∙ e))
 
 pub refused : {n : ℕ} → Valued (Beyond n) (Beyond n)
@@ -169,7 +179,11 @@ negated-small {f} h e =
 abbrev writing : ℕ → ℤ → ℤ → ℤ → Written
 writing k a b c = record { kind = k; a = a; b = b; c = c }
 
-pub written-is : (k : ℕ) {a a′ b b′ c c′ : ℤ} → a ≡ a′ → b ≡ b′ → c ≡ c′ → _≡_ {A = Written} (record { kind = k; a = a; b = b; c = c }) (record { kind = k; a = a′; b = b′; c = c′ })
+pub written-is : (k : ℕ) {a a′ b b′ c c′ : ℤ} →
+    a ≡ a′ →
+    b ≡ b′ →
+    c ≡ c′ →
+    _≡_ {A = Written} (record { kind = k; a = a; b = b; c = c }) (record { kind = k; a = a′; b = b′; c = c′ })
 written-is k {a} {a′} {b} {b′} {c} {c′} p q r =
     ap (λ (x : ℤ). writing k x b c) p ∙ ap (λ (x : ℤ). writing k a′ x c) q ∙ ap (λ (x : ℤ). writing k a′ b′ x) r
 

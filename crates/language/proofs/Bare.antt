@@ -99,7 +99,8 @@ bare-spells r l m =
     ∙ ap (spellSide (bareSide (r .left)))
     (erase-pad (r .gap) (spellRelation (r .relation) (spellSide (r .right) (pad (r .end) [])))
     ∙ erase-relation (r .relation) (spellSide (r .right) (pad (r .end) []))
-    ∙ ap (spellRelation (r .relation)) (erase-side (r .right) 8 (pad (r .end) []) m ∙ ap (spellSide (bareSide (r .right))) (erase-pad (r .end) [])))
+    ∙ ap (spellRelation (r .relation))
+    (erase-side (r .right) 8 (pad (r .end) []) m ∙ ap (spellSide (bareSide (r .right))) (erase-pad (r .end) [])))
 
 -- ---- it is lawful, and its value is the same
 
@@ -155,7 +156,8 @@ bare-worth r =
 
 pub unique-bare : (r q : Rule) → LawfulRule r → LawfulRule q → erase (spell r) ≡ erase (spell q) → bare r ≡ bare q
 unique-bare r q l m e =
-    unique-sides (bare r) (bare q) (bare-side (r .left) 8 (l .left)) (bare-side (r .right) 8 (l .right)) (bare-side (q .left) 8 (m .left)) (bare-side (q .right) 8 (m .right))
+    unique-sides (bare r) (bare q) (bare-side (r .left) 8 (l .left)) (bare-side (r .right) 8 (l .right))
+    (bare-side (q .left) 8 (m .left)) (bare-side (q .right) 8 (m .right))
     (sym (bare-spells r (l .left) (l .right)) ∙ e ∙ bare-spells q (m .left) (m .right))
 
 pub answered-alike : (r q : Rule) → LawfulRule r → LawfulRule q → erase (spell r) ≡ erase (spell q) → answer (spell r) ≡ answer (spell q)

@@ -1,5 +1,5 @@
--- Places in the text: how far a reader went, that what it read is small, and that less of the text is left for a call after it. The measure of the readers is three
--- for each byte that is left, and one more for a term, two more for a side.
+-- Places in the text: how far a reader went, that what it read is small, and that less of the text is left for a call after it. The
+-- measure of the readers is three for each byte that is left, and one more for a term, two more for a side.
 use mathlib.Core.Path.{_≡_, ap, sym, _∙_, subst}
 use mathlib.Core.Bool.{false}
 use mathlib.Core.List.{List}
@@ -54,21 +54,40 @@ abbrev Left : List ℕ → ℕ → ℕ → ℕ
 Left text at m = 3 * (length text - at) + m
 
 -- at the same place, for a smaller part
-pub call-same : (text : List ℕ) (at m : ℕ) {t : ℕ} → Left text at (m + 1) ≡ t → at ≤ length text → (Left text at m < t) × (at ≤ length text)
+pub call-same : (text : List ℕ) (at m : ℕ) {t : ℕ} →
+    Left text at (m + 1) ≡ t →
+    at ≤ length text →
+    (Left text at m < t) × (at ≤ length text)
 call-same text at m e h = (omega arith, h)
 
 -- after the next byte
-pub call-next : {text : List ℕ} {at : ℕ} {l : Lexed} (m : ℕ) {t : ℕ} → Lexes text at l → Left text at 0 ≡ t → 0 < l .byte → m ≤ 2 → (Left text (l .next) m < t) × (l .next ≤ length text)
+pub call-next : {text : List ℕ} {at : ℕ} {l : Lexed} (m : ℕ) {t : ℕ} →
+    Lexes text at l →
+    Left text at 0 ≡ t →
+    0 < l .byte →
+    m ≤ 2 →
+    (Left text (l .next) m < t) × (l .next ≤ length text)
 call-next {text} {at} {l} m x e b h = (omega (arith, lower (length text) at (l .next) m (x .falls b) (x .high) h), x .high)
 
 -- after the first item
-pub call-first : (text : List ℕ) (at m : ℕ) {s : Step} {v : Value} {n t : ℕ} → s ≡ Got v n → Moved text (suc at) s → Left text at m ≡ t → (Left text n 0 < t) × Follows text n v
+pub call-first : (text : List ℕ) (at m : ℕ) {s : Step} {v : Value} {n t : ℕ} →
+    s ≡ Got v n →
+    Moved text (suc at) s →
+    Left text at m ≡ t →
+    (Left text n 0 < t) × Follows text n v
 call-first text at m {n = n} e w h =
     let p = reached text (suc at) e w in
     (omega (arith, lower (length text) at n 0 (p .low) (p .high) (omega arith)), follows text (suc at) e w)
 
 -- after the next byte and an item, with the value of both
-pub call-more : {text : List ℕ} {at : ℕ} {l : Lexed} {s : Step} {v u : Value} {n t : ℕ} → Lexes text at l → s ≡ Got v n → Moved text (suc (l .next)) s → Left text at 0 ≡ t → 0 < l .byte → Small u → (Left text n 0 < t) × Follows text n u
+pub call-more : {text : List ℕ} {at : ℕ} {l : Lexed} {s : Step} {v u : Value} {n t : ℕ} →
+    Lexes text at l →
+    s ≡ Got v n →
+    Moved text (suc (l .next)) s →
+    Left text at 0 ≡ t →
+    0 < l .byte →
+    Small u →
+    (Left text n 0 < t) × Follows text n u
 call-more {text} {at} {l} {n = n} x e w h b k =
     let p = reached text (suc (l .next)) e w in
     let f = x .falls b in
