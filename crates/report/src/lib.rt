@@ -11,7 +11,7 @@ use text::append_refused;
 use text::append_word;
 ghost use mathlib.Core.Path.{_≡_};
 ghost use lib.ListN.{length};
-ghost use Rattle.text.specs.Append.{Room, Appended};
+ghost use Rattle.text.specs.Append.{HasRoom, Appended};
 ghost use Rattle.lp.specs.Certificate.{weighted, named};
 ghost use Rattle.report.specs.Line.{pair, direction, counts, entry, entries, witness, fields, answerFields};
 ghost use Rattle.report.specs.Written.{Written};
@@ -20,7 +20,7 @@ pub mod panel;
 
 // A pair: X, Y and D. Here and below a local is named after what stands at its place.
 fn append_pair(v: Point, out: &mut [u8], at: usize) -> usize
-    requires { ⌜ Room (now out) at 63 ⌝ }
+    requires { ⌜ HasRoom (now out) at 63 ⌝ }
     ensures { λ r. ⌜ Appended (now (out .entry)) at (pair v) 63 (now (out .exit)) r ⌝ }
 {
     let y = append_integer(v.x, out, at);
@@ -30,7 +30,7 @@ fn append_pair(v: Point, out: &mut [u8], at: usize) -> usize
 
 // A direction: dx and dy.
 fn append_direction(d: Ray, out: &mut [u8], at: usize) -> usize
-    requires { ⌜ Room (now out) at 42 ⌝ }
+    requires { ⌜ HasRoom (now out) at 42 ⌝ }
     ensures { λ r. ⌜ Appended (now (out .entry)) at (direction d) 42 (now (out .exit)) r ⌝ }
 {
     let dy = append_integer(d.dx, out, at);
@@ -39,7 +39,7 @@ fn append_direction(d: Ray, out: &mut [u8], at: usize) -> usize
 
 // The two counts: moves and open.
 fn append_counts(plan: Plan, out: &mut [u8], at: usize) -> usize
-    requires { ⌜ Room (now out) at 42 ⌝ }
+    requires { ⌜ HasRoom (now out) at 42 ⌝ }
     ensures { λ r. ⌜ Appended (now (out .entry)) at (counts plan) 42 (now (out .exit)) r ⌝ }
 {
     let opened = append_number(plan.moves, out, at);
@@ -48,7 +48,7 @@ fn append_counts(plan: Plan, out: &mut [u8], at: usize) -> usize
 
 // An entry of a witness: a floor's letter or a record's index.
 fn append_entry(index: usize, out: &mut [u8], at: usize) -> usize
-    requires { ⌜ Room (now out) at 21 ⌝ }
+    requires { ⌜ HasRoom (now out) at 21 ⌝ }
     ensures { λ r. ⌜ Appended (now (out .entry)) at (entry index) 21 (now (out .exit)) r ⌝ }
 {
     if index == 0 {
@@ -62,7 +62,7 @@ fn append_entry(index: usize, out: &mut [u8], at: usize) -> usize
 
 // An entry and its weight, unless the weight is 0.
 fn append_weighted(index: usize, weight: i64, out: &mut [u8], at: usize) -> usize
-    requires { ⌜ Room (now out) at 42 ⌝ }
+    requires { ⌜ HasRoom (now out) at 42 ⌝ }
     ensures { λ r. ⌜ Appended (now (out .entry)) at (entries (weighted index weight)) 42 (now (out .exit)) r ⌝ }
 {
     if weight == 0 {
@@ -89,7 +89,7 @@ fn count_named(k: Certificate) -> usize
 
 // A witness: the number of entries, then each with its weight.
 fn append_witness(k: Certificate, out: &mut [u8], at: usize) -> usize
-    requires { ⌜ Room (now out) at 147 ⌝ }
+    requires { ⌜ HasRoom (now out) at 147 ⌝ }
     ensures { λ r. ⌜ Appended (now (out .entry)) at (witness k) 147 (now (out .exit)) r ⌝ }
 {
     let first = append_number(count_named(k), out, at);
@@ -100,7 +100,7 @@ fn append_witness(k: Certificate, out: &mut [u8], at: usize) -> usize
 
 // The line of a best pair, but for its line feed.
 fn append_best(plan: Plan, v: Point, out: &mut [u8]) -> usize
-    requires { ⌜ Room (now out) 0 109 ⌝ }
+    requires { ⌜ HasRoom (now out) 0 109 ⌝ }
     ensures { λ r. ⌜ Appended (now (out .entry)) 0 (fields plan (Outcome.Optimal v)) 109 (now (out .exit)) r ⌝ }
 {
     let start = append_word(b"best", out, 0);
@@ -110,7 +110,7 @@ fn append_best(plan: Plan, v: Point, out: &mut [u8]) -> usize
 
 // The line of an unlimited book, but for its line feed.
 fn append_unlimited(plan: Plan, v: Point, d: Ray, out: &mut [u8]) -> usize
-    requires { ⌜ Room (now out) 0 156 ⌝ }
+    requires { ⌜ HasRoom (now out) 0 156 ⌝ }
     ensures { λ r. ⌜ Appended (now (out .entry)) 0 (fields plan (Outcome.Unbounded v d)) 156 (now (out .exit)) r ⌝ }
 {
     let start = append_word(b"unlimited", out, 0);
@@ -121,7 +121,7 @@ fn append_unlimited(plan: Plan, v: Point, d: Ray, out: &mut [u8]) -> usize
 
 // The line of an impossible book, but for its line feed.
 fn append_impossible(plan: Plan, out: &mut [u8]) -> usize
-    requires { ⌜ Room (now out) 0 220 ⌝ }
+    requires { ⌜ HasRoom (now out) 0 220 ⌝ }
     ensures { λ r. ⌜ Appended (now (out .entry)) 0 (fields plan Outcome.Infeasible) 220 (now (out .exit)) r ⌝ }
 {
     let place = append_word(b"impossible", out, 0);
@@ -132,7 +132,7 @@ fn append_impossible(plan: Plan, out: &mut [u8]) -> usize
 
 // The line of a plan, but for its line feed.
 fn append_plan(plan: Plan, out: &mut [u8]) -> usize
-    requires { ⌜ Room (now out) 0 220 ⌝ }
+    requires { ⌜ HasRoom (now out) 0 220 ⌝ }
     ensures { λ r. ⌜ Appended (now (out .entry)) 0 (fields plan (plan .outcome)) 220 (now (out .exit)) r ⌝ }
 {
     let outcome = plan.outcome;
@@ -145,7 +145,7 @@ fn append_plan(plan: Plan, out: &mut [u8]) -> usize
 
 // The line of an answer, but for its line feed.
 fn append_fields(answer: Answer, out: &mut [u8]) -> usize
-    requires { ⌜ Room (now out) 0 220 ⌝ }
+    requires { ⌜ HasRoom (now out) 0 220 ⌝ }
     ensures { λ r. ⌜ Appended (now (out .entry)) 0 (answerFields answer) 220 (now (out .exit)) r ⌝ }
 {
     match answer {

@@ -1,26 +1,24 @@
 -- `report::append_entry` meets its contract. The tests pick the case of `entry`.
-use mathlib.Core.Path.{ap, sym}
 use native.Mathlib.Omega.{arith}
 use borrow.Author.Needs.{needs}
-use Rattle.report.specs.Line.{entry}
 use Rattle.text.proofs.Put.{roomier, spelt}
-use Rattle.report.proofs.Witness.{entry-record}
+use Rattle.report.proofs.Witness.{floor-x, floor-y, entry-record}
 use Rattle.report.proofs.append_entry.Statement.{statement}
 use Rattle.report.proofs.append_entry.Tie as tie
 
 returns : tie.Need-returns
-unfolding entry
 returns c =
     let word = c .before .before in
     let test = word .before .before .before in
-    roomier (omega arith) (spelt (ap entry (sym (test .if1 .taken))) (word .append-word .ensures .fits (omega arith)))
+    let start = test .before .before in
+    roomier (omega arith) (spelt (floor-x (start .args .index) (test .if1 .taken)) (word .append-word .ensures .fits (omega arith)))
 
 returns-2 : tie.Need-returns-2
-unfolding entry
 returns-2 c =
     let word = c .before .before in
     let test = word .before .before .before in
-    roomier (omega arith) (spelt (ap entry (sym (test .if2 .taken))) (word .append-word2 .ensures .fits (omega arith)))
+    let start = test .before .before .before in
+    roomier (omega arith) (spelt (floor-y (start .args .index) (test .if2 .taken)) (word .append-word2 .ensures .fits (omega arith)))
 
 returns-3 : tie.Need-returns-3
 returns-3 c =
