@@ -1,11 +1,11 @@
--- `report::append_weighted` meets its contract. A weight of 0 names no entry; any other names this one.
+-- `report::line::append_weighted` meets its contract. A weight of 0 names no entry; any other names this one.
 use native.Mathlib.Omega.{arith}
 use borrow.Author.Needs.{needs}
 use Rattle.text.proofs.Put.{followed, spelt, nothing}
 use Rattle.text.proofs.Integer.{whole}
 use Rattle.report.proofs.Witness.{left-out, printed}
-use Rattle.report.proofs.append_weighted.Statement.{statement}
-use Rattle.report.proofs.append_weighted.Tie as tie
+use Rattle.report.proofs.line.append_weighted.Statement.{statement}
+use Rattle.report.proofs.line.append_weighted.Tie as tie
 
 returns : tie.Need-returns
 returns c =

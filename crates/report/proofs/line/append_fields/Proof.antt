@@ -1,11 +1,11 @@
--- `report::append_fields` meets its contract. Each arm of the match is given the answer that it is for.
+-- `report::line::append_fields` meets its contract. Each arm of the match is given the answer that it is for.
 use mathlib.Core.Path.{ap, sym}
 use native.Mathlib.Omega.{arith}
 use borrow.Author.Needs.{needs}
 use Rattle.report.specs.Line.{answerFields}
 use Rattle.text.proofs.Put.{spelt, roomier}
-use Rattle.report.proofs.append_fields.Statement.{statement}
-use Rattle.report.proofs.append_fields.Tie as tie
+use Rattle.report.proofs.line.append_fields.Statement.{statement}
+use Rattle.report.proofs.line.append_fields.Tie as tie
 
 returns : tie.Need-returns
 unfolding answerFields

@@ -1,10 +1,10 @@
--- `report::append_unlimited` meets its contract. Word, pair, direction and counts in turn.
+-- `report::line::append_unlimited` meets its contract. Word, pair, direction and counts in turn.
 use native.Mathlib.Omega.{arith}
 use borrow.Author.Needs.{needs}
 use Rattle.report.specs.Line.{fields}
 use Rattle.text.proofs.Put.{followed}
-use Rattle.report.proofs.append_unlimited.Statement.{statement}
-use Rattle.report.proofs.append_unlimited.Tie as tie
+use Rattle.report.proofs.line.append_unlimited.Statement.{statement}
+use Rattle.report.proofs.line.append_unlimited.Tie as tie
 
 append-pair-requires : tie.Need-append-pair-requires
 append-pair-requires c κs =

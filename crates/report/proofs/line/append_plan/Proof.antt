@@ -1,11 +1,11 @@
--- `report::append_plan` meets its contract. Each arm of the match is given the outcome that it is for.
+-- `report::line::append_plan` meets its contract. Each arm of the match is given the outcome that it is for.
 use mathlib.Core.Path.{ap, sym}
 use native.Mathlib.Omega.{arith}
 use borrow.Author.Needs.{needs}
 use Rattle.report.specs.Line.{fields}
 use Rattle.text.proofs.Put.{spelt, roomier}
-use Rattle.report.proofs.append_plan.Statement.{statement}
-use Rattle.report.proofs.append_plan.Tie as tie
+use Rattle.report.proofs.line.append_plan.Statement.{statement}
+use Rattle.report.proofs.line.append_plan.Tie as tie
 
 returns : tie.Need-returns
 returns c =

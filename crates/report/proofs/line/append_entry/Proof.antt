@@ -1,10 +1,10 @@
--- `report::append_entry` meets its contract. The tests pick the case of `entry`.
+-- `report::line::append_entry` meets its contract. The tests pick the case of `entry`.
 use native.Mathlib.Omega.{arith}
 use borrow.Author.Needs.{needs}
 use Rattle.text.proofs.Put.{roomier, spelt}
 use Rattle.report.proofs.Witness.{floor-x, floor-y, entry-record}
-use Rattle.report.proofs.append_entry.Statement.{statement}
-use Rattle.report.proofs.append_entry.Tie as tie
+use Rattle.report.proofs.line.append_entry.Statement.{statement}
+use Rattle.report.proofs.line.append_entry.Tie as tie
 
 returns : tie.Need-returns
 returns c =

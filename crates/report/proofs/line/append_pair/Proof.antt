@@ -1,11 +1,11 @@
--- `report::append_pair` meets its contract. Three numbers in turn, each read back whole from its bits.
+-- `report::line::append_pair` meets its contract. Three numbers in turn, each read back whole from its bits.
 use native.Mathlib.Omega.{arith}
 use borrow.Author.Needs.{needs}
 use Rattle.report.specs.Line.{pair}
 use Rattle.text.proofs.Put.{followed}
 use Rattle.text.proofs.Integer.{whole}
-use Rattle.report.proofs.append_pair.Statement.{statement}
-use Rattle.report.proofs.append_pair.Tie as tie
+use Rattle.report.proofs.line.append_pair.Statement.{statement}
+use Rattle.report.proofs.line.append_pair.Tie as tie
 
 returns : tie.Need-returns
 unfolding pair

@@ -1,10 +1,10 @@
--- `report::append_counts` meets its contract. Two numbers in turn.
+-- `report::line::append_counts` meets its contract. Two numbers in turn.
 use native.Mathlib.Omega.{arith}
 use borrow.Author.Needs.{needs}
 use Rattle.report.specs.Line.{counts}
 use Rattle.text.proofs.Put.{followed}
-use Rattle.report.proofs.append_counts.Statement.{statement}
-use Rattle.report.proofs.append_counts.Tie as tie
+use Rattle.report.proofs.line.append_counts.Statement.{statement}
+use Rattle.report.proofs.line.append_counts.Tie as tie
 
 returns : tie.Need-returns
 unfolding counts

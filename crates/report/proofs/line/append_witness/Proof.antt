@@ -1,12 +1,12 @@
--- `report::append_witness` meets its contract. What each weight prints makes up what the list of named entries prints.
+-- `report::line::append_witness` meets its contract. What each weight prints makes up what the list of named entries prints.
 use native.Mathlib.Omega.{arith}
 use borrow.Author.Needs.{needs}
 use mir.Syntax.{w64}
 use mir.Val.{SFits}
 use Rattle.text.proofs.Put.{followed, spelt}
 use Rattle.report.proofs.Witness.{whole-entry, witness-parts}
-use Rattle.report.proofs.append_witness.Statement.{statement}
-use Rattle.report.proofs.append_witness.Tie as tie
+use Rattle.report.proofs.line.append_witness.Statement.{statement}
+use Rattle.report.proofs.line.append_witness.Tie as tie
 
 append-weighted-requires : tie.Need-append-weighted-requires
 append-weighted-requires c κs =

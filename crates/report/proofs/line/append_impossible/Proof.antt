@@ -1,10 +1,10 @@
--- `report::append_impossible` meets its contract. Word, place, counts and witness in turn.
+-- `report::line::append_impossible` meets its contract. Word, place, counts and witness in turn.
 use native.Mathlib.Omega.{arith}
 use borrow.Author.Needs.{needs}
 use Rattle.report.specs.Line.{fields}
 use Rattle.text.proofs.Put.{followed}
-use Rattle.report.proofs.append_impossible.Statement.{statement}
-use Rattle.report.proofs.append_impossible.Tie as tie
+use Rattle.report.proofs.line.append_impossible.Statement.{statement}
+use Rattle.report.proofs.line.append_impossible.Tie as tie
 
 append-counts-requires : tie.Need-append-counts-requires
 append-counts-requires c κs =

@@ -1,11 +1,11 @@
--- `report::append_direction` meets its contract. Two numbers in turn, each read back whole from its bits.
+-- `report::line::append_direction` meets its contract. Two numbers in turn, each read back whole from its bits.
 use native.Mathlib.Omega.{arith}
 use borrow.Author.Needs.{needs}
 use Rattle.report.specs.Line.{direction}
 use Rattle.text.proofs.Put.{followed}
 use Rattle.text.proofs.Integer.{whole}
-use Rattle.report.proofs.append_direction.Statement.{statement}
-use Rattle.report.proofs.append_direction.Tie as tie
+use Rattle.report.proofs.line.append_direction.Statement.{statement}
+use Rattle.report.proofs.line.append_direction.Tie as tie
 
 returns : tie.Need-returns
 unfolding direction
