@@ -40,7 +40,10 @@ pub record Joins {A B : Type 0} (c : Chain A B) (byte : ℕ) (join : B → ℕ �
   pub few : c .extra ≤ 1
   pub some : 0 < byte
   pub no-space : eqb byte 32 ≡ false
-  pub lawful : (b : B) (i : ℕ) (a : A) (d : ℕ) → c .LawfulWhole b d → c .LawfulItem a d → c .LawfulWhole (join b i a) d
+  pub lawful : (b : B) (i : ℕ) (a : A) (d : ℕ) →
+      c .LawfulWhole b d →
+      c .LawfulItem a d →
+      c .LawfulWhole (join b i a) d
   pub spelt : (b : B) (i : ℕ) (a : A) (r : List ℕ) → c .spell-whole b (pad i (byte ∷ c .spell-item a r)) ≡ c .spell-whole (join b i a) r
   pub worth : (b : B) (i : ℕ) (a : A) → c .worth-whole (join b i a) ≡ op (c .worth-whole b) (c .worth-item a)
   pub step : (k d : ℕ) (s : List ℕ) (b : B) →

@@ -44,7 +44,10 @@ mutual
 digit-yes : (b : ℕ) → 48 ≤ b → b ≤ 57 → digit b ≡ true
 digit-yes b l h = rw (le-leb 48 b l, le-leb b 57 h)
 
-run-past : (ds r : List ℕ) → Digits ds → digit (first r) ≡ false → (run (ds ++ r) ≡ ds) × (past (ds ++ r) ≡ r)
+run-past : (ds r : List ℕ) →
+    Digits ds →
+    digit (first r) ≡ false →
+    (run (ds ++ r) ≡ ds) × (past (ds ++ r) ≡ r)
 run-past [] [] h e = (run-none, past-none)
 run-past [] (b ∷ r) h e = (run-other b r e, past-other b r e)
 run-past (b ∷ ds) r (more l u h) e =
@@ -82,7 +85,11 @@ pub record AfterSide (r : List ℕ) : Type 0 where
   pub no-plus : eqb (next r) 43 ≡ false
   pub no-minus : eqb (next r) 45 ≡ false
 
-after-term : (i b : ℕ) (r : List ℕ) → digit b ≡ false → eqb b 32 ≡ false → eqb b 42 ≡ false → AfterTerm (pad i (b ∷ r))
+after-term : (i b : ℕ) (r : List ℕ) →
+    digit b ≡ false →
+    eqb b 32 ≡ false →
+    eqb b 42 ≡ false →
+    AfterTerm (pad i (b ∷ r))
 after-term i b r d s e = record { no-digit = first-pad i b r d; no-star = not-next i b 42 r s e }
 
 after-side : (i b : ℕ) (r : List ℕ) →
@@ -167,10 +174,16 @@ next-run {A} {c = c} {byte = byte} {join = join} j k d s b i a q r x h l = go (x
         }
 
 -- with what may follow, reading stops there
-term-stops : (k d : ℕ) (s : List ℕ) (t : Term) (r : List ℕ) → AfterTerm r → ReadUpTo terms k d s t r → termBy k d s ≡ got t r
+term-stops : (k d : ℕ) (s : List ℕ) (t : Term) (r : List ℕ) →
+    AfterTerm r →
+    ReadUpTo terms k d s t r →
+    termBy k d s ≡ got t r
 term-stops k d s t r a x = x .same ∙ factors-end (x .fuel) d r t (a .no-star)
 
-side-stops : (k d : ℕ) (s : List ℕ) (a : Side) (r : List ℕ) → AfterSide r → ReadUpTo sides k d s a r → sideBy k d s ≡ got a r
+side-stops : (k d : ℕ) (s : List ℕ) (a : Side) (r : List ℕ) →
+    AfterSide r →
+    ReadUpTo sides k d s a r →
+    sideBy k d s ≡ got a r
 side-stops k d s a r z x = x .same ∙ terms-end (x .fuel) d r a (z .no-plus) (z .no-minus)
 
 mutual
@@ -229,7 +242,10 @@ mutual
 
 -- ---- a whole text
 
-side-complete : (a : Side) (r : List ℕ) → LawfulSide a 8 → AfterSide r → sideOf (spellSide a r) ≡ got a r
+side-complete : (a : Side) (r : List ℕ) →
+    LawfulSide a 8 →
+    AfterSide r →
+    sideOf (spellSide a r) ≡ got a r
 unfolding sideOf
 side-complete a r l z =
     side-stops (3 * length (spellSide a r) + 3) 8 (spellSide a r) a r z
@@ -281,7 +297,10 @@ relation-complete a i k b n l = go k
     go at-most = by at-most 60 refl (relation-most a (pad i (60 ∷ q)) (next-in i 60 q refl))
     go at-least = by at-least 62 refl (relation-least a (pad i (62 ∷ q)) (next-in i 62 q refl))
 
-pub parse-complete : (r : Rule) → LawfulSide (r .left) 8 → LawfulSide (r .right) 8 → parse (spell r) ≡ got r []
+pub parse-complete : (r : Rule) →
+    LawfulSide (r .left) 8 →
+    LawfulSide (r .right) 8 →
+    parse (spell r) ≡ got r []
 unfolding parse spell
 parse-complete r l m =
     ap (λ (p : Parsed Side). bind p (λ a q. relationOf a q))

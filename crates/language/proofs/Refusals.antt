@@ -56,7 +56,12 @@ multiplied-plain f g = go (constant f) (constant g)
     go false true = limited-plain (mulForms f g)
     go false false = inl refl
 
-combine-plain : (op : Form → Form → Value) → ((f g : Form) → Plain (op f g)) → (v w : Value) → Plain v → Plain w → Plain (combine op v w)
+combine-plain : (op : Form → Form → Value) →
+    ((f g : Form) → Plain (op f g)) →
+    (v w : Value) →
+    Plain v →
+    Plain w →
+    Plain (combine op v w)
 combine-plain op h (Linear f) (Linear g) p q = h f g
 combine-plain op h (Linear f) (Beyond n) p q = q
 combine-plain op h (Beyond n) (Linear g) p q = p

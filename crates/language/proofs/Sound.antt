@@ -134,7 +134,10 @@ inner-sound zero s e f h = tt
 inner-sound (suc d) s e f h = group-sound d s e (f d) (h d)
 
 -- a test's two branches
-branch : {A : Type 0} (Q : Parsed A → Type 0) (t : Bool) (l r : Parsed A) → (t ≡ true → Q l) → (t ≡ false → Q r) → Q (cond t l r)
+branch : {A : Type 0} (Q : Parsed A → Type 0) (t : Bool) (l r : Parsed A) →
+    (t ≡ true → Q l) →
+    (t ≡ false → Q r) →
+    Q (cond t l r)
 branch Q true l r f g = f refl
 branch Q false l r f g = g refl
 
@@ -195,7 +198,10 @@ mutual
   term-sound (suc k) d s =
       first-sound one-factor d s (factorBy k d s) (factor-sound k d s) (moreFactors k d) (λ b w z m h. factors-sound k d b w z m h)
 
-  pub factors-sound : (k d : ℕ) (t : Term) (r q : List ℕ) → LawfulTerm t d → q ≡ spellTerm t r → SoundTerm d q (moreFactors k d t r)
+  pub factors-sound : (k d : ℕ) (t : Term) (r q : List ℕ) →
+      LawfulTerm t d →
+      q ≡ spellTerm t r →
+      SoundTerm d q (moreFactors k d t r)
   factors-sound zero d t r q l e = tt
   factors-sound (suc k) d t r q l e =
       branch (SoundTerm d q) (eqb (next r) 42) _ _
@@ -208,7 +214,10 @@ mutual
   side-sound (suc k) d s =
       first-sound one-term d s (termBy k d s) (term-sound k d s) (moreTerms k d) (λ b w z m h. terms-sound k d b w z m h)
 
-  pub terms-sound : (k d : ℕ) (a : Side) (r q : List ℕ) → LawfulSide a d → q ≡ spellSide a r → SoundSide d q (moreTerms k d a r)
+  pub terms-sound : (k d : ℕ) (a : Side) (r q : List ℕ) →
+      LawfulSide a d →
+      q ≡ spellSide a r →
+      SoundSide d q (moreTerms k d a r)
   terms-sound zero d a r q l e = tt
   terms-sound (suc k) d a r q l e =
       branch (SoundSide d q) (eqb (next r) 43) _ _
@@ -272,7 +281,10 @@ right-sound s a i k w l e = go (eqb (first w) 61) refl
     go true f = after (eqb-true (first w) 61 f) (sideOf (tail w)) (side-of-sound (tail w))
     go false f = tt
 
-relation-sound : (s : List ℕ) (a : Side) (r : List ℕ) → LawfulSide a 8 → s ≡ spellSide a r → SoundRule s (relationOf a r)
+relation-sound : (s : List ℕ) (a : Side) (r : List ℕ) →
+    LawfulSide a 8 →
+    s ≡ spellSide a r →
+    SoundRule s (relationOf a r)
 unfolding relationOf spellRelation
 relation-sound s a r l e =
     branch (SoundRule s) (eqb (next r) 60) _ _ (by at-most 60 (omega arith) (λ x. refl))

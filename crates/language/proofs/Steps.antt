@@ -68,6 +68,9 @@ module _ (k d : ℕ) (s : List ℕ) where
   unfolding factorBy
   terms-less a e = rw e
 
-  pub terms-end : (a : Side) → eqb (next s) 43 ≡ false → eqb (next s) 45 ≡ false → moreTerms (suc k) d a s ≡ got a s
+  pub terms-end : (a : Side) →
+      eqb (next s) 43 ≡ false →
+      eqb (next s) 45 ≡ false →
+      moreTerms (suc k) d a s ≡ got a s
   unfolding factorBy
   terms-end a e f = rw (e, f)

@@ -90,7 +90,10 @@ counted-named k =
     )
 
 -- what a count of used weights says of a weight that was read back
-used-is : (n : ℕ) (z : ℤ) → SFits w64 z → n ≡ length (weighted 0 (read z)) → n ≡ length (weighted 0 z)
+used-is : (n : ℕ) (z : ℤ) →
+    SFits w64 z →
+    n ≡ length (weighted 0 (read z)) →
+    n ≡ length (weighted 0 z)
 used-is n z f e = e ∙ ap (λ (y : ℤ). length (weighted 0 y)) (toZ-ofZ {w = w64} f)
 
 pub counted : (k : Certificate) (m n o : ℕ) →

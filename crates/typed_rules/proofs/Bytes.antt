@@ -45,7 +45,11 @@ no-space : (b : ℕ) (s : List ℕ) → (b ≡ 32 → ⊥) → skip (b ∷ s) �
 unfolding skip
 no-space b s e = rw (ne-eqb b 32 e)
 
-pub skip-more : (s : List ℕ) (at i : ℕ) → i < length s → getD s i 0 ≡ 32 → Skipping s at i → Skipping s at (i + 1)
+pub skip-more : (s : List ℕ) (at i : ℕ) →
+    i < length s →
+    getD s i 0 ≡ 32 →
+    Skipping s at i →
+    Skipping s at (i + 1)
 skip-more s at i h e k =
     record {
       same = sym (space-here (getD s i 0) (drop (i + 1) s) e) ∙ sym (ap skip (here s i h)) ∙ k .same;
@@ -53,7 +57,11 @@ skip-more s at i h e k =
       high = omega arith;
     }
 
-pub skip-stop : (s : List ℕ) (at i : ℕ) → i < length s → (getD s i 0 ≡ 32 → ⊥) → Skipping s at i → Skips s at i
+pub skip-stop : (s : List ℕ) (at i : ℕ) →
+    i < length s →
+    (getD s i 0 ≡ 32 → ⊥) →
+    Skipping s at i →
+    Skips s at i
 skip-stop s at i h e k =
     record {
       same = here s i h ∙ sym (no-space (getD s i 0) (drop (i + 1) s) e) ∙ sym (ap skip (here s i h)) ∙ k .same;
@@ -186,7 +194,10 @@ run-stop s at number i h t k =
     stopped s at number i (ap run (here s i h) ∙ run-other (getD s i 0) (drop (i + 1) s) t)
     (ap past (here s i h) ∙ past-other (getD s i 0) (drop (i + 1) s) t ∙ sym (here s i h)) k
 
-pub run-end : (s : List ℕ) (at number i : ℕ) → length s ≤ i → Running s at number i → Runs s at (record { number = number; end = i })
+pub run-end : (s : List ℕ) (at number i : ℕ) →
+    length s ≤ i →
+    Running s at number i →
+    Runs s at (record { number = number; end = i })
 run-end s at number i h k =
     stopped s at number i (ap run (drop-of-length-le s h) ∙ run-none)
     (ap past (drop-of-length-le s h) ∙ past-none ∙ sym (drop-of-length-le s h)) k

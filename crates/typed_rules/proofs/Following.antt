@@ -98,7 +98,10 @@ module _ {A B : Type 0} {c : Chain A B} {byte : ℕ} {join : B → ℕ → A →
           ∙ g .same k (spent text at n 0 k (omega (arith, falls, p .low)) (p .high) (omega arith) h) (join t i (q .0))
           (j .worth t i (q .0) ∙ ap (λ (o : Value). op o (c .worth-item (q .0))) z ∙ ap (op v) (q .2) ∙ sym y)
 
-  pub joined-fails : {depth : ℕ} {s : Step} {v : Value} → s ≡ Fail → ReadsItem c text (l .next) depth s → ReadsMore c text at depth v Fail
+  pub joined-fails : {depth : ℕ} {s : Step} {v : Value} →
+      s ≡ Fail →
+      ReadsItem c text (l .next) depth s →
+      ReadsMore c text at depth v Fail
   joined-fails {depth} {v = v} e f = record { same = same; moved = tt }
     where
       same : (k : ℕ) →
@@ -133,5 +136,8 @@ module _ {text : List ℕ} {at depth : ℕ} {l : Lexed} {v : Value} (x : Lexes t
   pub factors-stop : (l .byte ≡ 42 → ⊥) → Follows text at v → ReadsFactors text at depth v (Got v at)
   factors-stop b o = stops terms o (λ k t. factors-end k depth (drop at text) t (other x 42 b))
 
-  pub terms-stop : (l .byte ≡ 43 → ⊥) → (l .byte ≡ 45 → ⊥) → Follows text at v → ReadsTerms text at depth v (Got v at)
+  pub terms-stop : (l .byte ≡ 43 → ⊥) →
+      (l .byte ≡ 45 → ⊥) →
+      Follows text at v →
+      ReadsTerms text at depth v (Got v at)
   terms-stop b d o = stops sides o (λ k t. terms-end k depth (drop at text) t (other x 43 b) (other x 45 d))

@@ -20,7 +20,10 @@ use Rattle.typed_rules.specs.Contracts.{Lexes, Reached, Moved, Enough, F
 
 -- ---- how far
 
-pub moved-on : (text : List ℕ) (low high : ℕ) (r : Step) → low ≤ high → Moved text high r → Moved text low r
+pub moved-on : (text : List ℕ) (low high : ℕ) (r : Step) →
+    low ≤ high →
+    Moved text high r →
+    Moved text low r
 moved-on text low high (Got v n) h m = record { small = m .small; low = omega (arith, m .low); high = m .high }
 moved-on text low high Fail h m = tt
 
@@ -32,10 +35,16 @@ pub placed : (text : List ℕ) (low : ℕ) (r : Step) → Moved text low r → P
 placed text low (Got v n) m = m .high
 placed text low Fail m = tt
 
-pub reached : (text : List ℕ) (low : ℕ) {r : Step} {v : Value} {n : ℕ} → r ≡ Got v n → Moved text low r → Reached text low v n
+pub reached : (text : List ℕ) (low : ℕ) {r : Step} {v : Value} {n : ℕ} →
+    r ≡ Got v n →
+    Moved text low r →
+    Reached text low v n
 reached text low e m = subst (Moved text low) e m
 
-pub follows : (text : List ℕ) (low : ℕ) {r : Step} {v : Value} {n : ℕ} → r ≡ Got v n → Moved text low r → Follows text n v
+pub follows : (text : List ℕ) (low : ℕ) {r : Step} {v : Value} {n : ℕ} →
+    r ≡ Got v n →
+    Moved text low r →
+    Follows text n v
 follows text low e m =
     let p = reached text low e m in
     record { high = p .high; small = p .small }
@@ -45,7 +54,12 @@ follows text low e m =
 lower : (l at n m : ℕ) → at < n → n ≤ l → m ≤ 2 → 3 * (l - n) + m < 3 * (l - at) + 0
 lower l at n m h k e = omega arith
 
-pub spent : (text : List ℕ) (at n m k : ℕ) → at < n → n ≤ length text → m ≤ 2 → Enough text at 0 (suc k) → Enough text n m k
+pub spent : (text : List ℕ) (at n m k : ℕ) →
+    at < n →
+    n ≤ length text →
+    m ≤ 2 →
+    Enough text at 0 (suc k) →
+    Enough text n m k
 spent text at n m k h i e f = omega (arith, lower (length text) at n m h i e)
 
 -- ---- what a call asks: the measure falls, and the place is in the text
@@ -104,5 +118,9 @@ plainly op text low h e m p = p ∙ held-both op h (reached text low e m .small)
 
 -- ---- the next byte is another
 
-pub other : {text : List ℕ} {at : ℕ} {l : Lexed} → Lexes text at l → (b : ℕ) → (l .byte ≡ b → ⊥) → eqb (next (drop at text)) b ≡ false
+pub other : {text : List ℕ} {at : ℕ} {l : Lexed} →
+    Lexes text at l →
+    (b : ℕ) →
+    (l .byte ≡ b → ⊥) →
+    eqb (next (drop at text)) b ≡ false
 other {l = l} x b h = ap (λ (z : ℕ). eqb z b) (sym (x .same)) ∙ ne-eqb (l .byte) b h

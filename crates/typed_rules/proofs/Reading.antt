@@ -45,7 +45,10 @@ number-yes {text} {at} {l} {w} d h v =
       moved = record { small = v .small; low = omega (arith, d .count); high = d .high };
     }
 
-pub number-no : {text : List ℕ} {at : ℕ} {l : Digits} → Runs text at l → 10 < l .end - at → ReadsNumber text at Fail
+pub number-no : {text : List ℕ} {at : ℕ} {l : Digits} →
+    Runs text at l →
+    10 < l .end - at →
+    ReadsNumber text at Fail
 number-no {text} {at} {l} d h =
     record {
       same =
@@ -102,7 +105,10 @@ unfolding negated
 small-negated (Linear f) h = negated-small h refl
 small-negated (Beyond n) h = tt
 
-opposed-moved : (text : List ℕ) (low high : ℕ) (r : Step) → low ≤ high → Moved text high r → Moved text low (opposedOf r)
+opposed-moved : (text : List ℕ) (low high : ℕ) (r : Step) →
+    low ≤ high →
+    Moved text high r →
+    Moved text low (opposedOf r)
 opposed-moved text low high (Got v n) h m = record { small = small-negated v (m .small); low = omega (arith, m .low); high = m .high }
 opposed-moved text low high Fail h m = tt
 
@@ -115,7 +121,11 @@ closed-all i (got a r) = go (eqb (next r) 41)
     go true = refl
     go false = refl
 
-closed-moved : (text : List ℕ) (low high : ℕ) (s r : Step) → low ≤ high → Moved text high s → Onward s r (length text) → Moved text low r
+closed-moved : (text : List ℕ) (low high : ℕ) (s r : Step) →
+    low ≤ high →
+    Moved text high s →
+    Onward s r (length text) →
+    Moved text low r
 closed-moved text low high (Got v n) (Got w m) h k o =
     record { small = subst Small (sym (o .0)) (k .small); low = omega (arith, k .low, o .1); high = o .2 }
 closed-moved text low high (Got v n) Fail h k o = tt
@@ -138,7 +148,10 @@ reads-factor text at depth r f m = record { same = go; moved = m }
     go (suc k) e = f k e
 
 module _ {text : List ℕ} {at : ℕ} {l : Lexed} (x : Lexes text at l) {depth : ℕ} where
-  pub reads-number : {r : Step} → digit (l .byte) ≡ true → ReadsNumber text (l .start) r → ReadsFactor text at depth r
+  pub reads-number : {r : Step} →
+      digit (l .byte) ≡ true →
+      ReadsNumber text (l .start) r →
+      ReadsFactor text at depth r
   reads-number {r} b n =
       reads-factor text at depth r
       (λ k e.
@@ -171,7 +184,11 @@ module _ {text : List ℕ} {at : ℕ} {l : Lexed} (x : Lexes text at l) {depth :
       (record { a = within-numeral tt; b = within-numeral tt; c = within-numeral tt }) (omega (arith, b))
       (λ k. ap (valued valueFactor) (factor-y k depth (drop at text) (sym (x .same) ∙ b)))
 
-  pub reads-minus : {s r : Step} → l .byte ≡ 45 → ReadsFactor text (l .next) depth s → r ≡ opposedOf s → ReadsFactor text at depth r
+  pub reads-minus : {s r : Step} →
+      l .byte ≡ 45 →
+      ReadsFactor text (l .next) depth s →
+      r ≡ opposedOf s →
+      ReadsFactor text at depth r
   reads-minus {s} b f z =
       rw z
       (reads-factor text at depth (opposedOf s)

@@ -96,7 +96,11 @@ module _ {text : List ℕ} {at kind : ℕ} {v : Value} {b : ℕ} (x : b ≡ firs
             ∙ sym (ap judged (z .1));
       }
 
-  pub right-fails : {s : Step} → b ≡ 61 → s ≡ Fail → ReadsSide text (at + 1) 8 s → JudgesRight text at kind v (refusal 13)
+  pub right-fails : {s : Step} →
+      b ≡ 61 →
+      s ≡ Fail →
+      ReadsSide text (at + 1) 8 s →
+      JudgesRight text at kind v (refusal 13)
   right-fails {s} y g f =
       record {
         same = λ a i r p q.
@@ -123,10 +127,16 @@ module _ {text : List ℕ} {at : ℕ} {v : Value} {l : Lexed} (x : Lexes text at
             ∙ sym (ap judged (f a));
       }
 
-  pub judges-most : {t : Typed} → l .byte ≡ 60 → JudgesRight text (l .next) 1 v t → Judges text at v t
+  pub judges-most : {t : Typed} →
+      l .byte ≡ 60 →
+      JudgesRight text (l .next) 1 v t →
+      Judges text at v t
   judges-most b = judges at-most (λ a. relation-most a (drop at text) (sym (x .same) ∙ b))
 
-  pub judges-least : {t : Typed} → l .byte ≡ 62 → JudgesRight text (l .next) 2 v t → Judges text at v t
+  pub judges-least : {t : Typed} →
+      l .byte ≡ 62 →
+      JudgesRight text (l .next) 2 v t →
+      Judges text at v t
   judges-least b = judges at-least (λ a. relation-least a (drop at text) (sym (x .same) ∙ b))
 
   pub judges-other : (l .byte ≡ 60 → ⊥) → (l .byte ≡ 62 → ⊥) → Judges text at v (refusal 13)
@@ -144,7 +154,10 @@ text-got {text} {s} g f j =
     let z = inv-got valueSide (sideOf (drop 0 text)) (side-of text 0 s f ∙ ap (view text) g) in
     j .same (z .0) (z .2) ∙ sym (ap (λ (p : Parsed Side). judged (bind p (λ a r. relationOf a r))) (z .1))
 
-pub text-fails : {text : List ℕ} {s : Step} → s ≡ Fail → ReadsSide text 0 8 s → refusal 13 ≡ judged (parse text)
+pub text-fails : {text : List ℕ} {s : Step} →
+    s ≡ Fail →
+    ReadsSide text 0 8 s →
+    refusal 13 ≡ judged (parse text)
 unfolding parse
 text-fails {text} {s} g f =
     let z = inv-fail valueSide (sideOf (drop 0 text)) (side-of text 0 s f ∙ ap (view text) g) in
