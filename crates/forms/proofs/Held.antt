@@ -26,5 +26,8 @@ held-small (Linear f) h = ap (λ (t : Bool). cond t (Linear f) (Beyond 15)) (all
 held-small (Beyond n) h = refl
 
 -- of two operands
-pub held-both : {A : Type 0} (op : Value → Value → A) {v w : Value} → Small v → Small w → op (held v) (held w) ≡ op v w
+pub held-both : {A : Type 0} (op : Value → Value → A) {v w : Value} →
+    Small v →
+    Small w →
+    op (held v) (held w) ≡ op v w
 held-both op {v} {w} h k = ap (λ (u : Value). op u (held w)) (held-small v h) ∙ ap (op v) (held-small w k)

@@ -36,9 +36,15 @@ small-fits : {z : ℤ} → Within limit z → SFits w64 z
 small-fits h = within-fits h tt
 
 -- an operation on numbers that were read back
-two-is : (op : ℤ → ℤ → ℤ) {y z r : ℤ} → Within limit y → Within limit z → SFits w64 (op y z) → r ≡ op (read y) (read z) → read r ≡ op y z
+two-is : (op : ℤ → ℤ → ℤ) {y z r : ℤ} →
+    Within limit y →
+    Within limit z →
+    SFits w64 (op y z) →
+    r ≡ op (read y) (read z) →
+    read r ≡ op y z
 two-is op {y} {z} {r} h k f e =
-    let g : r ≡ op y z = e ∙ ap (λ (t : ℤ). op t (read z)) (toZ-ofZ {w = w64} (small-fits h)) ∙ ap (op y) (toZ-ofZ {w = w64} (small-fits k)) in
+    let g : r ≡ op y z = e ∙ ap (λ (t : ℤ). op t (read z)) (toZ-ofZ {w = w64} (small-fits h))
+    ∙ ap (op y) (toZ-ofZ {w = w64} (small-fits k)) in
     ap read g ∙ toZ-ofZ {w = w64} f
 
 pub add-is : {y z r : ℤ} → Within limit y → Within limit z → r ≡ read y +ℤ read z → read r ≡ y +ℤ z
@@ -47,7 +53,13 @@ add-is h k e = two-is _+ℤ_ h k (within-fits (within-add h k) tt) e
 pub sub-is : {y z r : ℤ} → Within limit y → Within limit z → r ≡ read y -ℤ read z → read r ≡ y -ℤ z
 sub-is h k e = two-is _-ℤ_ h k (within-fits (within-sub h k) tt) e
 
-pub cross-is : {p q s t r : ℤ} → Within limit p → Within limit q → Within limit s → Within limit t → r ≡ read p *ℤ read q +ℤ read s *ℤ read t → read r ≡ p *ℤ q +ℤ s *ℤ t
+pub cross-is : {p q s t r : ℤ} →
+    Within limit p →
+    Within limit q →
+    Within limit s →
+    Within limit t →
+    r ≡ read p *ℤ read q +ℤ read s *ℤ read t →
+    read r ≡ p *ℤ q +ℤ s *ℤ t
 cross-is {p} {q} {s} {t} {r} hp hq hs ht e =
     let g : r ≡ p *ℤ q +ℤ s *ℤ t =
     e ∙ ap (λ (z : ℤ). z *ℤ read q +ℤ read s *ℤ read t) (toZ-ofZ {w = w64} (small-fits hp))
@@ -57,7 +69,11 @@ cross-is {p} {q} {s} {t} {r} hp hq hs ht e =
     ap read g ∙ toZ-ofZ {w = w64} (within-fits (within-add (within-mul hp hq) (within-mul hs ht)) tt)
 
 -- the same of one product, beside a product of zeros
-pub product-is : {y z r : ℤ} → Within limit y → Within limit z → r ≡ read y *ℤ read z +ℤ read (pos 0) *ℤ read (pos 0) → read r ≡ y *ℤ z
+pub product-is : {y z r : ℤ} →
+    Within limit y →
+    Within limit z →
+    r ≡ read y *ℤ read z +ℤ read (pos 0) *ℤ read (pos 0) →
+    read r ≡ y *ℤ z
 product-is {y} {z} h k e = cross-is {s = pos 0} {t = pos 0} h k (within-numeral tt) (within-numeral tt) e ∙ +ℤ-idr (y *ℤ z)
 
 pub within-opposite : {z : ℤ} → Within limit z → Within limit (pos 0 -ℤ z)
@@ -97,7 +113,10 @@ same-value p h = record { same = h .same ∙ p; small = h .small }
 pub limited-form : {f g : Form} {r : Value} → f ≡ g → Valued (limited f) r → Valued (limited g) r
 limited-form p h = same-value (ap limited p) h
 
-pub limited-yes : (f : Form) {t : Bool} → t ≡ bounded limit limit f → t ≡ true → Valued (limited f) (Linear f)
+pub limited-yes : (f : Form) {t : Bool} →
+    t ≡ bounded limit limit f →
+    t ≡ true →
+    Valued (limited f) (Linear f)
 unfolding limited
 limited-yes f e t =
     let all = both (inside limit (f .a)) (inside limit (f .b) && inside limit (f .c)) (sym e ∙ t) in
@@ -107,11 +126,17 @@ limited-yes f e t =
       small = record { a = within-is (f .a) (all .0); b = within-is (f .b) (rest .0); c = within-is (f .c) (rest .1) };
     }
 
-pub limited-no : (f : Form) {t : Bool} → t ≡ bounded limit limit f → t ≡ false → Valued (limited f) (Beyond 15)
+pub limited-no : (f : Form) {t : Bool} →
+    t ≡ bounded limit limit f →
+    t ≡ false →
+    Valued (limited f) (Beyond 15)
 unfolding limited
 limited-no f e t = record { same = rw (sym e ∙ t); small = tt }
 
-pub numeral-yes : (n : ℕ) (z : ℤ) → n ≤ limit → z ≡ pos n → Valued (numeral n) (Linear (form (pos 0) (pos 0) z))
+pub numeral-yes : (n : ℕ) (z : ℤ) →
+    n ≤ limit →
+    z ≡ pos n →
+    Valued (numeral n) (Linear (form (pos 0) (pos 0) z))
 unfolding numeral
 numeral-yes n z h e =
     record {
@@ -153,10 +178,16 @@ module _ {v w : Value} {p : Pair} (x : Paired v w p) where
   pub small-forms : {f g : Form} → p ≡ Forms f g → SmallForms f g
   small-forms e = subst SmallIn e (x .small)
 
-  pub combined : (op : Form → Form → Value) {q : Pair} {r : Value} → p ≡ q → Valued (joined op Beyond q) r → Valued (combine op v w) r
+  pub combined : (op : Form → Form → Value) {q : Pair} {r : Value} →
+      p ≡ q →
+      Valued (joined op Beyond q) r →
+      Valued (combine op v w) r
   combined op e h = same-value (sym (combine-pair op v w ∙ ap (joined op Beyond) (sym (x .same) ∙ e))) h
 
-  pub concluded : (k : ℕ) {q : Pair} {r : Typed} → p ≡ q → r ≡ joined (λ f g. final (written k f g)) (λ n. refusal n) q → r ≡ conclude k v w
+  pub concluded : (k : ℕ) {q : Pair} {r : Typed} →
+      p ≡ q →
+      r ≡ joined (λ f g. final (written k f g)) (λ n. refusal n) q →
+      r ≡ conclude k v w
   concluded k e h = h ∙ sym (conclude-pair k v w ∙ ap (joined (λ f g. final (written k f g)) (λ n. refusal n)) (sym (x .same) ∙ e))
 
 pub refused : {n : ℕ} → Valued (Beyond n) (Beyond n)
@@ -169,7 +200,11 @@ negated-small {f} h e =
 abbrev writing : ℕ → ℤ → ℤ → ℤ → Written
 writing k a b c = record { kind = k; a = a; b = b; c = c }
 
-pub written-is : (k : ℕ) {a a′ b b′ c c′ : ℤ} → a ≡ a′ → b ≡ b′ → c ≡ c′ → _≡_ {A = Written} (record { kind = k; a = a; b = b; c = c }) (record { kind = k; a = a′; b = b′; c = c′ })
+pub written-is : (k : ℕ) {a a′ b b′ c c′ : ℤ} →
+    a ≡ a′ →
+    b ≡ b′ →
+    c ≡ c′ →
+    _≡_ {A = Written} (record { kind = k; a = a; b = b; c = c }) (record { kind = k; a = a′; b = b′; c = c′ })
 written-is k {a} {a′} {b} {b′} {c} {c′} p q r =
     ap (λ (x : ℤ). writing k x b c) p ∙ ap (λ (x : ℤ). writing k a′ x c) q ∙ ap (λ (x : ℤ). writing k a′ b′ x) r
 

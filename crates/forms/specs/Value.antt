@@ -1,5 +1,6 @@
--- What the operations on values are: a form a·x + b·y + c, or the refusal, 14 or 15, of the first number or operation concerned: the left operand, then the right
--- operand, then the operation itself, 14 before 15. Of two sides: the left, then the right, then the final a, b and c.
+-- What the operations on values are: a form a·x + b·y + c, or the refusal, 14 or 15, of the first number or operation concerned: the
+-- left operand, then the right operand, then the operation itself, 14 before 15. Of two sides: the left, then the right, then the
+-- final a, b and c.
 use mathlib.Core.Bool.{Bool, _&&_, cond}
 use Prim.Native.Nat.{ℕ}
 use lib.Dec.{leb}
@@ -76,7 +77,8 @@ difference l r = combine (λ f g. limited (subForms f g)) l r
 unfoldable pub product : Value → Value → Value
 product l r = combine multiplied l r
 
--- an operand: the operations take any, and refuse a form beyond the limit as they refuse a number beyond it. One within it is as it is (`held-small`).
+-- an operand: the operations take any, and refuse a form beyond the limit as they refuse a number beyond it. One within it is as it is
+-- (`held-small`).
 unfoldable pub held : Value → Value
 held v = after limited v
 

@@ -1,5 +1,6 @@
-// Values of parts of a typed text: forms a·x + b·y + c whose numbers are at most 1,000,000,000 either way, or a refusal. The operations on them, and the rule that
-// two of them make. Every function that can be called from outside is total: an operand beyond the limit is refused as a number beyond it would be.
+// Values of parts of a typed text: forms a·x + b·y + c whose numbers are at most 1,000,000,000 either way, or a refusal. The
+// operations on them, and the rule that two of them make. Every function that can be called from outside is total: an operand beyond
+// the limit is refused as a number beyond it would be.
 use answers::Refusal;
 use within::add_forms;
 use within::finished;

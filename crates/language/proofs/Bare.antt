@@ -51,7 +51,10 @@ erase-byte : (b : ℕ) (s : List ℕ) → eqb b 32 ≡ false → erase (b ∷ s)
 unfolding erase
 erase-byte b s e = rw e
 
-erase-item : (i b : ℕ) (s w : List ℕ) → eqb b 32 ≡ false → erase s ≡ w → erase (pad i (b ∷ s)) ≡ b ∷ w
+erase-item : (i b : ℕ) (s w : List ℕ) →
+    eqb b 32 ≡ false →
+    erase s ≡ w →
+    erase (pad i (b ∷ s)) ≡ b ∷ w
 erase-item i b s w e h = erase-pad i (b ∷ s) ∙ erase-byte b s e ∙ ap (λ (q : List ℕ). b ∷ q) h
 
 erase-digits : (ds r : List ℕ) → Digits ds → erase (ds ++ r) ≡ ds ++ erase r
@@ -92,14 +95,18 @@ unfolding erase spellRelation
 erase-relation at-most r = refl
 erase-relation at-least r = refl
 
-pub bare-spells : (r : Rule) → LawfulSide (r .left) 8 → LawfulSide (r .right) 8 → erase (spell r) ≡ spell (bare r)
+pub bare-spells : (r : Rule) →
+    LawfulSide (r .left) 8 →
+    LawfulSide (r .right) 8 →
+    erase (spell r) ≡ spell (bare r)
 unfolding spell erase pad
 bare-spells r l m =
     erase-side (r .left) 8 (pad (r .gap) (spellRelation (r .relation) (spellSide (r .right) (pad (r .end) [])))) l
     ∙ ap (spellSide (bareSide (r .left)))
     (erase-pad (r .gap) (spellRelation (r .relation) (spellSide (r .right) (pad (r .end) [])))
     ∙ erase-relation (r .relation) (spellSide (r .right) (pad (r .end) []))
-    ∙ ap (spellRelation (r .relation)) (erase-side (r .right) 8 (pad (r .end) []) m ∙ ap (spellSide (bareSide (r .right))) (erase-pad (r .end) [])))
+    ∙ ap (spellRelation (r .relation))
+    (erase-side (r .right) 8 (pad (r .end) []) m ∙ ap (spellSide (bareSide (r .right))) (erase-pad (r .end) [])))
 
 -- ---- it is lawful, and its value is the same
 
@@ -153,11 +160,20 @@ bare-worth r =
 
 -- ---- each text in one way, spaces aside
 
-pub unique-bare : (r q : Rule) → LawfulRule r → LawfulRule q → erase (spell r) ≡ erase (spell q) → bare r ≡ bare q
+pub unique-bare : (r q : Rule) →
+    LawfulRule r →
+    LawfulRule q →
+    erase (spell r) ≡ erase (spell q) →
+    bare r ≡ bare q
 unique-bare r q l m e =
-    unique-sides (bare r) (bare q) (bare-side (r .left) 8 (l .left)) (bare-side (r .right) 8 (l .right)) (bare-side (q .left) 8 (m .left)) (bare-side (q .right) 8 (m .right))
+    unique-sides (bare r) (bare q) (bare-side (r .left) 8 (l .left)) (bare-side (r .right) 8 (l .right))
+    (bare-side (q .left) 8 (m .left)) (bare-side (q .right) 8 (m .right))
     (sym (bare-spells r (l .left) (l .right)) ∙ e ∙ bare-spells q (m .left) (m .right))
 
-pub answered-alike : (r q : Rule) → LawfulRule r → LawfulRule q → erase (spell r) ≡ erase (spell q) → answer (spell r) ≡ answer (spell q)
+pub answered-alike : (r q : Rule) →
+    LawfulRule r →
+    LawfulRule q →
+    erase (spell r) ≡ erase (spell q) →
+    answer (spell r) ≡ answer (spell q)
 answered-alike r q l m e =
     answered r l ∙ sym (bare-worth r) ∙ ap valueRule (unique-bare r q l m e) ∙ bare-worth q ∙ sym (answered q m)

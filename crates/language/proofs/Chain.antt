@@ -1,5 +1,6 @@
--- Factors joined by * make a term, and terms joined by + and - make a side: one shape. What is proved of both is proved once, of a chain of items: how an item and
--- a whole are spelt, which are lawful, what they are worth, and how the parser reads the first item and goes on after a joining byte.
+-- Factors joined by * make a term, and terms joined by + and - make a side: one shape. What is proved of both is proved once, of a
+-- chain of items: how an item and a whole are spelt, which are lawful, what they are worth, and how the parser reads the first item
+-- and goes on after a joining byte.
 use mathlib.Core.Path.{_≡_, refl}
 use mathlib.Core.Bool.{false}
 use mathlib.Core.List.{List, _∷_}
@@ -39,10 +40,15 @@ pub record Joins {A B : Type 0} (c : Chain A B) (byte : ℕ) (join : B → ℕ �
   pub few : c .extra ≤ 1
   pub some : 0 < byte
   pub no-space : eqb byte 32 ≡ false
-  pub lawful : (b : B) (i : ℕ) (a : A) (d : ℕ) → c .LawfulWhole b d → c .LawfulItem a d → c .LawfulWhole (join b i a) d
+  pub lawful : (b : B) (i : ℕ) (a : A) (d : ℕ) →
+      c .LawfulWhole b d →
+      c .LawfulItem a d →
+      c .LawfulWhole (join b i a) d
   pub spelt : (b : B) (i : ℕ) (a : A) (r : List ℕ) → c .spell-whole b (pad i (byte ∷ c .spell-item a r)) ≡ c .spell-whole (join b i a) r
   pub worth : (b : B) (i : ℕ) (a : A) → c .worth-whole (join b i a) ≡ op (c .worth-whole b) (c .worth-item a)
-  pub step : (k d : ℕ) (s : List ℕ) (b : B) → next s ≡ byte → c .more (suc k) d b s ≡ bind (c .item-by k d (beyond s)) (λ a r. c .more k d (join b (lead s) a) r)
+  pub step : (k d : ℕ) (s : List ℕ) (b : B) →
+      next s ≡ byte →
+      c .more (suc k) d b s ≡ bind (c .item-by k d (beyond s)) (λ a r. c .more k d (join b (lead s) a) r)
 
 -- ---- factors in a term
 
@@ -68,7 +74,17 @@ one-factor = record { lawful = λ a d l. l; spelt = λ a r. refl; worth = λ a. 
 
 pub by-star : Joins terms 42 times product
 unfolding spellFactor LawfulFactor valueFactor
-by-star = record { few = omega arith; some = omega arith; no-space = refl; lawful = λ b i a d l m. (l, m); spelt = λ b i a r. refl; worth = λ b i a. refl; step = factors-star }
+by-star =
+    record {
+      few = omega arith;
+      some = omega arith;
+      no-space = refl;
+      lawful = λ b i a d l m. (l, m);
+      spelt = λ b i a r. refl;
+      worth =
+          λ b i a. refl;
+      step = factors-star;
+    }
 
 -- ---- terms in a side
 
@@ -94,8 +110,28 @@ one-term = record { lawful = λ a d l. l; spelt = λ a r. refl; worth = λ a. re
 
 pub by-plus : Joins sides 43 plus sum
 unfolding spellFactor LawfulFactor valueFactor
-by-plus = record { few = omega arith; some = omega arith; no-space = refl; lawful = λ b i a d l m. (l, m); spelt = λ b i a r. refl; worth = λ b i a. refl; step = terms-plus }
+by-plus =
+    record {
+      few = omega arith;
+      some = omega arith;
+      no-space = refl;
+      lawful = λ b i a d l m. (l, m);
+      spelt = λ b i a r. refl;
+      worth =
+          λ b i a. refl;
+      step = terms-plus;
+    }
 
 pub by-minus : Joins sides 45 less difference
 unfolding spellFactor LawfulFactor valueFactor
-by-minus = record { few = omega arith; some = omega arith; no-space = refl; lawful = λ b i a d l m. (l, m); spelt = λ b i a r. refl; worth = λ b i a. refl; step = terms-less }
+by-minus =
+    record {
+      few = omega arith;
+      some = omega arith;
+      no-space = refl;
+      lawful = λ b i a d l m. (l, m);
+      spelt = λ b i a r. refl;
+      worth =
+          λ b i a. refl;
+      step = terms-less;
+    }

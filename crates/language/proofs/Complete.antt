@@ -26,11 +26,13 @@ mutual
   long-factor (rate-x i) r = omega (arith, length-pad i (120 ∷ r))
   long-factor (rate-y i) r = omega (arith, length-pad i (121 ∷ r))
   long-factor (minus i f) r = omega (arith, length-pad i (45 ∷ spellFactor f r), long-factor f r)
-  long-factor (group i s j) r = omega (arith, length-pad i (40 ∷ spellSide s (pad j (41 ∷ r))), long-side s (pad j (41 ∷ r)), length-pad j (41 ∷ r))
+  long-factor (group i s j) r =
+      omega (arith, length-pad i (40 ∷ spellSide s (pad j (41 ∷ r))), long-side s (pad j (41 ∷ r)), length-pad j (41 ∷ r))
 
   long-term : (t : Term) (r : List ℕ) → length r ≤ length (spellTerm t r)
   long-term (factor f) r = long-factor f r
-  long-term (times t i f) r = omega (arith, long-term t (pad i (42 ∷ spellFactor f r)), length-pad i (42 ∷ spellFactor f r), long-factor f r)
+  long-term (times t i f) r =
+      omega (arith, long-term t (pad i (42 ∷ spellFactor f r)), length-pad i (42 ∷ spellFactor f r), long-factor f r)
 
   long-side : (a : Side) (r : List ℕ) → length r ≤ length (spellSide a r)
   long-side (term t) r = long-term t r
@@ -42,14 +44,20 @@ mutual
 digit-yes : (b : ℕ) → 48 ≤ b → b ≤ 57 → digit b ≡ true
 digit-yes b l h = rw (le-leb 48 b l, le-leb b 57 h)
 
-run-past : (ds r : List ℕ) → Digits ds → digit (first r) ≡ false → (run (ds ++ r) ≡ ds) × (past (ds ++ r) ≡ r)
+run-past : (ds r : List ℕ) →
+    Digits ds →
+    digit (first r) ≡ false →
+    (run (ds ++ r) ≡ ds) × (past (ds ++ r) ≡ r)
 run-past [] [] h e = (run-none, past-none)
 run-past [] (b ∷ r) h e = (run-other b r e, past-other b r e)
 run-past (b ∷ ds) r (more l u h) e =
     let z = run-past ds r h e in
     (run-digit b (ds ++ r) (digit-yes b l u) ∙ ap (λ (q : List ℕ). b ∷ q) (z .0), past-digit b (ds ++ r) (digit-yes b l u) ∙ z .1)
 
-number-complete : (k d i : ℕ) (ds r : List ℕ) → Number ds → digit (first r) ≡ false → factorBy (suc k) d (pad i (ds ++ r)) ≡ got (number i ds) r
+number-complete : (k d i : ℕ) (ds r : List ℕ) →
+    Number ds →
+    digit (first r) ≡ false →
+    factorBy (suc k) d (pad i (ds ++ r)) ≡ got (number i ds) r
 number-complete k d i [] r n e = absurd (omega (arith, n .some))
 number-complete k d i (b ∷ ds) r n e =
     let z = run-past (b ∷ ds) r (n .digits) e in
@@ -77,10 +85,20 @@ pub record AfterSide (r : List ℕ) : Type 0 where
   pub no-plus : eqb (next r) 43 ≡ false
   pub no-minus : eqb (next r) 45 ≡ false
 
-after-term : (i b : ℕ) (r : List ℕ) → digit b ≡ false → eqb b 32 ≡ false → eqb b 42 ≡ false → AfterTerm (pad i (b ∷ r))
+after-term : (i b : ℕ) (r : List ℕ) →
+    digit b ≡ false →
+    eqb b 32 ≡ false →
+    eqb b 42 ≡ false →
+    AfterTerm (pad i (b ∷ r))
 after-term i b r d s e = record { no-digit = first-pad i b r d; no-star = not-next i b 42 r s e }
 
-after-side : (i b : ℕ) (r : List ℕ) → digit b ≡ false → eqb b 32 ≡ false → eqb b 42 ≡ false → eqb b 43 ≡ false → eqb b 45 ≡ false → AfterSide (pad i (b ∷ r))
+after-side : (i b : ℕ) (r : List ℕ) →
+    digit b ≡ false →
+    eqb b 32 ≡ false →
+    eqb b 42 ≡ false →
+    eqb b 43 ≡ false →
+    eqb b 45 ≡ false →
+    AfterSide (pad i (b ∷ r))
 after-side i b r d s e f g = record { term = after-term i b r d s e; no-plus = not-next i b 43 r s f; no-minus = not-next i b 45 r s g }
 
 rate-x-complete : (k d i : ℕ) (r : List ℕ) → factorBy (suc k) d (pad i (120 ∷ r)) ≡ got (rate-x i) r
@@ -89,13 +107,17 @@ rate-x-complete k d i r = factor-x k d (pad i (120 ∷ r)) (next-in i 120 r refl
 rate-y-complete : (k d i : ℕ) (r : List ℕ) → factorBy (suc k) d (pad i (121 ∷ r)) ≡ got (rate-y i) r
 rate-y-complete k d i r = factor-y k d (pad i (121 ∷ r)) (next-in i 121 r refl) ∙ in-pad (λ j q. got (rate-y j) q) i 121 r refl
 
-minus-complete : (k d i : ℕ) (f : Factor) (q r : List ℕ) → factorBy k d q ≡ got f r → factorBy (suc k) d (pad i (45 ∷ q)) ≡ got (minus i f) r
+minus-complete : (k d i : ℕ) (f : Factor) (q r : List ℕ) →
+    factorBy k d q ≡ got f r →
+    factorBy (suc k) d (pad i (45 ∷ q)) ≡ got (minus i f) r
 minus-complete k d i f q r e =
     factor-minus k d (pad i (45 ∷ q)) (next-in i 45 q refl)
     ∙ in-pad (λ j z. bind (factorBy k d z) (λ g w. got (minus j g) w)) i 45 q refl
     ∙ ap (λ (p : Parsed Factor). bind p (λ g w. got (minus i g) w)) e
 
-group-complete : (k d i : ℕ) (a : Side) (j : ℕ) (q r : List ℕ) → sideBy k d q ≡ got a (pad j (41 ∷ r)) → factorBy (suc k) (suc d) (pad i (40 ∷ q)) ≡ got (group i a j) r
+group-complete : (k d i : ℕ) (a : Side) (j : ℕ) (q r : List ℕ) →
+    sideBy k d q ≡ got a (pad j (41 ∷ r)) →
+    factorBy (suc k) (suc d) (pad i (40 ∷ q)) ≡ got (group i a j) r
 group-complete k d i a j q r e =
     factor-group k (suc d) (pad i (40 ∷ q)) (next-in i 40 q refl)
     ∙ in-pad (λ n z. bind (sideBy k d z) (λ b w. closed n b w)) i 40 q refl
@@ -115,7 +137,11 @@ pub record ReadUpTo {A B : Type 0} (c : Chain A B) (k d : ℕ) (s : List ℕ) (b
 abbrev Takes : {A B : Type 0} → Chain A B → ℕ → List ℕ → A → List ℕ → Type 0
 Takes c d s a r = (m : ℕ) → 3 * length s + c .extra < m → c .item-by m d s ≡ got a r
 
-first-run : {A B : Type 0} {c : Chain A B} (o : Begins c) (k d : ℕ) (s : List ℕ) (a : A) (r : List ℕ) → 3 * length s + suc (c .extra) < k → length r ≤ length s → Takes c d s a r → ReadUpTo c k d s (c .one a) r
+first-run : {A B : Type 0} {c : Chain A B} (o : Begins c) (k d : ℕ) (s : List ℕ) (a : A) (r : List ℕ) →
+    3 * length s + suc (c .extra) < k →
+    length r ≤ length s →
+    Takes c d s a r →
+    ReadUpTo c k d s (c .one a) r
 first-run o zero d s a r e l h = absurd (omega (arith, e))
 first-run o (suc zero) d s a r e l h = absurd (omega (arith, e))
 first-run {A} {c = c} o (suc (suc k)) d s a r e l h =
@@ -125,31 +151,49 @@ first-run {A} {c = c} o (suc (suc k)) d s a r e l h =
       enough = omega (arith, e, l);
     }
 
-next-run : {A B : Type 0} {c : Chain A B} {byte : ℕ} {join : B → ℕ → A → B} {op : Value → Value → Value} (j : Joins c byte join op) (k d : ℕ) (s : List ℕ) (b : B) (i : ℕ) (a : A) (q r : List ℕ) → ReadUpTo c k d s b (pad i (byte ∷ q)) → Takes c d q a r → length r ≤ length q → ReadUpTo c k d s (join b i a) r
+next-run : {A B : Type 0} {c : Chain A B} {byte : ℕ} {join : B → ℕ → A → B} {op : Value → Value → Value} (j : Joins c byte join op) (k d : ℕ) (s : List ℕ) (b : B) (i : ℕ) (a : A) (q r : List ℕ) →
+    ReadUpTo c k d s b (pad i (byte ∷ q)) →
+    Takes c d q a r →
+    length r ≤ length q →
+    ReadUpTo c k d s (join b i a) r
 next-run {A} {c = c} {byte = byte} {join = join} j k d s b i a q r x h l = go (x .fuel) (x .same) (x .enough)
   where
-    go : (m : ℕ) → c .whole-by k d s ≡ c .more (suc m) d b (pad i (byte ∷ q)) → 3 * length (pad i (byte ∷ q)) ≤ m → ReadUpTo c k d s (join b i a) r
+    go : (m : ℕ) →
+        c .whole-by k d s ≡ c .more (suc m) d b (pad i (byte ∷ q)) →
+        3 * length (pad i (byte ∷ q)) ≤ m →
+        ReadUpTo c k d s (join b i a) r
     go zero e g = absurd (omega (arith, g, length-pad i (byte ∷ q)))
     go (suc m) e g =
         record {
           fuel = m;
           same = e ∙ j .step (suc m) d (pad i (byte ∷ q)) b (next-in i byte q (j .no-space))
               ∙ in-pad (λ n z. bind (c .item-by (suc m) d z) (λ o w. c .more (suc m) d (join b n o) w)) i byte q (j .no-space)
-              ∙ ap (λ (p : Parsed A). bind p (λ o w. c .more (suc m) d (join b i o) w)) (h (suc m) (omega (arith, g, length-pad i (byte ∷ q), j .few)));
+              ∙ ap (λ (p : Parsed A). bind p (λ o w. c .more (suc m) d (join b i o) w))
+              (h (suc m) (omega (arith, g, length-pad i (byte ∷ q), j .few)));
           enough = omega (arith, g, l, length-pad i (byte ∷ q));
         }
 
 -- with what may follow, reading stops there
-term-stops : (k d : ℕ) (s : List ℕ) (t : Term) (r : List ℕ) → AfterTerm r → ReadUpTo terms k d s t r → termBy k d s ≡ got t r
+term-stops : (k d : ℕ) (s : List ℕ) (t : Term) (r : List ℕ) →
+    AfterTerm r →
+    ReadUpTo terms k d s t r →
+    termBy k d s ≡ got t r
 term-stops k d s t r a x = x .same ∙ factors-end (x .fuel) d r t (a .no-star)
 
-side-stops : (k d : ℕ) (s : List ℕ) (a : Side) (r : List ℕ) → AfterSide r → ReadUpTo sides k d s a r → sideBy k d s ≡ got a r
+side-stops : (k d : ℕ) (s : List ℕ) (a : Side) (r : List ℕ) →
+    AfterSide r →
+    ReadUpTo sides k d s a r →
+    sideBy k d s ≡ got a r
 side-stops k d s a r z x = x .same ∙ terms-end (x .fuel) d r a (z .no-plus) (z .no-minus)
 
 mutual
   unfolding spellFactor LawfulFactor
 
-  pub factor-complete : (f : Factor) (k d : ℕ) (r : List ℕ) → LawfulFactor f d → digit (first r) ≡ false → 3 * length (spellFactor f r) < k → factorBy k d (spellFactor f r) ≡ got f r
+  pub factor-complete : (f : Factor) (k d : ℕ) (r : List ℕ) →
+      LawfulFactor f d →
+      digit (first r) ≡ false →
+      3 * length (spellFactor f r) < k →
+      factorBy k d (spellFactor f r) ≡ got f r
   factor-complete (number i ds) zero d r l e h = absurd (omega (arith, h))
   factor-complete (number i ds) (suc k) d r l e h = number-complete k d i ds r l e
   factor-complete (rate-x i) zero d r l e h = absurd (omega (arith, h))
@@ -164,16 +208,26 @@ mutual
   factor-complete (group i s j) (suc k) (suc d) r l e h =
       group-complete k d i s j (spellSide s (pad j (41 ∷ r))) r
       (side-stops k d (spellSide s (pad j (41 ∷ r))) s (pad j (41 ∷ r)) (after-side j 41 r refl refl refl refl refl)
-      (side-run s k d (pad j (41 ∷ r)) l (after-term j 41 r refl refl refl) (omega (arith, h, length-pad i (40 ∷ spellSide s (pad j (41 ∷ r)))))))
+      (side-run s k d (pad j (41 ∷ r)) l (after-term j 41 r refl refl refl)
+      (omega (arith, h, length-pad i (40 ∷ spellSide s (pad j (41 ∷ r)))))))
 
-  pub term-run : (t : Term) (k d : ℕ) (r : List ℕ) → LawfulTerm t d → digit (first r) ≡ false → 3 * length (spellTerm t r) + 1 < k → ReadUpTo terms k d (spellTerm t r) t r
-  term-run (factor f) k d r l e h = first-run one-factor k d (spellFactor f r) f r h (long-factor f r) (λ m g. factor-complete f m d r l e (omega (arith, g)))
+  pub term-run : (t : Term) (k d : ℕ) (r : List ℕ) →
+      LawfulTerm t d →
+      digit (first r) ≡ false →
+      3 * length (spellTerm t r) + 1 < k →
+      ReadUpTo terms k d (spellTerm t r) t r
+  term-run (factor f) k d r l e h =
+      first-run one-factor k d (spellFactor f r) f r h (long-factor f r) (λ m g. factor-complete f m d r l e (omega (arith, g)))
   term-run (times t i f) k d r l e h =
       next-run by-star k d (spellTerm t (pad i (42 ∷ spellFactor f r))) t i f (spellFactor f r) r
       (term-run t k d (pad i (42 ∷ spellFactor f r)) (l .0) (first-pad i 42 (spellFactor f r) refl) h)
       (λ m g. factor-complete f m d r (l .1) e (omega (arith, g))) (long-factor f r)
 
-  pub side-run : (a : Side) (k d : ℕ) (r : List ℕ) → LawfulSide a d → AfterTerm r → 3 * length (spellSide a r) + 2 < k → ReadUpTo sides k d (spellSide a r) a r
+  pub side-run : (a : Side) (k d : ℕ) (r : List ℕ) →
+      LawfulSide a d →
+      AfterTerm r →
+      3 * length (spellSide a r) + 2 < k →
+      ReadUpTo sides k d (spellSide a r) a r
   side-run (term t) k d r l z h =
       first-run one-term k d (spellTerm t r) t r h (long-term t r)
       (λ m g. term-stops m d (spellTerm t r) t r z (term-run t m d r l (z .no-digit) g))
@@ -188,7 +242,10 @@ mutual
 
 -- ---- a whole text
 
-side-complete : (a : Side) (r : List ℕ) → LawfulSide a 8 → AfterSide r → sideOf (spellSide a r) ≡ got a r
+side-complete : (a : Side) (r : List ℕ) →
+    LawfulSide a 8 →
+    AfterSide r →
+    sideOf (spellSide a r) ≡ got a r
 unfolding sideOf
 side-complete a r l z =
     side-stops (3 * length (spellSide a r) + 3) 8 (spellSide a r) a r z
@@ -213,36 +270,54 @@ unfolding spellRelation
 relation-after at-most n r = after-side n 60 (61 ∷ r) refl refl refl refl refl
 relation-after at-least n r = after-side n 62 (61 ∷ r) refl refl refl refl refl
 
-right-complete : (a : Side) (i : ℕ) (k : Relation) (b : Side) (n : ℕ) → LawfulSide b 8 → rightOf a i k (61 ∷ spellSide b (pad n [])) ≡ got (rule a i k b n) []
+right-complete : (a : Side) (i : ℕ) (k : Relation) (b : Side) (n : ℕ) →
+    LawfulSide b 8 →
+    rightOf a i k (61 ∷ spellSide b (pad n [])) ≡ got (rule a i k b n) []
 right-complete a i k b n l =
     right-got a i k (61 ∷ spellSide b (pad n [])) b (pad n []) refl (side-complete b (pad n []) l (end-after n))
     ∙ ap (λ (q : List ℕ). ended q (rule a i k b (lead (pad n [])))) (none-left n)
     ∙ ap (λ (m : ℕ). got (rule a i k b m) []) (lead-left n)
 
-relation-complete : (a : Side) (i : ℕ) (k : Relation) (b : Side) (n : ℕ) → LawfulSide b 8 → relationOf a (pad i (spellRelation k (spellSide b (pad n [])))) ≡ got (rule a i k b n) []
+relation-complete : (a : Side) (i : ℕ) (k : Relation) (b : Side) (n : ℕ) →
+    LawfulSide b 8 →
+    relationOf a (pad i (spellRelation k (spellSide b (pad n [])))) ≡ got (rule a i k b n) []
 unfolding spellRelation
 relation-complete a i k b n l = go k
   where
     q : List ℕ
     q = 61 ∷ spellSide b (pad n [])
 
-    by : (k : Relation) (c : ℕ) → eqb c 32 ≡ false → relationOf a (pad i (c ∷ q)) ≡ rightOf a (lead (pad i (c ∷ q))) k (beyond (pad i (c ∷ q))) → relationOf a (pad i (c ∷ q)) ≡ got (rule a i k b n) []
+    by : (k : Relation) (c : ℕ) →
+        eqb c 32 ≡ false →
+        relationOf a (pad i (c ∷ q)) ≡ rightOf a (lead (pad i (c ∷ q))) k (beyond (pad i (c ∷ q))) →
+        relationOf a (pad i (c ∷ q)) ≡ got (rule a i k b n) []
     by k c e f = f ∙ in-pad (λ m z. rightOf a m k z) i c q e ∙ right-complete a i k b n l
 
     go : (k : Relation) → relationOf a (pad i (spellRelation k (spellSide b (pad n [])))) ≡ got (rule a i k b n) []
     go at-most = by at-most 60 refl (relation-most a (pad i (60 ∷ q)) (next-in i 60 q refl))
     go at-least = by at-least 62 refl (relation-least a (pad i (62 ∷ q)) (next-in i 62 q refl))
 
-pub parse-complete : (r : Rule) → LawfulSide (r .left) 8 → LawfulSide (r .right) 8 → parse (spell r) ≡ got r []
+pub parse-complete : (r : Rule) →
+    LawfulSide (r .left) 8 →
+    LawfulSide (r .right) 8 →
+    parse (spell r) ≡ got r []
 unfolding parse spell
 parse-complete r l m =
-    ap (λ (p : Parsed Side). bind p (λ a q. relationOf a q)) (side-complete (r .left) (pad (r .gap) (spellRelation (r .relation) (spellSide (r .right) (pad (r .end) [])))) l (relation-after (r .relation) (r .gap) (spellSide (r .right) (pad (r .end) []))))
+    ap (λ (p : Parsed Side). bind p (λ a q. relationOf a q))
+    (side-complete (r .left) (pad (r .gap) (spellRelation (r .relation) (spellSide (r .right) (pad (r .end) [])))) l
+    (relation-after (r .relation) (r .gap) (spellSide (r .right) (pad (r .end) []))))
     ∙ relation-complete (r .left) (r .gap) (r .relation) (r .right) (r .end) m
 
 same-rule : {r q : Rule} {s t : List ℕ} → got r s ≡ got q t → r ≡ q
 same-rule e = cc
 
-pub unique-sides : (r q : Rule) → LawfulSide (r .left) 8 → LawfulSide (r .right) 8 → LawfulSide (q .left) 8 → LawfulSide (q .right) 8 → spell r ≡ spell q → r ≡ q
+pub unique-sides : (r q : Rule) →
+    LawfulSide (r .left) 8 →
+    LawfulSide (r .right) 8 →
+    LawfulSide (q .left) 8 →
+    LawfulSide (q .right) 8 →
+    spell r ≡ spell q →
+    r ≡ q
 unique-sides r q a b c d e = same-rule (sym (parse-complete r a b) ∙ ap parse e ∙ parse-complete q c d)
 
 -- each text in one way: two lawful trees that spell the same text are equal

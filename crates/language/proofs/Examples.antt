@@ -1,4 +1,5 @@
--- The table's texts read as what stands beside them, and a tree's text and value: all computed by the definitions, the tree's without the parser.
+-- The table's texts read as what stands beside them, and a tree's text and value: all computed by the definitions, the tree's without
+-- the parser.
 use mathlib.Core.Path.{_≡_, refl}
 use mathlib.Core.List.{map, [], _∷_}
 use lib.IntN.{pos, negℤ}
@@ -19,7 +20,9 @@ texts-as-read = refl
 -- The tree of -2*x - y -3<=4: the minus belongs to the 2, the product is a factor of the sum, and the first difference is taken first.
 abbrev pub tree : G.Rule
 tree = record {
-  left = less (less (term (times (factor (minus 0 (number 0 (50 ∷ [])))) 0 (rate-x 0))) 1 (factor (rate-y 1))) 1 (factor (number 0 (51 ∷ [])));
+  left =
+      less (less (term (times (factor (minus 0 (number 0 (50 ∷ [])))) 0 (rate-x 0))) 1 (factor (rate-y 1))) 1
+      (factor (number 0 (51 ∷ [])));
   gap = 0;
   relation = at-most;
   right = term (factor (number 0 (52 ∷ [])));

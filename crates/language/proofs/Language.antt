@@ -1,4 +1,5 @@
--- The language, read exactly. A text is answered with the value of the one lawful tree that spells it, or there is no such tree and it is refused 13.
+-- The language, read exactly. A text is answered with the value of the one lawful tree that spells it, or there is no such tree and it
+-- is refused 13.
 use mathlib.Core.Path.{_≡_, refl, ap, sym, _∙_, subst}
 use mathlib.Core.Logic.{_⊎_, inl, inr}
 use mathlib.Core.Bool.{Bool, true, false, cond}
@@ -54,7 +55,13 @@ language s = go (leb (length s) 120) refl (parse s) refl (parse-sound s)
         inl
         (record {
           tree = r;
-          lawful = record { left = h .left; right = h .right; short = subst (λ (w : List ℕ). length w ≤ 120) (h .text) (leb-true (length s) 120 e) };
+          lawful =
+              record {
+                left = h .left;
+                right = h .right;
+                short = subst (λ (w : List ℕ). length w ≤ 120) (h .text)
+                    (leb-true (length s) 120 e);
+              };
           text = h .text;
           answer = rw (e, f);
         })

@@ -1,5 +1,5 @@
--- The refusals of a tree's value are 14 and 15, and an accepted rule is within its limits. So a text is accepted or refused 14 or 15 exactly if some lawful tree
--- spells it, and refused 13 exactly if none does.
+-- The refusals of a tree's value are 14 and 15, and an accepted rule is within its limits. So a text is accepted or refused 14 or 15
+-- exactly if some lawful tree spells it, and refused 13 exactly if none does.
 use mathlib.Core.Path.{_≡_, refl, ap, sym, _∙_, subst}
 use mathlib.Core.Logic.{_⊎_, inl, inr, _↔_}
 use mathlib.Core.Bool.{Bool, true, false, cond, _&&_}
@@ -56,7 +56,12 @@ multiplied-plain f g = go (constant f) (constant g)
     go false true = limited-plain (mulForms f g)
     go false false = inl refl
 
-combine-plain : (op : Form → Form → Value) → ((f g : Form) → Plain (op f g)) → (v w : Value) → Plain v → Plain w → Plain (combine op v w)
+combine-plain : (op : Form → Form → Value) →
+    ((f g : Form) → Plain (op f g)) →
+    (v w : Value) →
+    Plain v →
+    Plain w →
+    Plain (combine op v w)
 combine-plain op h (Linear f) (Linear g) p q = h f g
 combine-plain op h (Linear f) (Beyond n) p q = q
 combine-plain op h (Beyond n) (Linear g) p q = p
@@ -116,8 +121,21 @@ final-sound : (w : Written) → Kind (w .kind) → Sound (final w)
 unfolding final
 final-sound w k = go (inside 32767 (w .a)) refl (inside 32767 (w .b)) refl (inside limit (w .c)) refl
   where
-    go : (s : Bool) → inside 32767 (w .a) ≡ s → (t : Bool) → inside 32767 (w .b) ≡ t → (u : Bool) → inside limit (w .c) ≡ u → Sound (cond (s && (t && u)) (Rule w) (refusal 15))
-    go true e true f true g = record { kind = k; a = leb-true (natAbs (w .a)) 32767 e; b = leb-true (natAbs (w .b)) 32767 f; c = leb-true (natAbs (w .c)) limit g }
+    go : (s : Bool) →
+        inside 32767 (w .a) ≡ s →
+        (t : Bool) →
+        inside 32767 (w .b) ≡ t →
+        (u : Bool) →
+        inside limit (w .c) ≡ u →
+        Sound (cond (s && (t && u)) (Rule w) (refusal 15))
+    go true e true f true g =
+        record {
+          kind = k;
+          a = leb-true (natAbs (w .a)) 32767 e;
+          b = leb-true (natAbs (w .b)) 32767 f;
+          c = leb-true (natAbs (w .c))
+              limit g;
+        }
     go true e true f false g = (inr refl, refl)
     go true e false f u g = (inr refl, refl)
     go false e t f u g = (inr refl, refl)
@@ -136,7 +154,9 @@ kind-of at-least = inr refl
 -- a tree's value is a rule within its limits, or 14, or 15
 pub value-sound : (r : G.Rule) → Sound (valueRule r)
 unfolding valueRule
-value-sound r = conclude-sound (kindOf (r .relation)) (kind-of (r .relation)) (valueSide (r .left)) (valueSide (r .right)) (side-plain (r .left)) (side-plain (r .right))
+value-sound r =
+    conclude-sound (kindOf (r .relation)) (kind-of (r .relation)) (valueSide (r .left)) (valueSide (r .right)) (side-plain (r .left))
+    (side-plain (r .right))
 
 thirteen : (t : Typed) → Sound t → t ≡ refusal 13 → ⊥
 thirteen (Rule w) h e = let z : _≡_ {A = ℕ} 0 1 = cc in omega arith

@@ -11,7 +11,10 @@ abbrev pub rule : Side → ℕ → Relation → Side → ℕ → Rule
 rule a i k b j = record { left = a; gap = i; relation = k; right = b; end = j }
 
 module _ (a : Side) (i : ℕ) (k : Relation) (s : List ℕ) where
-  pub right-got : (b : Side) (q : List ℕ) → first s ≡ 61 → sideOf (tail s) ≡ got b q → rightOf a i k s ≡ ended (skip q) (rule a i k b (lead q))
+  pub right-got : (b : Side) (q : List ℕ) →
+      first s ≡ 61 →
+      sideOf (tail s) ≡ got b q →
+      rightOf a i k s ≡ ended (skip q) (rule a i k b (lead q))
   unfolding rightOf
   right-got b q e p = rw e (ap (λ (z : Parsed Side). bind z (λ b r. ended (skip r) (rule a i k b (lead r)))) p)
 

@@ -77,7 +77,9 @@ number-sound : (d : ℕ) (s : List ℕ) → digit (next s) ≡ true → SoundFac
 unfolding spellFactor LawfulFactor
 number-sound d s e = go (leb (length (run (skip s))) 10) refl
   where
-    go : (t : Bool) → leb (length (run (skip s))) 10 ≡ t → SoundFactor d s (cond t (got (number (lead s) (run (skip s))) (past (skip s))) fail)
+    go : (t : Bool) →
+        leb (length (run (skip s))) 10 ≡ t →
+        SoundFactor d s (cond t (got (number (lead s) (run (skip s))) (past (skip s))) fail)
     go true h =
         record {
           text = led s ∙ ap (pad (lead s)) (ran (skip s));
@@ -93,13 +95,21 @@ rate-y-sound : (d : ℕ) (s : List ℕ) → next s ≡ 121 → SoundFactor d s (
 unfolding spellFactor LawfulFactor
 rate-y-sound d s e = record { text = item s 121 (omega arith) e; law = tt }
 
-minus-sound : (d : ℕ) (s : List ℕ) → next s ≡ 45 → (p : Parsed Factor) → SoundFactor d (beyond s) p → SoundFactor d s (bind p (λ f r. got (minus (lead s) f) r))
+minus-sound : (d : ℕ) (s : List ℕ) →
+    next s ≡ 45 →
+    (p : Parsed Factor) →
+    SoundFactor d (beyond s) p →
+    SoundFactor d s (bind p (λ f r. got (minus (lead s) f) r))
 unfolding spellFactor LawfulFactor
 minus-sound d s e fail h = tt
 minus-sound d s e (got f r) h =
     record { text = item s 45 (omega arith) e ∙ ap (λ (q : List ℕ). pad (lead s) (45 ∷ q)) (h .text); law = h .law }
 
-group-sound : (d : ℕ) (s : List ℕ) → next s ≡ 40 → (p : Parsed Side) → SoundSide d (beyond s) p → SoundFactor (suc d) s (bind p (λ a r. closed (lead s) a r))
+group-sound : (d : ℕ) (s : List ℕ) →
+    next s ≡ 40 →
+    (p : Parsed Side) →
+    SoundSide d (beyond s) p →
+    SoundFactor (suc d) s (bind p (λ a r. closed (lead s) a r))
 unfolding spellFactor LawfulFactor
 group-sound d s e fail h = tt
 group-sound d s e (got a r) h = go (eqb (next r) 41) refl
@@ -107,17 +117,27 @@ group-sound d s e (got a r) h = go (eqb (next r) 41) refl
     go : (t : Bool) → eqb (next r) 41 ≡ t → SoundFactor (suc d) s (cond t (got (group (lead s) a (lead r)) (beyond r)) fail)
     go true f =
         record {
-          text = item s 40 (omega arith) e ∙ ap (λ (q : List ℕ). pad (lead s) (40 ∷ q)) (h .text ∙ ap (spellSide a) (item r 41 (omega arith) (eqb-true (next r) 41 f)));
+          text =
+              item s 40 (omega arith) e
+              ∙ ap (λ (q : List ℕ). pad (lead s) (40 ∷ q))
+              (h .text ∙ ap (spellSide a) (item r 41 (omega arith) (eqb-true (next r) 41 f)));
           law = h .law;
         }
     go false f = tt
 
-inner-sound : (d : ℕ) (s : List ℕ) → next s ≡ 40 → (f : ℕ → Parsed Side) → ((e : ℕ) → SoundSide e (beyond s) (f e)) → SoundFactor d s (bind (inner d f) (λ a r. closed (lead s) a r))
+inner-sound : (d : ℕ) (s : List ℕ) →
+    next s ≡ 40 →
+    (f : ℕ → Parsed Side) →
+    ((e : ℕ) → SoundSide e (beyond s) (f e)) →
+    SoundFactor d s (bind (inner d f) (λ a r. closed (lead s) a r))
 inner-sound zero s e f h = tt
 inner-sound (suc d) s e f h = group-sound d s e (f d) (h d)
 
 -- a test's two branches
-branch : {A : Type 0} (Q : Parsed A → Type 0) (t : Bool) (l r : Parsed A) → (t ≡ true → Q l) → (t ≡ false → Q r) → Q (cond t l r)
+branch : {A : Type 0} (Q : Parsed A → Type 0) (t : Bool) (l r : Parsed A) →
+    (t ≡ true → Q l) →
+    (t ≡ false → Q r) →
+    Q (cond t l r)
 branch Q true l r f g = f refl
 branch Q false l r f g = g refl
 
@@ -133,11 +153,24 @@ SoundWhole c d s p = SoundParse (c .spell-whole) (λ b. c .LawfulWhole b d) s p
 abbrev SoundMore : {A B : Type 0} → Chain A B → ℕ → (B → List ℕ → Parsed B) → Type 0
 SoundMore {A} {B} c d m = (b : B) (r s : List ℕ) → c .LawfulWhole b d → s ≡ c .spell-whole b r → SoundWhole c d s (m b r)
 
-first-sound : {A B : Type 0} {c : Chain A B} (o : Begins c) (d : ℕ) (s : List ℕ) (p : Parsed A) → SoundItem c d s p → (m : B → List ℕ → Parsed B) → SoundMore c d m → SoundWhole c d s (bind p (λ a r. m (c .one a) r))
+first-sound : {A B : Type 0} {c : Chain A B} (o : Begins c) (d : ℕ) (s : List ℕ) (p : Parsed A) →
+    SoundItem c d s p →
+    (m : B → List ℕ → Parsed B) →
+    SoundMore c d m →
+    SoundWhole c d s (bind p (λ a r. m (c .one a) r))
 first-sound o d s fail h m g = tt
 first-sound {c = c} o d s (got a r) h m g = g (c .one a) r s (o .lawful a d (h .law)) (h .text ∙ o .spelt a r)
 
-next-sound : {A B : Type 0} {c : Chain A B} {byte : ℕ} {join : B → ℕ → A → B} {op : Value → Value → Value} (j : Joins c byte join op) (d : ℕ) (b : B) (r s : List ℕ) → c .LawfulWhole b d → s ≡ c .spell-whole b r → eqb (next r) byte ≡ true → (p : Parsed A) → SoundItem c d (beyond r) p → (m : B → List ℕ → Parsed B) → SoundMore c d m → SoundWhole c d s (bind p (λ a w. m (join b (lead r) a) w))
+next-sound : {A B : Type 0} {c : Chain A B} {byte : ℕ} {join : B → ℕ → A → B} {op : Value → Value → Value} →
+    (j : Joins c byte join op) (d : ℕ) (b : B) (r s : List ℕ) →
+    c .LawfulWhole b d →
+    s ≡ c .spell-whole b r →
+    eqb (next r) byte ≡ true →
+    (p : Parsed A) →
+    SoundItem c d (beyond r) p →
+    (m : B → List ℕ → Parsed B) →
+    SoundMore c d m →
+    SoundWhole c d s (bind p (λ a w. m (join b (lead r) a) w))
 next-sound j d b r s l e n fail h m g = tt
 next-sound {c = c} {byte = byte} {join = join} j d b r s l e n (got a w) h m g =
     g (join b (lead r) a) w s (j .lawful b (lead r) a d l (h .law))
@@ -154,32 +187,45 @@ mutual
       branch (SoundFactor d s) (digit (next s)) _ _ (number-sound d s)
       (λ _. branch (SoundFactor d s) (eqb (next s) 120) _ _ (λ e. rate-x-sound d s (eqb-true (next s) 120 e))
       (λ _. branch (SoundFactor d s) (eqb (next s) 121) _ _ (λ e. rate-y-sound d s (eqb-true (next s) 121 e))
-      (λ _. branch (SoundFactor d s) (eqb (next s) 45) _ _ (λ e. minus-sound d s (eqb-true (next s) 45 e) (factorBy k d (beyond s)) (factor-sound k d (beyond s)))
-      (λ _. branch (SoundFactor d s) (eqb (next s) 40) _ _ (λ e. inner-sound d s (eqb-true (next s) 40 e) (λ j. sideBy k j (beyond s)) (λ j. side-sound k j (beyond s)))
+      (λ _. branch (SoundFactor d s) (eqb (next s) 45) _ _
+      (λ e. minus-sound d s (eqb-true (next s) 45 e) (factorBy k d (beyond s)) (factor-sound k d (beyond s)))
+      (λ _. branch (SoundFactor d s) (eqb (next s) 40) _ _
+      (λ e. inner-sound d s (eqb-true (next s) 40 e) (λ j. sideBy k j (beyond s)) (λ j. side-sound k j (beyond s)))
       (λ _. tt)))))
 
   pub term-sound : (k d : ℕ) (s : List ℕ) → SoundTerm d s (termBy k d s)
   term-sound zero d s = tt
-  term-sound (suc k) d s = first-sound one-factor d s (factorBy k d s) (factor-sound k d s) (moreFactors k d) (λ b w z m h. factors-sound k d b w z m h)
+  term-sound (suc k) d s =
+      first-sound one-factor d s (factorBy k d s) (factor-sound k d s) (moreFactors k d) (λ b w z m h. factors-sound k d b w z m h)
 
-  pub factors-sound : (k d : ℕ) (t : Term) (r q : List ℕ) → LawfulTerm t d → q ≡ spellTerm t r → SoundTerm d q (moreFactors k d t r)
+  pub factors-sound : (k d : ℕ) (t : Term) (r q : List ℕ) →
+      LawfulTerm t d →
+      q ≡ spellTerm t r →
+      SoundTerm d q (moreFactors k d t r)
   factors-sound zero d t r q l e = tt
   factors-sound (suc k) d t r q l e =
       branch (SoundTerm d q) (eqb (next r) 42) _ _
-      (λ f. next-sound by-star d t r q l e f (factorBy k d (beyond r)) (factor-sound k d (beyond r)) (moreFactors k d) (λ b w z m h. factors-sound k d b w z m h))
+      (λ f. next-sound by-star d t r q l e f (factorBy k d (beyond r)) (factor-sound k d (beyond r)) (moreFactors k d)
+      (λ b w z m h. factors-sound k d b w z m h))
       (λ _. record { text = e; law = l })
 
   pub side-sound : (k d : ℕ) (s : List ℕ) → SoundSide d s (sideBy k d s)
   side-sound zero d s = tt
-  side-sound (suc k) d s = first-sound one-term d s (termBy k d s) (term-sound k d s) (moreTerms k d) (λ b w z m h. terms-sound k d b w z m h)
+  side-sound (suc k) d s =
+      first-sound one-term d s (termBy k d s) (term-sound k d s) (moreTerms k d) (λ b w z m h. terms-sound k d b w z m h)
 
-  pub terms-sound : (k d : ℕ) (a : Side) (r q : List ℕ) → LawfulSide a d → q ≡ spellSide a r → SoundSide d q (moreTerms k d a r)
+  pub terms-sound : (k d : ℕ) (a : Side) (r q : List ℕ) →
+      LawfulSide a d →
+      q ≡ spellSide a r →
+      SoundSide d q (moreTerms k d a r)
   terms-sound zero d a r q l e = tt
   terms-sound (suc k) d a r q l e =
       branch (SoundSide d q) (eqb (next r) 43) _ _
-      (λ f. next-sound by-plus d a r q l e f (termBy k d (beyond r)) (term-sound k d (beyond r)) (moreTerms k d) (λ b w z m h. terms-sound k d b w z m h))
+      (λ f. next-sound by-plus d a r q l e f (termBy k d (beyond r)) (term-sound k d (beyond r)) (moreTerms k d)
+      (λ b w z m h. terms-sound k d b w z m h))
       (λ _. branch (SoundSide d q) (eqb (next r) 45) _ _
-      (λ f. next-sound by-minus d a r q l e f (termBy k d (beyond r)) (term-sound k d (beyond r)) (moreTerms k d) (λ b w z m h. terms-sound k d b w z m h))
+      (λ f. next-sound by-minus d a r q l e f (termBy k d (beyond r)) (term-sound k d (beyond r)) (moreTerms k d)
+      (λ b w z m h. terms-sound k d b w z m h))
       (λ _. record { text = e; law = l }))
 
 -- ---- a whole text
@@ -197,34 +243,63 @@ abbrev pub SoundRule : List ℕ → Parsed Rule → Type 0
 SoundRule s fail = Unit {0}
 SoundRule s (got r q) = SpeltRule s r
 
-ended-sound : (s q : List ℕ) (a : Side) (i : ℕ) (k : Relation) (b : Side) → LawfulSide a 8 → LawfulSide b 8 → s ≡ spellSide a (pad i (spellRelation k (spellSide b q))) → (z : List ℕ) → skip q ≡ z → SoundRule s (ended z (rule a i k b (lead q)))
+ended-sound : (s q : List ℕ) (a : Side) (i : ℕ) (k : Relation) (b : Side) →
+    LawfulSide a 8 →
+    LawfulSide b 8 →
+    s ≡ spellSide a (pad i (spellRelation k (spellSide b q))) →
+    (z : List ℕ) →
+    skip q ≡ z →
+    SoundRule s (ended z (rule a i k b (lead q)))
 unfolding spell
 ended-sound s q a i k b l m e [] f =
-    record { text = e ∙ ap (λ (x : List ℕ). spellSide a (pad i (spellRelation k (spellSide b x)))) (led q ∙ ap (pad (lead q)) f); left = l; right = m }
+    record {
+      text = e
+          ∙ ap (λ (x : List ℕ). spellSide a (pad i (spellRelation k (spellSide b x)))) (led q ∙ ap (pad (lead q)) f);
+      left = l;
+      right = m;
+    }
 ended-sound s q a i k b l m e (c ∷ z) f = tt
 
-right-sound : (s : List ℕ) (a : Side) (i : ℕ) (k : Relation) (w : List ℕ) → LawfulSide a 8 → (first w ≡ 61 → s ≡ spellSide a (pad i (spellRelation k (tail w)))) → SoundRule s (rightOf a i k w)
+right-sound : (s : List ℕ) (a : Side) (i : ℕ) (k : Relation) (w : List ℕ) →
+    LawfulSide a 8 →
+    (first w ≡ 61 → s ≡ spellSide a (pad i (spellRelation k (tail w)))) →
+    SoundRule s (rightOf a i k w)
 unfolding rightOf
 right-sound s a i k w l e = go (eqb (first w) 61) refl
   where
-    after : first w ≡ 61 → (p : Parsed Side) → SoundSide 8 (tail w) p → SoundRule s (bind p (λ b r. ended (skip r) (rule a i k b (lead r))))
+    after :
+        first w ≡ 61 → (p : Parsed Side) →
+        SoundSide 8 (tail w) p →
+        SoundRule s (bind p (λ b r. ended (skip r) (rule a i k b (lead r))))
     after f fail h = tt
-    after f (got b q) h = ended-sound s q a i k b l (h .law) (e f ∙ ap (λ (x : List ℕ). spellSide a (pad i (spellRelation k x))) (h .text)) (skip q) refl
+    after f (got b q) h =
+        ended-sound s q a i k b l (h .law) (e f ∙ ap (λ (x : List ℕ). spellSide a (pad i (spellRelation k x))) (h .text)) (skip q) refl
 
-    go : (t : Bool) → eqb (first w) 61 ≡ t → SoundRule s (cond t (bind (sideOf (tail w)) (λ b r. ended (skip r) (rule a i k b (lead r)))) fail)
+    go : (t : Bool) →
+        eqb (first w) 61 ≡ t →
+        SoundRule s (cond t (bind (sideOf (tail w)) (λ b r. ended (skip r) (rule a i k b (lead r)))) fail)
     go true f = after (eqb-true (first w) 61 f) (sideOf (tail w)) (side-of-sound (tail w))
     go false f = tt
 
-relation-sound : (s : List ℕ) (a : Side) (r : List ℕ) → LawfulSide a 8 → s ≡ spellSide a r → SoundRule s (relationOf a r)
+relation-sound : (s : List ℕ) (a : Side) (r : List ℕ) →
+    LawfulSide a 8 →
+    s ≡ spellSide a r →
+    SoundRule s (relationOf a r)
 unfolding relationOf spellRelation
 relation-sound s a r l e =
     branch (SoundRule s) (eqb (next r) 60) _ _ (by at-most 60 (omega arith) (λ x. refl))
     (λ _. branch (SoundRule s) (eqb (next r) 62) _ _ (by at-least 62 (omega arith) (λ x. refl)) (λ _. tt))
   where
-    by : (k : Relation) (b : ℕ) → 0 < b → ((x : List ℕ) → b ∷ 61 ∷ x ≡ spellRelation k x) → eqb (next r) b ≡ true → SoundRule s (rightOf a (lead r) k (beyond r))
+    by : (k : Relation) (b : ℕ) →
+        0 < b →
+        ((x : List ℕ) → b ∷ 61 ∷ x ≡ spellRelation k x) →
+        eqb (next r) b ≡ true →
+        SoundRule s (rightOf a (lead r) k (beyond r))
     by k b h p f =
         right-sound s a (lead r) k (beyond r) l
-        (λ g. e ∙ ap (spellSide a) (item r b h (eqb-true (next r) b f) ∙ ap (λ (x : List ℕ). pad (lead r) (b ∷ x)) (front (beyond r) 61 (omega arith) g) ∙ ap (pad (lead r)) (p (tail (beyond r)))))
+        (λ g. e ∙ ap (spellSide a)
+        (item r b h (eqb-true (next r) b f) ∙ ap (λ (x : List ℕ). pad (lead r) (b ∷ x)) (front (beyond r) 61 (omega arith) g)
+        ∙ ap (pad (lead r)) (p (tail (beyond r)))))
 
 pub parse-sound : (s : List ℕ) → SoundRule s (parse s)
 unfolding parse

@@ -64,9 +64,14 @@ first-pad zero b r e = e
 first-pad (suc i) b r e = refl
 
 -- what is done with both: the number of the spaces, and the text after the byte
-pub in-pad : {X : Type 0} (g : ℕ → List ℕ → X) (i b : ℕ) (r : List ℕ) → eqb b 32 ≡ false → g (lead (pad i (b ∷ r))) (beyond (pad i (b ∷ r))) ≡ g i r
+pub in-pad : {X : Type 0} (g : ℕ → List ℕ → X) (i b : ℕ) (r : List ℕ) →
+    eqb b 32 ≡ false →
+    g (lead (pad i (b ∷ r))) (beyond (pad i (b ∷ r))) ≡ g i r
 in-pad g i b r e = ap (λ (j : ℕ). g j (beyond (pad i (b ∷ r)))) (lead-in i b r e) ∙ ap (g i) (beyond-in i b r e)
 
 -- the next byte is another
-pub not-next : (i b n : ℕ) (r : List ℕ) → eqb b 32 ≡ false → eqb b n ≡ false → eqb (next (pad i (b ∷ r))) n ≡ false
+pub not-next : (i b n : ℕ) (r : List ℕ) →
+    eqb b 32 ≡ false →
+    eqb b n ≡ false →
+    eqb (next (pad i (b ∷ r))) n ≡ false
 not-next i b n r s e = ap (λ (c : ℕ). eqb c n) (next-in i b r s) ∙ e

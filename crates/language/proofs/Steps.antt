@@ -28,7 +28,13 @@ module _ (k d : ℕ) (s : List ℕ) where
   unfolding factorBy
   factor-group e = rw e
 
-  pub factor-other : digit (next s) ≡ false → eqb (next s) 120 ≡ false → eqb (next s) 121 ≡ false → eqb (next s) 45 ≡ false → eqb (next s) 40 ≡ false → factorBy (suc k) d s ≡ fail
+  pub factor-other :
+      digit (next s) ≡ false →
+      eqb (next s) 120 ≡ false →
+      eqb (next s) 121 ≡ false →
+      eqb (next s) 45 ≡ false →
+      eqb (next s) 40 ≡ false →
+      factorBy (suc k) d s ≡ fail
   unfolding factorBy
   factor-other a b c e f = rw (a, b, c, e, f)
 
@@ -40,7 +46,9 @@ module _ (k d : ℕ) (s : List ℕ) where
   unfolding factorBy
   side-step = refl
 
-  pub factors-star : (t : Term) → next s ≡ 42 → moreFactors (suc k) d t s ≡ bind (factorBy k d (beyond s)) (λ f r. moreFactors k d (times t (lead s) f) r)
+  pub factors-star : (t : Term) →
+      next s ≡ 42 →
+      moreFactors (suc k) d t s ≡ bind (factorBy k d (beyond s)) (λ f r. moreFactors k d (times t (lead s) f) r)
   unfolding factorBy
   factors-star t e = rw e
 
@@ -48,14 +56,21 @@ module _ (k d : ℕ) (s : List ℕ) where
   unfolding factorBy
   factors-end t e = rw e
 
-  pub terms-plus : (a : Side) → next s ≡ 43 → moreTerms (suc k) d a s ≡ bind (termBy k d (beyond s)) (λ t r. moreTerms k d (plus a (lead s) t) r)
+  pub terms-plus : (a : Side) →
+      next s ≡ 43 →
+      moreTerms (suc k) d a s ≡ bind (termBy k d (beyond s)) (λ t r. moreTerms k d (plus a (lead s) t) r)
   unfolding factorBy
   terms-plus a e = rw e
 
-  pub terms-less : (a : Side) → next s ≡ 45 → moreTerms (suc k) d a s ≡ bind (termBy k d (beyond s)) (λ t r. moreTerms k d (less a (lead s) t) r)
+  pub terms-less : (a : Side) →
+      next s ≡ 45 →
+      moreTerms (suc k) d a s ≡ bind (termBy k d (beyond s)) (λ t r. moreTerms k d (less a (lead s) t) r)
   unfolding factorBy
   terms-less a e = rw e
 
-  pub terms-end : (a : Side) → eqb (next s) 43 ≡ false → eqb (next s) 45 ≡ false → moreTerms (suc k) d a s ≡ got a s
+  pub terms-end : (a : Side) →
+      eqb (next s) 43 ≡ false →
+      eqb (next s) 45 ≡ false →
+      moreTerms (suc k) d a s ≡ got a s
   unfolding factorBy
   terms-end a e f = rw (e, f)

@@ -60,6 +60,8 @@ examples =
     ∷ row "x-1000000000<=1" (refusal 15)
     ∷ row "((((((((x))))))))<=1" (rule 1 (pos 1) (pos 0) (pos 1))
     ∷ row "(((((((((x)))))))))<=1" (refusal 13)
+    ∷ row "x<=((((((((1))))))))" (rule 1 (pos 1) (pos 0) (pos 1))
+    ∷ row "x<=(((((((((1)))))))))" (refusal 13)
     ∷ row "0000000001<=x" (rule 1 (minus 1) (pos 0) (minus 1))
     ∷ row "00000000001<=x" (refusal 13)
     -- 120 and 121 bytes, most of them spaces: of a row that takes far more steps the checker would not say in what it is wrong

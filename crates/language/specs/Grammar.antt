@@ -1,6 +1,7 @@
--- The language of document 02, #103, as trees and the texts that they spell. A text is a list of bytes. A tree holds, before each item, the number of
--- spaces there, and a number by its digits, so that a tree spells one text. A sum or product is its part before the last operator, joined with its
--- last operand, so that equals go from the left. `.. rest` below is the text of a tree with `rest` after it.
+-- The language of document 02, #103, as trees and the texts that they spell. A text is a list of bytes. A tree holds, before each
+-- item, the number of spaces there, and a number by its digits, so that a tree spells one text. A sum or product is its part before
+-- the last operator, joined with its last operand, so that equals go from the left. `.. rest` below is the text of a tree with `rest`
+-- after it.
 use mathlib.Core.List.{List, [], _∷_, _++_}
 use Prim.Native.Nat.{ℕ, zero, suc, _≤_}
 use lib.ListN.{length}

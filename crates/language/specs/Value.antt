@@ -1,5 +1,6 @@
--- The value of a tree: the form a·x + b·y + c that it comes to, or the refusal, 14 or 15, of the first number or operation concerned. Of a rule: the left side, then
--- the right, then the final a, b and c. It rests on the trees (Grammar) and on the operations on values (`forms`).
+-- The value of a tree: the form a·x + b·y + c that it comes to, or the refusal, 14 or 15, of the first number or operation concerned.
+-- Of a rule: the left side, then the right, then the final a, b and c. It rests on the trees (Grammar) and on the operations on values
+-- (`forms`).
 use Prim.Native.Nat.{ℕ}
 use lib.IntN.{pos}
 use Rattle.text.specs.Number.{valueFrom}

@@ -8,6 +8,8 @@ use mir.Syntax.{w16, w64}
 use mir.Val.{Fits, SFits}
 use Rattle.text.specs.Text.{text}
 use Rattle.text.specs.Number.{decimal, integer}
+use Rattle.text.specs.Append.{Appended, Appends}
+use Rattle.text.proofs.Put.{followed, roomier, spelt}
 use Rattle.text.proofs.Decimal.{decimal-u16}
 use Rattle.text.proofs.Integer.{integer-short}
 use Rattle.report.specs.declared.panel.Row.{Row}
@@ -17,6 +19,16 @@ pub lines-append : (rows : List Row) (r : Row) → rowLines (rows ++ (r ∷ []))
 lines-append [] r = append-nil (rowLine r)
 lines-append (x ∷ rows) r =
     ap (λ (m : List ℕ). rowLine x ++ m) (lines-append rows r) ∙ sym (append-assoc (rowLine x) (rowLines rows) (rowLine r))
+
+-- a line more, in a buffer with room for it
+pub row-after : {before mid after : List ℕ} {at next end : ℕ} (i : ℕ) (rows : List Row) (r : Row) →
+    at + 64 * (i + 1) ≤ length before →
+    length mid ≡ length before →
+    Appended before at (rowLines rows) (64 * i) mid next →
+    Appends mid next (rowLine r) 64 after end →
+    Appended before at (rowLines (rows ++ (r ∷ []))) (64 * (i + 1)) after end
+row-after i rows r room same f g =
+    roomier (omega arith) (spelt (sym (lines-append rows r)) (followed f (g .fits (omega (arith, f .moved, f .small)))))
 
 -- ---- how long they are
 

@@ -10,6 +10,7 @@ use mir.Val.{SFits, toZ, ofZ}
 use mir.Facts.{toZ-ofZ}
 use Rattle.lp.specs.declared.Certificate.{Certificate}
 use Rattle.lp.specs.Certificate.{Weighted, weighted, named}
+use Rattle.text.specs.Text.{text}
 use Rattle.text.specs.Number.{number, integer}
 use Rattle.text.specs.Append.{Appended}
 use Rattle.text.proofs.Put.{spelt}
@@ -30,6 +31,15 @@ one-named e (pos (suc n)) t = refl
 one-named e (negsuc n) t = refl
 
 -- ---- what an entry prints
+
+-- the bytes of a floor, so that an error shows them
+pub floor-x : (e : ℕ) → e ≡ 0 → text " X" ≡ entry e
+unfolding entry
+floor-x e p = sym (ap entry p)
+
+pub floor-y : (e : ℕ) → e ≡ 1 → text " Y" ≡ entry e
+unfolding entry
+floor-y e p = sym (ap entry p)
 
 pub entry-record : (e : ℕ) → (e ≡ 0 → ⊥) → (e ≡ 1 → ⊥) → number (e - 1) ≡ entry e
 unfolding entry
@@ -80,7 +90,10 @@ counted-named k =
     )
 
 -- what a count of used weights says of a weight that was read back
-used-is : (n : ℕ) (z : ℤ) → SFits w64 z → n ≡ length (weighted 0 (read z)) → n ≡ length (weighted 0 z)
+used-is : (n : ℕ) (z : ℤ) →
+    SFits w64 z →
+    n ≡ length (weighted 0 (read z)) →
+    n ≡ length (weighted 0 z)
 used-is n z f e = e ∙ ap (λ (y : ℤ). length (weighted 0 y)) (toZ-ofZ {w = w64} f)
 
 pub counted : (k : Certificate) (m n o : ℕ) →

@@ -7,11 +7,11 @@ use lib.ListN.{length, drop}
 use lib.Seq.{sets}
 
 -- the buffer has room for so many bytes from a place on
-pub record Room (out : List ℕ) (at room : ℕ) : Type 0 where
+pub record HasRoom (out : List ℕ) (at room : ℕ) : Type 0 where
   pub free : at + room ≤ length out
 
 -- and for a number of two digits
-pub record RoomForTwo (n : ℕ) (out : List ℕ) (at : ℕ) : Type 0 where
+pub record HasRoomForTwo (n : ℕ) (out : List ℕ) (at : ℕ) : Type 0 where
   pub small : n < 100
   pub free : at + 2 ≤ length out
 

@@ -2,11 +2,11 @@
 ghost use mathlib.Core.List.{[], _∷_};
 ghost use lib.ListN.{length};
 ghost use Rattle.text.specs.Number.{twoDigits, decimal};
-ghost use Rattle.text.specs.Append.{Room, RoomForTwo, Appended};
+ghost use Rattle.text.specs.Append.{HasRoom, HasRoomForTwo, Appended};
 
 // One byte.
 pub fn append_byte(b: u8, out: &mut [u8], at: usize) -> usize
-    requires { ⌜ Room (now out) at 1 ⌝ }
+    requires { ⌜ HasRoom (now out) at 1 ⌝ }
     ensures { λ r. ⌜ Appended (now (out .entry)) at (b ∷ []) 1 (now (out .exit)) r ⌝ }
 {
     out[at] = b;
@@ -15,7 +15,7 @@ pub fn append_byte(b: u8, out: &mut [u8], at: usize) -> usize
 
 // A number below 100, as two digits.
 fn append_two(n: usize, out: &mut [u8], at: usize) -> usize
-    requires { ⌜ RoomForTwo n (now out) at ⌝ }
+    requires { ⌜ HasRoomForTwo n (now out) at ⌝ }
     ensures { λ r. ⌜ Appended (now (out .entry)) at (twoDigits n) 2 (now (out .exit)) r ⌝ }
 {
     let last = append_byte(48 + (n / 10) as u8, out, at);
@@ -24,7 +24,7 @@ fn append_two(n: usize, out: &mut [u8], at: usize) -> usize
 
 // A number in decimal: the digits before the last two come first.
 pub fn put_decimal(n: usize, out: &mut [u8], at: usize) -> usize
-    requires { ⌜ Room (now out) at (length (decimal n)) ⌝ }
+    requires { ⌜ HasRoom (now out) at (length (decimal n)) ⌝ }
     ensures { λ r. ⌜ Appended (now (out .entry)) at (decimal n) (length (decimal n)) (now (out .exit)) r ⌝ }
 {
     if n < 10 {

@@ -5,12 +5,12 @@ use text::append_integer;
 use text::append_number;
 use text::append_refused;
 use text::append_word;
-ghost use Rattle.text.specs.Append.{Room, Appended};
+ghost use Rattle.text.specs.Append.{HasRoom, Appended};
 ghost use Rattle.typed_line.specs.Typed.{ruleFields, typedFields, TypedWritten};
 
 // The line of a rule, but for its line feed.
 fn append_rule(w: Written, out: &mut [u8]) -> usize
-    requires { ⌜ Room (now out) 0 88 ⌝ }
+    requires { ⌜ HasRoom (now out) 0 88 ⌝ }
     ensures { λ r. ⌜ Appended (now (out .entry)) 0 (ruleFields w) 88 (now (out .exit)) r ⌝ }
 {
     let kind = append_word(b"rule", out, 0);
@@ -22,7 +22,7 @@ fn append_rule(w: Written, out: &mut [u8]) -> usize
 
 // The line of a typed text, but for its line feed.
 fn append_typed(t: Typed, out: &mut [u8]) -> usize
-    requires { ⌜ Room (now out) 0 88 ⌝ }
+    requires { ⌜ HasRoom (now out) 0 88 ⌝ }
     ensures { λ r. ⌜ Appended (now (out .entry)) 0 (typedFields t) 88 (now (out .exit)) r ⌝ }
 {
     match t {

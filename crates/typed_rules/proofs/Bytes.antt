@@ -45,7 +45,11 @@ no-space : (b : ℕ) (s : List ℕ) → (b ≡ 32 → ⊥) → skip (b ∷ s) �
 unfolding skip
 no-space b s e = rw (ne-eqb b 32 e)
 
-pub skip-more : (s : List ℕ) (at i : ℕ) → i < length s → getD s i 0 ≡ 32 → Skipping s at i → Skipping s at (i + 1)
+pub skip-more : (s : List ℕ) (at i : ℕ) →
+    i < length s →
+    getD s i 0 ≡ 32 →
+    Skipping s at i →
+    Skipping s at (i + 1)
 skip-more s at i h e k =
     record {
       same = sym (space-here (getD s i 0) (drop (i + 1) s) e) ∙ sym (ap skip (here s i h)) ∙ k .same;
@@ -53,7 +57,11 @@ skip-more s at i h e k =
       high = omega arith;
     }
 
-pub skip-stop : (s : List ℕ) (at i : ℕ) → i < length s → (getD s i 0 ≡ 32 → ⊥) → Skipping s at i → Skips s at i
+pub skip-stop : (s : List ℕ) (at i : ℕ) →
+    i < length s →
+    (getD s i 0 ≡ 32 → ⊥) →
+    Skipping s at i →
+    Skips s at i
 skip-stop s at i h e k =
     record {
       same = here s i h ∙ sym (no-space (getD s i 0) (drop (i + 1) s) e) ∙ sym (ap skip (here s i h)) ∙ k .same;
@@ -71,7 +79,10 @@ skip-end s at i h k =
 
 -- ---- the next item
 
-pub lex-here : (s : List ℕ) (at start : ℕ) → start < length s → Skips s at start → Lexes s at (record { byte = getD s start 0; start = start; next = start + 1 })
+pub lex-here : (s : List ℕ) (at start : ℕ) →
+    start < length s →
+    Skips s at start →
+    Lexes s at (record { byte = getD s start 0; start = start; next = start + 1 })
 lex-here s at start h k =
     record {
       same = first-here s start h ∙ ap first (k .same);
@@ -83,7 +94,10 @@ lex-here s at start h k =
       falls = λ z. omega (arith, k .low);
     }
 
-pub lex-end : (s : List ℕ) (at start : ℕ) → length s ≤ start → Skips s at start → Lexes s at (record { byte = 0; start = start; next = start })
+pub lex-end : (s : List ℕ) (at start : ℕ) →
+    length s ≤ start →
+    Skips s at start →
+    Lexes s at (record { byte = 0; start = start; next = start })
 lex-end s at start h k =
     record {
       same = first-end s start h ∙ ap first (k .same);
@@ -105,14 +119,18 @@ valueFrom-beyond n (d ∷ s) h = valueFrom-beyond (n * 10 + (d - 48)) s (omega a
 capped-beyond : (n : ℕ) (s : List ℕ) → limit < n → numeral (capped n s) ≡ Beyond 15
 unfolding numeral capped
 capped-beyond n [] h = rw (lt-leb n limit h)
-capped-beyond n (d ∷ s) h = ap (λ m. numeral (capped m s)) (ap (λ t. cond t (n * 10 + (d - 48)) n) (lt-leb n limit h)) ∙ capped-beyond n s h
+capped-beyond n (d ∷ s) h =
+    ap (λ m. numeral (capped m s)) (ap (λ t. cond t (n * 10 + (d - 48)) n) (lt-leb n limit h)) ∙ capped-beyond n s h
 
 pub capped-numeral : (n : ℕ) (s : List ℕ) → numeral (capped n s) ≡ numeral (valueFrom n s)
 unfolding valueFrom capped
 capped-numeral n [] = refl
 capped-numeral n (d ∷ s) = go (leb n limit) refl (capped-numeral (n * 10 + (d - 48)) s)
   where
-    go : (t : Bool) → leb n limit ≡ t → numeral (capped (n * 10 + (d - 48)) s) ≡ numeral (valueFrom (n * 10 + (d - 48)) s) → numeral (capped (cond t (n * 10 + (d - 48)) n) s) ≡ numeral (valueFrom (n * 10 + (d - 48)) s)
+    go : (t : Bool) →
+        leb n limit ≡ t →
+        numeral (capped (n * 10 + (d - 48)) s) ≡ numeral (valueFrom (n * 10 + (d - 48)) s) →
+        numeral (capped (cond t (n * 10 + (d - 48)) n) s) ≡ numeral (valueFrom (n * 10 + (d - 48)) s)
     go true e h = h
     go false e h =
         let k = leb-false n limit e in
@@ -137,17 +155,28 @@ capped-none : (n : ℕ) → capped n [] ≡ n
 unfolding capped
 capped-none n = refl
 
-pub run-more : (s : List ℕ) (at number i m : ℕ) → i < length s → digit (getD s i 0) ≡ true → m ≡ grown number (getD s i 0) → Running s at number i → Running s at m (i + 1)
+pub run-more : (s : List ℕ) (at number i m : ℕ) →
+    i < length s →
+    digit (getD s i 0) ≡ true →
+    m ≡ grown number (getD s i 0) →
+    Running s at number i →
+    Running s at m (i + 1)
 run-more s at number i m h t e k =
     let r : run (drop i s) ≡ getD s i 0 ∷ run (drop (i + 1) s) = ap run (here s i h) ∙ run-digit (getD s i 0) (drop (i + 1) s) t in
     record {
-      same = ap (λ (n : ℕ). capped n (run (drop (i + 1) s))) e ∙ sym (capped-cons number (getD s i 0) (run (drop (i + 1) s))) ∙ sym (ap (capped number) r) ∙ k .same;
+      same =
+          ap (λ (n : ℕ). capped n (run (drop (i + 1) s))) e ∙ sym (capped-cons number (getD s i 0) (run (drop (i + 1) s)))
+          ∙ sym (ap (capped number) r) ∙ k .same;
       goes-on = sym (past-digit (getD s i 0) (drop (i + 1) s) t) ∙ sym (ap past (here s i h)) ∙ k .goes-on;
       count = omega (arith, ap length r, k .count);
       high = omega arith;
     }
 
-stopped : (s : List ℕ) (at number i : ℕ) → run (drop i s) ≡ [] → past (drop i s) ≡ drop i s → Running s at number i → Runs s at (record { number = number; end = i })
+stopped : (s : List ℕ) (at number i : ℕ) →
+    run (drop i s) ≡ [] →
+    past (drop i s) ≡ drop i s →
+    Running s at number i →
+    Runs s at (record { number = number; end = i })
 stopped s at number i r p k =
     record {
       same = ap numeral (sym (capped-none number) ∙ sym (ap (capped number) r) ∙ k .same) ∙ capped-numeral 0 (run (drop at s));
@@ -156,12 +185,19 @@ stopped s at number i r p k =
       high = k .high;
     }
 
-pub run-stop : (s : List ℕ) (at number i : ℕ) → i < length s → digit (getD s i 0) ≡ false → Running s at number i → Runs s at (record { number = number; end = i })
+pub run-stop : (s : List ℕ) (at number i : ℕ) →
+    i < length s →
+    digit (getD s i 0) ≡ false →
+    Running s at number i →
+    Runs s at (record { number = number; end = i })
 run-stop s at number i h t k =
     stopped s at number i (ap run (here s i h) ∙ run-other (getD s i 0) (drop (i + 1) s) t)
     (ap past (here s i h) ∙ past-other (getD s i 0) (drop (i + 1) s) t ∙ sym (here s i h)) k
 
-pub run-end : (s : List ℕ) (at number i : ℕ) → length s ≤ i → Running s at number i → Runs s at (record { number = number; end = i })
+pub run-end : (s : List ℕ) (at number i : ℕ) →
+    length s ≤ i →
+    Running s at number i →
+    Runs s at (record { number = number; end = i })
 run-end s at number i h k =
     stopped s at number i (ap run (drop-of-length-le s h) ∙ run-none)
     (ap past (drop-of-length-le s h) ∙ past-none ∙ sym (drop-of-length-le s h)) k

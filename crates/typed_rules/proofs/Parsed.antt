@@ -10,7 +10,9 @@ use Rattle.typed_rules.specs.Contracts.{valued}
 clash : {A B : Type 0} {a : A} {r : List ℕ} → _≡_ {A = Parsed A} fail (got a r) → B
 clash e = absurd (let z : _≡_ {A = ℕ} 0 1 = cc in omega arith)
 
-pub inv-got : {A : Type 0} (v : A → Value) (p : Parsed A) {w : Value} {r : List ℕ} → valued v p ≡ got w r → (a : A) × (p ≡ got a r) × (v a ≡ w)
+pub inv-got : {A : Type 0} (v : A → Value) (p : Parsed A) {w : Value} {r : List ℕ} →
+    valued v p ≡ got w r →
+    (a : A) × (p ≡ got a r) × (v a ≡ w)
 inv-got v fail e = clash e
 inv-got v (got a q) e = (a, cc, cc)
 

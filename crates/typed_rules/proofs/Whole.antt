@@ -47,7 +47,13 @@ module _ (text : List ℕ) (at : ℕ) {b : ℕ} (x : b ≡ first (drop at text))
   right-tail = after-byte text at (byte-inside text at 61 equals (omega arith))
 
   -- a right side of the value w, with the text after its spaces
-  right-reads : {s : Step} {w : Value} {n e : ℕ} (rest : List ℕ) → ReadsSide text (at + 1) 8 s → s ≡ Got w n → Skips text n e → drop e text ≡ rest → (a : Side) (i : ℕ) (k : Relation) → (z : Side) × (rightOf a i k (drop at text) ≡ ended rest (rule a i k z (lead (drop n text)))) × (valueSide z ≡ w)
+  right-reads : {s : Step} {w : Value} {n e : ℕ} (rest : List ℕ) →
+      ReadsSide text (at + 1) 8 s →
+      s ≡ Got w n →
+      Skips text n e →
+      drop e text ≡ rest →
+      (a : Side) (i : ℕ) (k : Relation) →
+      (z : Side) × (rightOf a i k (drop at text) ≡ ended rest (rule a i k z (lead (drop n text)))) × (valueSide z ≡ w)
   right-reads {s} {n = n} rest f g k h a i r =
       let z = inv-got valueSide (sideOf (drop (at + 1) text)) (side-of text (at + 1) s f ∙ ap (view text) g) in (
         z .0,
@@ -57,11 +63,27 @@ module _ (text : List ℕ) (at : ℕ) {b : ℕ} (x : b ≡ first (drop at text))
       )
 
 module _ {text : List ℕ} {at kind : ℕ} {v : Value} {b : ℕ} (x : b ≡ first (drop at text)) where
-  pub right-more : {s : Step} {w : Value} {n e : ℕ} → b ≡ 61 → s ≡ Got w n → ReadsSide text (at + 1) 8 s → Skips text n e → e < length text → JudgesRight text at kind v (refusal 13)
+  pub right-more : {s : Step} {w : Value} {n e : ℕ} →
+      b ≡ 61 →
+      s ≡ Got w n →
+      ReadsSide text (at + 1) 8 s →
+      Skips text n e →
+      e < length text →
+      JudgesRight text at kind v (refusal 13)
   right-more {e = e} y g f k h =
-      record { same = λ a i r p q. sym (ap judged (right-reads text at x y (getD text e 0 ∷ drop (e + 1) text) f g k (here text e h) a i r .1)) }
+      record {
+        same = λ a i r p q. sym
+            (ap judged (right-reads text at x y (getD text e 0 ∷ drop (e + 1) text) f g k (here text e h) a i r .1));
+      }
 
-  pub right-ends : {s : Step} {w : Value} {n e : ℕ} {t : Typed} → b ≡ 61 → s ≡ Got w n → ReadsSide text (at + 1) 8 s → Skips text n e → length text ≤ e → t ≡ conclude kind v w → JudgesRight text at kind v t
+  pub right-ends : {s : Step} {w : Value} {n e : ℕ} {t : Typed} →
+      b ≡ 61 →
+      s ≡ Got w n →
+      ReadsSide text (at + 1) 8 s →
+      Skips text n e →
+      length text ≤ e →
+      t ≡ conclude kind v w →
+      JudgesRight text at kind v t
   unfolding valueRule
   right-ends {w = w} y g f k h c =
       record {
@@ -74,7 +96,11 @@ module _ {text : List ℕ} {at kind : ℕ} {v : Value} {b : ℕ} (x : b ≡ firs
             ∙ sym (ap judged (z .1));
       }
 
-  pub right-fails : {s : Step} → b ≡ 61 → s ≡ Fail → ReadsSide text (at + 1) 8 s → JudgesRight text at kind v (refusal 13)
+  pub right-fails : {s : Step} →
+      b ≡ 61 →
+      s ≡ Fail →
+      ReadsSide text (at + 1) 8 s →
+      JudgesRight text at kind v (refusal 13)
   right-fails {s} y g f =
       record {
         same = λ a i r p q.
@@ -89,7 +115,10 @@ module _ {text : List ℕ} {at kind : ℕ} {v : Value} {b : ℕ} (x : b ≡ firs
 -- ---- the relation
 
 module _ {text : List ℕ} {at : ℕ} {v : Value} {l : Lexed} (x : Lexes text at l) where
-  judges : (k : Relation) {t : Typed} → ((a : Side) → relationOf a (drop at text) ≡ rightOf a (lead (drop at text)) k (beyond (drop at text))) → JudgesRight text (l .next) (kindOf k) v t → Judges text at v t
+  judges : (k : Relation) {t : Typed} →
+      ((a : Side) → relationOf a (drop at text) ≡ rightOf a (lead (drop at text)) k (beyond (drop at text))) →
+      JudgesRight text (l .next) (kindOf k) v t →
+      Judges text at v t
   judges k f j =
       record {
         same = λ a y.
@@ -98,10 +127,16 @@ module _ {text : List ℕ} {at : ℕ} {v : Value} {l : Lexed} (x : Lexes text at
             ∙ sym (ap judged (f a));
       }
 
-  pub judges-most : {t : Typed} → l .byte ≡ 60 → JudgesRight text (l .next) 1 v t → Judges text at v t
+  pub judges-most : {t : Typed} →
+      l .byte ≡ 60 →
+      JudgesRight text (l .next) 1 v t →
+      Judges text at v t
   judges-most b = judges at-most (λ a. relation-most a (drop at text) (sym (x .same) ∙ b))
 
-  pub judges-least : {t : Typed} → l .byte ≡ 62 → JudgesRight text (l .next) 2 v t → Judges text at v t
+  pub judges-least : {t : Typed} →
+      l .byte ≡ 62 →
+      JudgesRight text (l .next) 2 v t →
+      Judges text at v t
   judges-least b = judges at-least (λ a. relation-least a (drop at text) (sym (x .same) ∙ b))
 
   pub judges-other : (l .byte ≡ 60 → ⊥) → (l .byte ≡ 62 → ⊥) → Judges text at v (refusal 13)
@@ -109,13 +144,20 @@ module _ {text : List ℕ} {at : ℕ} {v : Value} {l : Lexed} (x : Lexes text at
 
 -- ---- the whole
 
-pub text-got : {text : List ℕ} {s : Step} {v : Value} {n : ℕ} {t : Typed} → s ≡ Got v n → ReadsSide text 0 8 s → Judges text n v t → t ≡ judged (parse text)
+pub text-got : {text : List ℕ} {s : Step} {v : Value} {n : ℕ} {t : Typed} →
+    s ≡ Got v n →
+    ReadsSide text 0 8 s →
+    Judges text n v t →
+    t ≡ judged (parse text)
 unfolding parse
 text-got {text} {s} g f j =
     let z = inv-got valueSide (sideOf (drop 0 text)) (side-of text 0 s f ∙ ap (view text) g) in
     j .same (z .0) (z .2) ∙ sym (ap (λ (p : Parsed Side). judged (bind p (λ a r. relationOf a r))) (z .1))
 
-pub text-fails : {text : List ℕ} {s : Step} → s ≡ Fail → ReadsSide text 0 8 s → refusal 13 ≡ judged (parse text)
+pub text-fails : {text : List ℕ} {s : Step} →
+    s ≡ Fail →
+    ReadsSide text 0 8 s →
+    refusal 13 ≡ judged (parse text)
 unfolding parse
 text-fails {text} {s} g f =
     let z = inv-fail valueSide (sideOf (drop 0 text)) (side-of text 0 s f ∙ ap (view text) g) in

@@ -84,7 +84,8 @@ pub record Follows (text : List ℕ) (at : ℕ) (v : Value) : Type 0 where
   pub small : Small v
 
 -- a reader of what follows a part of the value v
-pub record ReadsOn {A : Type 0} (worth : A → Value) (by : ℕ → ℕ → A → List ℕ → Parsed A) (text : List ℕ) (at depth : ℕ) (v : Value) (r : Step) : Type 0 where
+pub record ReadsOn {A : Type 0} (worth : A → Value) (by : ℕ → ℕ → A → List ℕ → Parsed A)
+    (text : List ℕ) (at depth : ℕ) (v : Value) (r : Step) : Type 0 where
   pub same : (k : ℕ) → Enough text at 0 k → (a : A) → worth a ≡ v → valued worth (by k depth a (drop at text)) ≡ view text r
   pub moved : Moved text at r
 

@@ -1,5 +1,5 @@
--- A number read digit by digit that stays where it is once it is beyond the limit. That the limit's test comes out as for the whole number is shown in
--- proofs/Bytes.antt.
+-- A number read digit by digit that stays where it is once it is beyond the limit. That the limit's test comes out as for the whole
+-- number is shown in proofs/Bytes.antt.
 use mathlib.Core.Bool.{cond}
 use mathlib.Core.List.{List, [], _∷_}
 use Prim.Native.Nat.{ℕ, _+_, _*_, _-_}

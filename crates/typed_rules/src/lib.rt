@@ -1,4 +1,5 @@
-// A rule typed as text, read by the language of document 02, #103. Every function that can be called from outside is total: it takes any bytes and answers.
+// A rule typed as text, read by the language of document 02, #103. Every function that can be called from outside is total: it takes
+// any bytes and answers.
 mod readers;
 mod tokens;
 

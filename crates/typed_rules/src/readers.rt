@@ -1,4 +1,5 @@
-// The readers of side, term and factor call each other, and the remaining text falls. Each hands back the value of what it read and the place after it.
+// The readers of side, term and factor call each other, and the remaining text falls. Each hands back the value of what it read and
+// the place after it.
 use crate::Step;
 use crate::tokens::byte_at;
 use crate::tokens::digit;

@@ -23,4 +23,5 @@ unfolding difference
 returns-2 c = combined (c .before .before .before .paired .ensures) (λ f g. limited (subForms f g)) (c .before .n .given .1) refused
 
 pub difference-spec : {M : Type 1} → statement M
-difference-spec = tie.close (tie.spec (λ c κs. search needs) (λ c. search needs) requires (λ c κs. search needs) (λ c. search needs) returns returns-2)
+difference-spec =
+    tie.close (tie.spec (λ c κs. search needs) (λ c. search needs) requires (λ c κs. search needs) (λ c. search needs) returns returns-2)

@@ -23,4 +23,5 @@ unfolding sum
 returns-2 c = combined (c .before .before .before .paired .ensures) (λ f g. limited (addForms f g)) (c .before .n .given .1) refused
 
 pub sum-spec : {M : Type 1} → statement M
-sum-spec = tie.close (tie.spec (λ c κs. search needs) (λ c. search needs) requires (λ c κs. search needs) (λ c. search needs) returns returns-2)
+sum-spec =
+    tie.close (tie.spec (λ c κs. search needs) (λ c. search needs) requires (λ c κs. search needs) (λ c. search needs) returns returns-2)

@@ -16,7 +16,8 @@ returns c =
     let n = start .args .n in
     let one = inside-read n (f .a) (record { sfits = a .before .struct-told .given .0 .1 }) (a .inside .ensures) in
     let two = inside-read n (f .b) (record { sfits = b .before .struct-told2 .given .1 .0 .1 }) (b .inside2 .ensures) in
-    let three = inside-read (start .args .m) (f .c) (record { sfits = c .before .struct-told3 .given .1 .1 .0 .1 }) (c .inside3 .ensures) in
+    let three = inside-read (start .args .m) (f .c) (record { sfits = c .before .struct-told3 .given .1 .1 .0 .1 })
+    (c .inside3 .ensures) in
     and-last (sym one ∙ b .before .before .if1 .taken) (and-last (sym two ∙ c .before .before .if2 .taken) three)
 
 returns-2 : tie.Need-returns-2

@@ -43,4 +43,6 @@ returns-3 c =
     }
 
 pub multiplied-spec : {M : Type 1} → statement M
-multiplied-spec = tie.close (tie.spec (λ c κs. search needs) (λ c κs. search needs) (λ c κs. search needs) (λ c κs. search needs) returns returns-2 returns-3)
+multiplied-spec =
+    tie.close (tie.spec (λ c κs. search needs) (λ c κs. search needs) (λ c κs. search needs) (λ c κs. search needs) returns returns-2
+    returns-3)

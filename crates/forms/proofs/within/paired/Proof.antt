@@ -34,4 +34,6 @@ returns-3 c =
     }
 
 pub paired-spec : {M : Type 1} → statement M
-paired-spec = tie.close (tie.spec (λ c κs. search needs) (λ c. search needs) (λ c. search needs) (λ c κs. search needs) (λ c. search needs) (λ c. search needs) returns returns-2 returns-3)
+paired-spec =
+    tie.close (tie.spec (λ c κs. search needs) (λ c. search needs) (λ c. search needs) (λ c κs. search needs) (λ c. search needs)
+    (λ c. search needs) returns returns-2 returns-3)

@@ -34,13 +34,21 @@ loop-less : tie.Need-loop-less Inv-loop μ-loop
 loop-less c = omega arith
 
 loop-again : tie.Need-loop-again Inv-loop μ-loop
-loop-again c = run-more _ (c .before .before .before .before .before .before .before .args .at) (c .before .before .before .before .before .loop .number) (c .before .before .before .before .before .loop .i) _ (omega arith) (sym (c .before .before .digit .ensures) ∙ c .before .if1 .taken) (c .grow .ensures) (c .before .before .before .before .before .loop .inv)
+loop-again c =
+    run-more _ (c .before .before .before .before .before .before .before .args .at)
+    (c .before .before .before .before .before .loop .number) (c .before .before .before .before .before .loop .i) _ (omega arith)
+    (sym (c .before .before .digit .ensures) ∙ c .before .if1 .taken) (c .grow .ensures)
+    (c .before .before .before .before .before .loop .inv)
 
 returns : tie.Need-returns Inv-loop μ-loop
-returns c = run-stop _ (c .before .before .before .before .before .before .args .at) (c .before .before .before .before .loop .number) (c .before .before .before .before .loop .i) (omega arith) (sym (c .before .digit .ensures) ∙ c .if1 .left) (c .before .before .before .before .loop .inv)
+returns c =
+    run-stop _ (c .before .before .before .before .before .before .args .at) (c .before .before .before .before .loop .number)
+    (c .before .before .before .before .loop .i) (omega arith) (sym (c .before .digit .ensures) ∙ c .if1 .left)
+    (c .before .before .before .before .loop .inv)
 
 returns-2 : tie.Need-returns-2 Inv-loop μ-loop
-returns-2 c = run-end _ (c .before .before .before .args .at) (c .before .loop .number) (c .before .loop .i) (omega arith) (c .before .loop .inv)
+returns-2 c =
+    run-end _ (c .before .before .before .args .at) (c .before .loop .number) (c .before .loop .i) (omega arith) (c .before .loop .inv)
 
 pub digits-spec : {M : Type 1} → statement M
 digits-spec =

@@ -14,7 +14,9 @@ add-t9 : tie.Need-add-t9
 add-t9 c = search needs
 
 returns : tie.Need-returns
-returns c = lex-here _ (c .before .before .before .before .args .at) (c .before .before .skip .result) (c .before .if1 .taken) (c .before .before .skip .ensures)
+returns c =
+    lex-here _ (c .before .before .before .before .args .at) (c .before .before .skip .result) (c .before .if1 .taken)
+    (c .before .before .skip .ensures)
 
 returns-2 : tie.Need-returns-2
 returns-2 c = lex-end _ (c .before .before .before .args .at) (c .before .skip .result) (c .if1 .left) (c .before .skip .ensures)

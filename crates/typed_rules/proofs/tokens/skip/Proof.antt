@@ -25,10 +25,14 @@ loop-less : tie.Need-loop-less Inv-loop μ-loop
 loop-less c = omega arith
 
 loop-again : tie.Need-loop-again Inv-loop μ-loop
-loop-again c = skip-more _ (c .before .before .before .before .args .at) (c .before .before .before .loop .i) (omega arith) (c .if1 .taken) (c .before .before .before .loop .inv)
+loop-again c =
+    skip-more _ (c .before .before .before .before .args .at) (c .before .before .before .loop .i) (omega arith) (c .if1 .taken)
+    (c .before .before .before .loop .inv)
 
 returns : tie.Need-returns Inv-loop μ-loop
-returns c = skip-stop _ (c .before .before .before .before .args .at) (c .before .before .before .loop .i) (omega arith) (c .if1 .left) (c .before .before .before .loop .inv)
+returns c =
+    skip-stop _ (c .before .before .before .before .args .at) (c .before .before .before .loop .i) (omega arith) (c .if1 .left)
+    (c .before .before .before .loop .inv)
 
 returns-2 : tie.Need-returns-2 Inv-loop μ-loop
 returns-2 c = skip-end _ (c .before .before .args .at) (c .before .loop .i) (omega arith) (c .before .loop .inv)
