@@ -31,7 +31,10 @@ module _ (f : Functional) (w : Walk) where
         restarts = w .restarts;
       }
 
-  pub solution-ended : {p : ℕ} {c : Certificate} → w .state ≡ Ended p c → of-state (Ended p c) ≡ solutionOf f w
+  pub solution-ended :
+      {p : ℕ} {c : Certificate} →
+      w .state ≡ Ended p c →
+      of-state (Ended p c) ≡ solutionOf f w
   solution-ended e = ap of-state (sym e)
 
   pub solution-going :
@@ -39,8 +42,26 @@ module _ (f : Functional) (w : Walk) where
       w .state ≡ Going s cone b →
       {o : Outcome} →
       o ≡ said f (Going s cone b) →
-      _≡_ {A = Solution} (record { outcome = o; moves = w .moves; opened = w .opened; place = 0; certificate = nobody; held = true; start = s; restarts = w .restarts })
+      _≡_ {A = Solution} (record {
+        outcome = o;
+        moves = w .moves;
+        opened = w .opened;
+        place = 0;
+        certificate = nobody;
+        held = true;
+        start = s;
+        restarts = w .restarts;
+      })
       (solutionOf f w)
   solution-going {s} e eo =
-      (λ i. record { outcome = eo i; moves = w .moves; opened = w .opened; place = 0; certificate = nobody; held = true; start = s; restarts = w .restarts })
+      (λ i. record {
+        outcome = eo i;
+        moves = w .moves;
+        opened = w .opened;
+        place = 0;
+        certificate = nobody;
+        held = true;
+        start = s;
+        restarts = w .restarts;
+      })
       ∙ ap of-state (sym e)

@@ -1,4 +1,5 @@
--- Each test of a range says what its record says, both ways; and so the promises of `solve` and `amount` for numbers that are within their ranges.
+-- Each test of a range says what its record says, both ways; and so the promises of `solve` and `amount` for numbers that are within
+-- their ranges.
 use mathlib.Core.Path.{_≡_, refl, sym, _∙_, ap, subst}
 use mathlib.Core.List.{List, [], _∷_}
 use mathlib.Core.Bool.{Bool, true, false, cond, _&&_}
@@ -129,7 +130,8 @@ pub solved :
 solved t l n h room s =
     ap (λ b. cond b (Walked (solutionOf (t .objective) (walk tie (t .floors) (t .objective) (entries l 2 n)))) Outside)
     (passes (leb (3 * (n + 2)) (length l)) (objectiveInRange (t .objective)) (floorsInRange (t .floors)) (every ruleInRange (entries l 2 n))
-    (le-leb (3 * (n + 2)) (length l) room) (objective-passes (h .objective-small)) (floors-pass (h .floors-small)) (system-passes (entries l 2 n) s))
+    (le-leb (3 * (n + 2)) (length l) room) (objective-passes (h .objective-small)) (floors-pass (h .floors-small))
+    (system-passes (entries l 2 n) s))
   where
     passes : (a b c d : Bool) → a ≡ true → b ≡ true → c ≡ true → d ≡ true → (a && b && c && d) ≡ true
     passes a b c d ea eb ec ed = rw (ea, eb, ec, ed)
@@ -158,7 +160,14 @@ module _ (r : Constraint) (v : Point) {a b : Bool} (ea : a ≡ ruleInRange r) (e
   pub amount-out : (a && b) ≡ false → amount (pos 0) (pos 0) ≡ amountOf r v
   amount-out e = amount-told e
 
-  pub amount-in : (a && b) ≡ true → {z : ℤ} → mag z < 2 ^ 63 → z ≡ slack r v → {x : Amount} → x ≡ lowest (read z) (read (v .d)) → x ≡ amountOf r v
+  pub amount-in :
+      (a && b) ≡ true →
+      {z : ℤ} →
+      mag z < 2 ^ 63 →
+      z ≡ slack r v →
+      {x : Amount} →
+      x ≡ lowest (read z) (read (v .d)) →
+      x ≡ amountOf r v
   amount-in e {z} h ez ex =
       let k = amount-tests e .1 in
       ex ∙ (λ i. lowest ((unread {z = z} h ∙ ez) i) (within-unread (k .d-small) tt i)) ∙ amount-told e

@@ -1,5 +1,5 @@
--- What the engine's private functions ask of numbers, one record for each: that they are within document 01's bounds. No function that is called from outside
--- asks anything.
+-- What the engine's private functions ask of numbers, one record for each: that they are within document 01's bounds. No function that is
+-- called from outside asks anything.
 use mathlib.Core.Path.{_≡_}
 use mathlib.Core.List.{List}
 use Prim.Native.Nat.{ℕ, _+_, _*_, _^_, _≤_, _<_}

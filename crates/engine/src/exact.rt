@@ -1,5 +1,5 @@
-// Exact arithmetic on constraints, points and rays: the sign of a determinant decides on which side of a line a point lies. Products and sums stay
-// within 64 bits because the numbers are within document 01's bounds, so that nothing is divided and nothing is rounded.
+// Exact arithmetic on constraints, points and rays: the sign of a determinant decides on which side of a line a point lies. Products and
+// sums stay within 64 bits because the numbers are within document 01's bounds, so that nothing is divided and nothing is rounded.
 use lp::Constraint;
 use lp::Functional;
 use lp::Point;

@@ -1,5 +1,5 @@
-// The optimum: it stays where it keeps the new constraint, and else moves to the tightest point on that constraint's line. No check is needed there: the
-// start point says whether the system is feasible.
+// The optimum: it stays where it keeps the new constraint, and else moves to the tightest point on that constraint's line. No check is
+// needed there: the start point says whether the system is feasible.
 use crate::cone::gaining;
 use crate::exact::direction;
 use crate::exact::facing;

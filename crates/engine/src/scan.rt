@@ -1,4 +1,5 @@
-// The passes over the entries of a system. Entries stand in one lent slice, three numbers each, floors first; n says how many of them count.
+// The passes over the entries of a system. Entries stand in one lent slice, three numbers each, floors first; n says how many of them
+// count.
 use crate::entries::entry;
 use crate::exact::crosses;
 use crate::exact::is_proper;
@@ -16,8 +17,9 @@ ghost use Rattle.engine.specs.Entries.{entries as entriesOf};
 ghost use Rattle.engine.specs.Held.{farthest, tightened, foundOf};
 ghost use Rattle.engine.specs.Sizes.{Tightening, Along, Checking};
 
-// The tightest point so far on a line that is walked, with the entry that makes it and the entry's index. At first it is the point at infinity, whose d is 0:
-// whatever meets the line breaks it. (The model's Found says the same; this has no tag, and so the loop holds it in registers.)
+// The tightest point so far on a line that is walked, with the entry that makes it and the entry's index. At first it is the point at
+// infinity, whose d is 0: whatever meets the line breaks it. (The model's Found says the same; this has no tag, and so the loop holds it
+// in registers.)
 pub struct Held {
     pub index: usize,
     pub entry: Constraint,
@@ -39,7 +41,8 @@ fn at_infinity(line: Constraint) -> Held
     }
 }
 
-// Entry m, at index i, is met along the line, and before the point held so far. Whether the point keeps it is asked first: most entries it keeps.
+// Entry m, at index i, is met along the line, and before the point held so far. Whether the point keeps it is asked first: most entries
+// it keeps.
 fn tighter(line: Constraint, i: usize, m: Constraint, held: Held) -> Held
     requires { ⌜ Tightening line m held ⌝ }
     ensures { λ t. ⌜ t ≡ tightened line i m held ⌝ }

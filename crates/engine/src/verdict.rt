@@ -1,4 +1,5 @@
-// What a walk comes to: the outcome, and where it is infeasible its place and certificate, else the start point. Fields that an outcome does not use are zero.
+// What a walk comes to: the outcome, and where it is infeasible its place and certificate, else the start point. Fields that an outcome
+// does not use are zero.
 use crate::Solution;
 use crate::cone::gaining;
 use fraction::reduce_ray;

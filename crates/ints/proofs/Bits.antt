@@ -1,4 +1,5 @@
--- The machine's signed numbers. A signed local is its bits, so each operand is a number read back from them; a number that fits is read back whole.
+-- The machine's signed numbers. A signed local is its bits, so each operand is a number read back from them; a number that fits is read
+-- back whole.
 use mathlib.Core.Path.{_≡_, refl, ap, sym, _∙_, subst}
 use mathlib.Core.Bool.{true, false}
 use Prim.Native.Nat.{ℕ, zero, suc, _+_, _^_, _<_}

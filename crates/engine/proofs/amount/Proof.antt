@@ -15,7 +15,9 @@ returns : tie.Need-returns
 returns c =
     let a = c .before .before .before .before .before .before .args in
     let z = c .before .before .slack in
-    amount-in (a .r) (a .v) (c .before .before .before .before .before .rule-in-range .ensures) (c .before .before .before .before .point-in-range .ensures) (c .before .before .before .if1 .taken) (z .ok) (z .ensures) (c .lowest .ensures)
+    amount-in (a .r) (a .v) (c .before .before .before .before .before .rule-in-range .ensures)
+    (c .before .before .before .before .point-in-range .ensures) (c .before .before .before .if1 .taken) (z .ok) (z .ensures)
+    (c .lowest .ensures)
 
 returns-2 : tie.Need-returns-2
 returns-2 c =

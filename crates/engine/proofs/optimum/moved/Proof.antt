@@ -26,14 +26,19 @@ upward-requires c κs =
 tightest-point-requires : tie.Need-tightest-point-requires
 tightest-point-requires c κs =
     let h = c .before .before .before .pre .restarting in
-    record { entries = h .entries; line-small = subst SmallConstraint (sym (c .facing .ensures)) (facing-small (c .before .upward .result) (h .h-small)) }
+    record {
+      entries = h .entries;
+      line-small = subst SmallConstraint (sym (c .facing .ensures))
+          (facing-small (c .before .upward .result) (h .h-small));
+    }
 
 returns : tie.Need-returns
 returns c =
     let a = c .before .before .before .before .args in
     c .tightest-point .ensures
     ∙ ap (λ l. foundPoint (tightest l 0 (entries (now (a .entries)) 0 (a .n)) Nothing))
-    (faced (gainOrder (a .objective) (a .tie)) (a .h) (c .before .before .before .direction .ensures) (c .before .before .upward .ensures) (c .before .facing .ensures))
+    (faced (gainOrder (a .objective) (a .tie)) (a .h) (c .before .before .before .direction .ensures) (c .before .before .upward .ensures)
+    (c .before .facing .ensures))
 
 pub moved-spec : {M : Type 1} → statement M
 moved-spec =
