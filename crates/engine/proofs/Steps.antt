@@ -85,6 +85,16 @@ pub faced :
     line ≡ facing (above fs (direction h)) h
 faced fs h ed es el = el ∙ ap (λ s. facing s h) (es ∙ ap (above fs) ed)
 
+-- and what is found on it
+pub faced-tightest :
+    (fs : List Functional) (S : List Constraint) (h : Constraint) {d : Ray} {side : Bool} {line : Constraint} {f : Found} →
+    d ≡ direction h →
+    side ≡ above fs d →
+    line ≡ facing side h →
+    f ≡ tightest line 0 S found.Nothing →
+    f ≡ tightest (facing (above fs (direction h)) h) 0 S found.Nothing
+faced-tightest fs S h ed es el ef = ef ∙ ap (λ l. tightest l 0 S found.Nothing) (faced fs h ed es el)
+
 -- the start point's new place, from what the calls on the way to it returned
 pub restarted :
     (t : Tie) (S : List Constraint) (n : ℕ) (h : Constraint) {d : Ray} {side : Bool} {line : Constraint} {f : Found} {r : Restart} →
@@ -97,8 +107,7 @@ pub restarted :
     r ≡ restart t S n h
 restarted t S n h {d} {side} z ed es el ef er =
     er
-    ∙ ap₂ (λ s f. resettled S s n h f) (es ∙ ap (above (tieOrder t)) ed) (ef
-    ∙ ap (λ l. tightest l 0 S found.Nothing) (faced (tieOrder t) h ed es el))
+    ∙ ap₂ (λ s f. resettled S s n h f) (es ∙ ap (above (tieOrder t)) ed) (faced-tightest (tieOrder t) S h ed es el ef)
     ∙ sym (ap (λ z. elim z [
       | true ↦ Failed (alone n)
       | false ↦ resettled S (above (tieOrder t) (direction h)) n h

@@ -1,8 +1,7 @@
 // The passes over the entries of a system. Entries stand in one lent slice, three numbers each, floors first; n says how many of them
 // count.
 use crate::entries::entry;
-use crate::exact::crosses;
-use crate::exact::is_proper;
+use crate::exact::det;
 use crate::exact::keeps;
 use crate::exact::meet;
 use crate::exact::opposite;
@@ -51,7 +50,7 @@ fn tighter(line: Constraint, i: usize, m: Constraint, held: Held) -> Held
     if keeps(m, p) {
         return held;
     }
-    if crosses(m, line) {
+    if 0 < det(m, line) {
         Held {
             index: i,
             entry: m,
@@ -66,7 +65,7 @@ fn found(held: Held) -> Found
     ensures { λ r. ⌜ r ≡ foundOf held ⌝ }
 {
     let p = held.point;
-    if is_proper(p) {
+    if 0 < p.d {
         let k = held.entry;
         Found::At(held.index, k, p)
     } else {

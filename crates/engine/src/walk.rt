@@ -8,7 +8,6 @@ use crate::entries::entry;
 use crate::exact::keeps;
 use crate::optimum::breaks;
 use crate::optimum::improved;
-use crate::optimum::is_open;
 use crate::range::rule_in_range;
 use crate::start::start;
 use crate::verdict::solution;
@@ -45,10 +44,14 @@ fn going(s: Point, cone: Cone, best: Best, moves: usize, opened: usize, restarts
     requires { ⌜ Counting opened ⌝ }
     ensures { λ r. ⌜ r ≡ goingOf s cone best moves opened restarts ⌝ }
 {
+    let opened = match best {
+        Best::Open => opened + 1,
+        Best::At(_) => opened,
+    };
     Walk {
         state: State::Going(s, cone, best),
         moves,
-        opened: counted(opened, is_open(best)),
+        opened,
         restarts,
     }
 }
