@@ -44,10 +44,6 @@ found-parts s e = subst SmallFound e s
 pub entry-room : {l : List ℤ} {n : ℕ} → Entries l n → {k : ℕ} → k < n → Room l k
 entry-room h {k} b = record { room = omega (arith, h .room) }
 
--- fewer entries
-pub fewer : {l : List ℤ} {n m : ℕ} → m ≤ n → Entries l n → Entries l m
-fewer b h = record { room = omega (arith, h .room); small = λ k c. h .small k (omega arith) }
-
 pub entries-part : {l : List ℤ} {n : ℕ} → Entries l n → (i k : ℕ) → i + k ≤ n → SmallSystem (entries l i k)
 entries-part h i zero b = tt
 entries-part h i (suc k) b = (h .small i (omega arith), entries-part h (suc i) k (omega arith))

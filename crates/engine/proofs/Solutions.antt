@@ -1,8 +1,7 @@
 -- What a walk comes to, from the state that it holds: each law takes what the calls on one way returned.
 use mathlib.Core.Path.{_≡_, sym, _∙_, ap}
-use mathlib.Core.Bool.{Bool, true}
+use mathlib.Core.Bool.{true}
 use Prim.Native.Nat.{ℕ}
-use lib.IntN.{pos}
 use Rattle.lp.specs.declared.Functional.{Functional}
 use Rattle.lp.specs.declared.Point.{Point}
 use Rattle.lp.specs.declared.Certificate.{Certificate}

@@ -9,7 +9,6 @@ use lib.Dec.{T, leb}
 use lib.ListN.{length}
 use lib.IntN.{ℤ}
 use borrow.Author.Tests.{leb-true, le-leb}
-use Rattle.lp.specs.declared.Constraint.{Constraint}
 use Rattle.lp.specs.declared.Terms.{Terms}
 use Rattle.lp.specs.Outcome.{every}
 use Rattle.lp.specs.Document.{tie}

@@ -29,7 +29,7 @@ use Rattle.engine.proofs.Sizes.{within-unread}
 use Rattle.engine.specs.declared.Solved.the-variants.{Outside, Walked}
 use Rattle.engine.specs.Entries.{entries, putEntry}
 use Rattle.engine.specs.Tests.{upTo, ruleInRange, objectiveInRange, floorsInRange, pointInRange}
-use Rattle.engine.specs.Solving.{solutionOf, inRange, solvedOf, withFloors, amountOf}
+use Rattle.engine.specs.Solving.{solutionOf, solvedOf, withFloors, amountOf}
 
 -- ---- one number
 

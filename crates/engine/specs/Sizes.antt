@@ -38,11 +38,6 @@ pub record Distance (a x b y c d : ℤ) : Type 0 where
   pub c-small : Within 1000000000 c
   pub d-small : Within 2147352578 d
 
--- of a point's slack against a constraint
-pub record Measured (r : Constraint) (v : Point) : Type 0 where
-  pub constraint : SmallConstraint r
-  pub point : SmallPoint v
-
 pub record Lines (r s : Constraint) : Type 0 where
   pub first : SmallConstraint r
   pub second : SmallConstraint s

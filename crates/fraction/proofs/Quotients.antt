@@ -1,7 +1,7 @@
 -- A quotient by what divides several numbers, for every i64 and every u64: what the machine divides is what the integers have, and where
 -- the divisor is 0 or no i64 at all, the quotient is known. An i64 that a call takes or returns is read back from its bits, `read z`,
 -- which is z.
-use mathlib.Core.Path.{_≡_, refl, sym, _∙_, ap, ap₂, subst}
+use mathlib.Core.Path.{_≡_, sym, _∙_, ap, ap₂, subst}
 use Prim.Native.Nat.{ℕ, zero, suc, _/_, _^_, _≤_, _<_}
 use native.Mathlib.Nat.{div-zero, div-eq-of-lt, div-self, div-le-self}
 use native.Mathlib.Omega.{arith}

@@ -17,7 +17,8 @@ difference-requires-3 c κs =
 
 returns : tie.Need-returns
 returns c =
-    let h = c .before .before .before .before .before .before .before .before .before .before .before .before .before .before .before .pre in
+    let half = c .before .before .before .before .before .before .before in
+    let h = half .before .before .before .before .before .before .before .before .pre in
     let x = c .before .before .before .before .before .before .before .before .before .before .difference in
     let y = c .before .before .before .before .before .difference2 in
     let d = c .difference3 in

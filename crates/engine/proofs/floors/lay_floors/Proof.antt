@@ -1,7 +1,6 @@
 -- `engine::floors::lay_floors` meets its contract.
 use borrow.Author.Needs.{needs}
 use denote.Ref.{now}
-use native.Mathlib.Omega.{arith}
 use Rattle.ints.proofs.Machine.{within-read, weaken}
 use Rattle.engine.proofs.Sizes.{opposite-read}
 use Rattle.engine.proofs.Tests.{two-passed, floors-small}
@@ -32,7 +31,8 @@ opposite-requires-2 c κs =
 
 returns-2 : tie.Need-returns-2
 returns-2 c =
-    let s = c .before .before .before .before .before .before .before .before .before .before .before .before .before .before .before .before in
+    let half = c .before .before .before .before .before .before .before .before in
+    let s = half .before .before .before .before .before .before .before .before in
     let f = s .args .floors in
     let h = c .before .before .before .before .struct-told4 .given in
     let t = two-passed 32768 (f .lx) (f .ly) (h .0 .1) (h .1 .0 .1)

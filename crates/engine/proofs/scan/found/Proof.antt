@@ -1,5 +1,4 @@
 -- `engine::scan::found` meets its contract.
-use borrow.Author.Needs.{needs}
 use mathlib.Core.Path.{sym, _∙_, ap}
 use lib.IntN.{pos}
 use lib.Signed.{ltZ}

@@ -1,13 +1,12 @@
 -- `engine::walk::going` meets its contract.
 use borrow.Author.Needs.{needs}
-use mathlib.Core.Path.{_≡_, sym, _∙_, ap}
+use mathlib.Core.Path.{sym, _∙_, ap}
 use Prim.Native.Nat.{ℕ, _+_}
 use native.Mathlib.Nat.{add-zero}
 use Rattle.lp.specs.Prefixes.{one-if}
 use Rattle.model.specs.declared.Best.{Best}
 use Rattle.model.specs.declared.State.the-variants.{Going}
-use Rattle.model.specs.declared.Walk.{Walk}
-use Rattle.model.specs.Step.{isOpen, going}
+use Rattle.model.specs.Step.{isOpen}
 use Rattle.engine.proofs.walk.going.Statement.{statement}
 use Rattle.engine.proofs.walk.going.Tie as tie
 
