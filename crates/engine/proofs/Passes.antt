@@ -29,6 +29,7 @@ use Rattle.engine.specs.Entries.{entry, entries}
 use Rattle.engine.specs.declared.scan.Held.{Held}
 use Rattle.engine.specs.Held.{held, far, farthest, tightened, foundOf}
 use Rattle.engine.proofs.Sizes.{kept-distance}
+use Rattle.engine.proofs.Tests.{is-true}
 use Rattle.engine.specs.Sizes.{Entries, Room, Distance, SmallTriple, Along, Checking, Tightening}
 
 pub found-parts :
@@ -127,11 +128,7 @@ holds-found : (l : Constraint) (t : Held) (f : Found) → Holds l t f → SmallF
 holds-found l t found.Nothing e s =
     ap (λ (p : Point). elim (ltZ (pos 0) (p .d)) [ true ↦ found.At (t .index) (t .entry) p | false ↦ found.Nothing ]) e
 holds-found l t (found.At j k p) e s =
-    ap foundOf e ∙ ap (λ b. elim b [ true ↦ found.At j k p | false ↦ found.Nothing ]) (T-true (ltZ (pos 0) (p .d)) (s .1 .d-proper .lt))
-  where
-    T-true : (b : Bool) → T b → b ≡ true
-    T-true true h = refl
-    T-true false h = absurd h
+    ap foundOf e ∙ ap (λ b. elim b [ true ↦ found.At j k p | false ↦ found.Nothing ]) (is-true (ltZ (pos 0) (p .d)) (s .1 .d-proper .lt))
 
 holds-small : (l : Constraint) → SmallConstraint l → (t : Held) (f : Found) → Holds l t f → SmallFound f → SmallTriple (t .point)
 holds-small l h t found.Nothing e s =

@@ -45,7 +45,7 @@ pub both : (s t : Bool) → (s && t) ≡ true → (s ≡ true) × (t ≡ true)
 both true t e = (refl, e)
 both false t e = absurd (subst T (sym e) tt)
 
-is-true : (s : Bool) → T s → s ≡ true
+pub is-true : (s : Bool) → T s → s ≡ true
 is-true true h = refl
 is-true false h = absurd h
 

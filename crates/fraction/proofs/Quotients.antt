@@ -11,7 +11,7 @@ use mir.Syntax.{w64}
 use mir.Val.{SFits, toZ}
 use mir.Facts.{toZ-ofZ}
 use Rattle.ints.specs.Gcd.{gcd, gcd2, gcd3}
-use Rattle.ints.proofs.Bits.{read}
+use Rattle.ints.proofs.Bits.{read, low}
 use Rattle.ints.proofs.Gcd.{gcd-comm, gcd-assoc}
 use Rattle.lp.specs.Program.{point, ray}
 use Rattle.lp.specs.Slack.{amount}
@@ -20,11 +20,6 @@ pub unread : {z : ℤ} → mag z < 2 ^ 63 → read z ≡ z
 unread h = toZ-ofZ {w = w64} (record { sfits = h })
 
 -- ---- a divisor that is an i64
-
--- minus n, for n up to 2^63
-low : (n : ℕ) → n ≤ 2 ^ 63 → SFits w64 (negℤ (pos n))
-low zero h = record { sfits = omega arith }
-low (suc n) h = record { sfits = omega arith }
 
 module _ (g : ℕ) where
   fits : (z : ℤ) → mag z < 2 ^ 63 → SFits w64 (quotZ z (pos g))
