@@ -17,15 +17,13 @@ use Rattle.lp.specs.declared.Functional.{Functional}
 use Rattle.lp.specs.declared.Floors.{Floors}
 use Rattle.lp.specs.declared.Terms.{Terms}
 use Rattle.lp.specs.declared.Point.{Point}
-use Rattle.lp.specs.declared.Amount.{Amount}
-use Rattle.lp.specs.Program.{slack, floorX, floorY}
+use Rattle.lp.specs.Program.{floorX, floorY}
 use Rattle.lp.specs.Outcome.{every}
-use Rattle.lp.specs.Slack.{amount, lowest, slackOf}
+use Rattle.lp.specs.Slack.{amount, slackOf}
 use Rattle.lp.specs.Document.{tie}
 use Rattle.lp.specs.Range.{SmallConstraint, SmallSystem, SmallFunctional, SmallFloors, SmallTerms}
 use Rattle.model.specs.Bounds.{SmallPoint}
 use Rattle.model.specs.Step.{walk}
-use Rattle.engine.proofs.Sizes.{within-unread}
 use Rattle.engine.specs.declared.Solved.the-variants.{Outside, Walked}
 use Rattle.engine.specs.Entries.{entries, putEntry}
 use Rattle.engine.specs.Tests.{upTo, ruleInRange, objectiveInRange, floorsInRange, pointInRange}
@@ -148,26 +146,3 @@ floors-laid f l h room =
 pub measured : (r : Constraint) (v : Point) → SmallConstraint r → SmallPoint v → amountOf r v ≡ slackOf r v
 measured r v h k =
     ap (λ b. cond b (slackOf r v) (amount (pos 0) (pos 0))) (ap (λ b. b && pointInRange v) (rule-passes h) ∙ point-passes k)
-
--- as the code goes: the test, then the slack and its lowest terms
-module _ (r : Constraint) (v : Point) {a b : Bool} (ea : a ≡ ruleInRange r) (eb : b ≡ pointInRange v) where
-  pub amount-tests : (a && b) ≡ true → SmallConstraint r × SmallPoint v
-  amount-tests e = let t = both a b e in (rule-small (sym ea ∙ t .0), point-small (sym eb ∙ t .1))
-
-  amount-told : {s : Bool} → (a && b) ≡ s → cond s (slackOf r v) (amount (pos 0) (pos 0)) ≡ amountOf r v
-  amount-told e = ap (λ s. cond s (slackOf r v) (amount (pos 0) (pos 0))) (sym e ∙ (λ i. ea i && eb i))
-
-  pub amount-out : (a && b) ≡ false → amount (pos 0) (pos 0) ≡ amountOf r v
-  amount-out e = amount-told e
-
-  pub amount-in :
-      (a && b) ≡ true →
-      {z : ℤ} →
-      mag z < 2 ^ 63 →
-      z ≡ slack r v →
-      {x : Amount} →
-      x ≡ lowest (read z) (read (v .d)) →
-      x ≡ amountOf r v
-  amount-in e {z} h ez ex =
-      let k = amount-tests e .1 in
-      ex ∙ (λ i. lowest ((unread {z = z} h ∙ ez) i) (within-unread (k .d-small) tt i)) ∙ amount-told e

@@ -1,7 +1,7 @@
 -- `engine::amount` meets its contract: how far a point is from a constraint's line, in lowest terms.
 use borrow.Author.Needs.{needs}
 use Rattle.engine.proofs.Sizes.{kept-distance}
-use Rattle.engine.proofs.Tests.{amount-tests, amount-in, amount-out}
+use Rattle.engine.proofs.Amounts.{amount-tests, amount-in, amount-out}
 use Rattle.engine.proofs.amount.Statement.{statement}
 use Rattle.engine.proofs.amount.Tie as tie
 
