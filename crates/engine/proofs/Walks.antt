@@ -151,8 +151,7 @@ module _ {f : Functional} {floors : Floors} {l : List ℤ} {n : ℕ} (h : Walkin
               moving =
                   record {
                     objective = h .objective;
-                    restarting = record
-                        { tie = subst SmallTie (sym eq) tie-small; entries = v .taken; h-small = arrived };
+                    restarting = record { tie = subst SmallTie (sym eq) tie-small; entries = v .taken; h-small = arrived };
                   };
               state-small = v .small .state-small;
               moves-room = omega (arith, v .small .moves-small, v .floors-first);

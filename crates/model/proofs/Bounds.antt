@@ -304,8 +304,8 @@ module _ (t : Tie) (f : Functional) (S : List Constraint) (ss : SmallSystem S) (
     where
       later :
           (s : State) (sst : SmallState s) (b : Best) (u : Bool) →
-          SmallWalk (suc k) (record
-          { state = s; moves = w .moves + one-if (breaks h b); opened = w .opened; restarts = w .restarts + one-if u })
+          SmallWalk (suc k)
+          (record { state = s; moves = w .moves + one-if (breaks h b); opened = w .opened; restarts = w .restarts + one-if u })
       later s sst b u =
           record {
             state-small = sst;
@@ -357,8 +357,7 @@ corner-small h =
 pub axes-small : SmallCone (Wedge (ray (pos 1) (pos 0)) (ray (pos 0) (pos 1)))
 axes-small = (
   record { dx-small = within-numeral tt; dy-small = within-numeral tt },
-  record
-      { dx-small = within-numeral tt; dy-small = within-numeral tt },
+  record { dx-small = within-numeral tt; dy-small = within-numeral tt },
 )
 
 pub begin-small : (floors : Floors) → SmallFloors floors → (f : Functional) → SmallWalk 0 (begin floors f)
