@@ -1,6 +1,6 @@
--- Laws that the proofs of the engine's functions cite: sizes of sums and products (Sizes), entries put into a run (Laid), the passes over the entries
--- (Passes), the parts of a step (Steps), the walk (Walks) and what it comes to (Solutions), and the ways of
--- `solve` (Solves). What the promises say of numbers within their ranges: Tests.
+-- Laws that the proofs of the engine's functions cite: sizes of sums and products (Sizes), entries put into a run (Laid), the passes over
+-- the entries (Passes), the parts of a step (Steps), the walk (Walks) and what it comes to (Solutions), and the ways of `solve` (Solves)
+-- and `amount` (Amounts). What the promises say of numbers within their ranges: Tests.
 pub mod Tests
 pub mod Sizes
 pub mod Laid
@@ -9,3 +9,4 @@ pub mod Steps
 pub mod Walks
 pub mod Solutions
 pub mod Solves
+pub mod Amounts

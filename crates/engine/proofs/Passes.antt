@@ -1,5 +1,5 @@
--- The passes over the entries, from index i to n: what is left of a pass at i gives, with what was found so far, the answer of the whole. One record says so
--- for each loop, with its start, its step and its end.
+-- The passes over the entries, from index i to n: what is left of a pass at i gives, with what was found so far, the answer of the whole.
+-- One record says so for each loop, with its start, its step and its end.
 use mathlib.Core.Path.{_≡_, refl, sym, _∙_, ap, subst}
 use mathlib.Core.List.{List, [], _∷_}
 use mathlib.Core.Bool.{Bool, true, false}
@@ -29,19 +29,21 @@ use Rattle.engine.specs.Entries.{entry, entries}
 use Rattle.engine.specs.declared.scan.Held.{Held}
 use Rattle.engine.specs.Held.{held, far, farthest, tightened, foundOf}
 use Rattle.engine.proofs.Sizes.{kept-distance}
+use Rattle.engine.proofs.Tests.{is-true}
 use Rattle.engine.specs.Sizes.{Entries, Room, Distance, SmallTriple, Along, Checking, Tightening}
 
-pub found-parts : {f : Found} → SmallFound f → {j : ℕ} {k : Constraint} {p : Point} → f ≡ found.At j k p → SmallConstraint k × SmallPoint p
+pub found-parts :
+    {f : Found} →
+    SmallFound f →
+    {j : ℕ} {k : Constraint} {p : Point} →
+    f ≡ found.At j k p →
+    SmallConstraint k × SmallPoint p
 found-parts s e = subst SmallFound e s
 
 -- ---- what a list of n entries gives at index k
 
 pub entry-room : {l : List ℤ} {n : ℕ} → Entries l n → {k : ℕ} → k < n → Room l k
 entry-room h {k} b = record { room = omega (arith, h .room) }
-
--- fewer entries
-pub fewer : {l : List ℤ} {n m : ℕ} → m ≤ n → Entries l n → Entries l m
-fewer b h = record { room = omega (arith, h .room); small = λ k c. h .small k (omega arith) }
 
 pub entries-part : {l : List ℤ} {n : ℕ} → Entries l n → (i k : ℕ) → i + k ≤ n → SmallSystem (entries l i k)
 entries-part h i zero b = tt
@@ -53,7 +55,10 @@ entries-small {l} {n} h = entries-part h 0 n (omega arith)
 left-over : (n i : ℕ) → i < n → n - i ≡ suc (n - suc i)
 left-over n i h = omega arith
 
-pub entries-more : (l : List ℤ) (n i : ℕ) → i < n → entries l i (n - i) ≡ entry l i ∷ entries l (suc i) (n - suc i)
+pub entries-more :
+    (l : List ℤ) (n i : ℕ) →
+    i < n →
+    entries l i (n - i) ≡ entry l i ∷ entries l (suc i) (n - suc i)
 entries-more l n i h = ap (entries l i) (left-over n i h)
 
 pub entries-none : (l : List ℤ) (n i : ℕ) → n ≤ i → entries l i (n - i) ≡ []
@@ -66,7 +71,9 @@ entries-none l n i h = ap (entries l i) (none n i h)
 
 -- whatever meets the line breaks the point at infinity
 far-breaks : (m l : Constraint) → ltZ (pos 0) (det m l) ≡ true → keeps m (far l) ≡ false
-far-breaks m l e = below (subst (λ z. z <ᶻ pos 0) (sym (at-far (m .a) (m .b) (m .c) (l .a) (l .b))) (pos-neg-lt {z = det m l} (ltZ-yes (subst T (sym e) tt))))
+far-breaks m l e =
+    below (subst (λ z. z <ᶻ pos 0) (sym (at-far (m .a) (m .b) (m .c) (l .a) (l .b)))
+    (pos-neg-lt {z = det m l} (ltZ-yes (subst T (sym e) tt))))
   where
     at-far : (a b c a′ b′ : ℤ) → c *ℤ pos 0 -ℤ (a *ℤ b′ +ℤ b *ℤ negℤ a′) ≡ negℤ (a *ℤ b′ -ℤ a′ *ℤ b)
     at-far = ring 5 (λ a b c a′ b′. c ⊗ con (pos 0) ⊖ (a ⊗ b′ ⊕ b ⊗ (⊝ a′)) ≐ ⊝ (a ⊗ b′ ⊖ a′ ⊗ b)) refl
@@ -121,17 +128,15 @@ holds-found : (l : Constraint) (t : Held) (f : Found) → Holds l t f → SmallF
 holds-found l t found.Nothing e s =
     ap (λ (p : Point). elim (ltZ (pos 0) (p .d)) [ true ↦ found.At (t .index) (t .entry) p | false ↦ found.Nothing ]) e
 holds-found l t (found.At j k p) e s =
-    ap foundOf e ∙ ap (λ b. elim b [ true ↦ found.At j k p | false ↦ found.Nothing ]) (T-true (ltZ (pos 0) (p .d)) (s .1 .d-proper .lt))
-  where
-    T-true : (b : Bool) → T b → b ≡ true
-    T-true true h = refl
-    T-true false h = absurd h
+    ap foundOf e ∙ ap (λ b. elim b [ true ↦ found.At j k p | false ↦ found.Nothing ]) (is-true (ltZ (pos 0) (p .d)) (s .1 .d-proper .lt))
 
 holds-small : (l : Constraint) → SmallConstraint l → (t : Held) (f : Found) → Holds l t f → SmallFound f → SmallTriple (t .point)
 holds-small l h t found.Nothing e s =
-    subst SmallTriple (sym e) (record { x-small = weaken tt (h .b-small); y-small = weaken tt (within-neg (h .a-small)); d-small = within-numeral tt })
+    subst SmallTriple (sym e)
+    (record { x-small = weaken tt (h .b-small); y-small = weaken tt (within-neg (h .a-small)); d-small = within-numeral tt })
 holds-small l h t (found.At j k p) e s =
-    subst SmallTriple (sym (ap (λ (t : Held). t .point) e)) (record { x-small = s .1 .x-small; y-small = s .1 .y-small; d-small = s .1 .d-small })
+    subst SmallTriple (sym (ap (λ (t : Held). t .point) e))
+    (record { x-small = s .1 .x-small; y-small = s .1 .y-small; d-small = s .1 .d-small })
 
 pub record Tightest (l : List ℤ) (n : ℕ) (line : Constraint) (t : Held) (i : ℕ) : Type 0 where
   pub inside : i ≤ n
@@ -142,19 +147,33 @@ pub record Tightest (l : List ℤ) (n : ℕ) (line : Constraint) (t : Held) (i :
 
 module _ {l : List ℤ} {n : ℕ} {line : Constraint} (h : Along l n line) where
   pub tightest-start : {t : Held} → t ≡ farthest line → Tightest l n line t 0
-  tightest-start e = record { inside = omega arith; so-far = found.Nothing; holds = ap (λ (t : Held). t .point) e; small = tt; rest = rw sub-zero refl }
+  tightest-start e =
+      record { inside = omega arith; so-far = found.Nothing; holds = ap (λ (t : Held). t .point) e; small = tt; rest = rw sub-zero refl }
 
   module _ {t : Held} {i : ℕ} (s : Tightest l n line t i) where
     pub tightening : {m : Constraint} → i < n → m ≡ entry l i → Tightening line m t
     tightening {m} b e =
-        record { line-small = h .line-small; m-small = subst SmallConstraint (sym e) (h .entries .small i b); point-small = holds-small line (h .line-small) t (s .so-far) (s .holds) (s .small) }
+        record {
+          line-small = h .line-small;
+          m-small = subst SmallConstraint (sym e) (h .entries .small i b);
+          point-small = holds-small
+              line (h .line-small) t (s .so-far) (s .holds) (s .small);
+        }
 
-    pub tightest-step : {m : Constraint} → i < n → m ≡ entry l i → {u : Held} → u ≡ tightened line i m t → Tightest l n line u (i + 1)
+    pub tightest-step :
+        {m : Constraint} →
+        i < n →
+        m ≡ entry l i →
+        {u : Held} →
+        u ≡ tightened line i m t →
+        Tightest l n line u (i + 1)
     tightest-step b e {u} eu =
         record {
           inside = omega arith;
           so-far = tighter line i (entry l i) (s .so-far);
-          holds = subst (λ (v : Held). Holds line v (tighter line i (entry l i) (s .so-far))) (sym (eu ∙ ap (λ m. tightened line i m t) e)) (holds-step line i (entry l i) t (s .so-far) (s .holds));
+          holds =
+              subst (λ (v : Held). Holds line v (tighter line i (entry l i) (s .so-far))) (sym (eu ∙ ap (λ m. tightened line i m t) e))
+              (holds-step line i (entry l i) t (s .so-far) (s .holds));
           small = tighter-small (h .line-small) i (h .entries .small i b) (s .so-far) (s .small);
           rest = rw add-one (sym (ap (λ S. tightest line i S (s .so-far)) (entries-more l n i b)) ∙ s .rest);
         }
@@ -179,7 +198,12 @@ module _ {l : List ℤ} {n : ℕ} {v : Point} (h : Checking l n v) {i : ℕ} (t 
   pub checking : {m : Constraint} → i < n → m ≡ entry l i → Distance (m .a) (v .x) (m .b) (v .y) (m .c) (v .d)
   checking b e = kept-distance (subst SmallConstraint (sym e) (h .entries .small i b)) (h .point)
 
-  at-entry : i < n → {s : Bool} → keeps (entry l i) v ≡ s → elim s [ true ↦ firstBroken v (suc i) (entries l (suc i) (n - suc i)) | false ↦ broken.At i (entry l i) ] ≡ firstBroken v 0 (entries l 0 n)
+  at-entry :
+      i < n →
+      {s : Bool} →
+      keeps (entry l i) v ≡ s →
+      elim s [ true ↦ firstBroken v (suc i) (entries l (suc i) (n - suc i)) | false ↦ broken.At i (entry l i) ]
+      ≡ firstBroken v 0 (entries l 0 n)
   at-entry b {s} e =
       ap (λ s. elim s [ true ↦ firstBroken v (suc i) (entries l (suc i) (n - suc i)) | false ↦ broken.At i (entry l i) ]) (sym e)
       ∙ sym (ap (firstBroken v i) (entries-more l n i b))
@@ -188,7 +212,12 @@ module _ {l : List ℤ} {n : ℕ} {v : Point} (h : Checking l n v) {i : ℕ} (t 
   pub unbroken-step : {m : Constraint} → i < n → m ≡ entry l i → keeps m v ≡ true → Unbroken l n v (i + 1)
   unbroken-step b e k = record { inside = omega arith; rest = rw add-one (at-entry b (ap (λ m. keeps m v) (sym e) ∙ k)) }
 
-  pub unbroken-stop : {m : Constraint} → i < n → m ≡ entry l i → keeps m v ≡ false → broken.At i m ≡ firstBroken v 0 (entries l 0 n)
+  pub unbroken-stop :
+      {m : Constraint} →
+      i < n →
+      m ≡ entry l i →
+      keeps m v ≡ false →
+      broken.At i m ≡ firstBroken v 0 (entries l 0 n)
   unbroken-stop b e k = ap (broken.At i) e ∙ at-entry b (ap (λ m. keeps m v) (sym e) ∙ k)
 
   pub unbroken-end : n ≤ i → broken.Nowhere ≡ firstBroken v 0 (entries l 0 n)
@@ -196,8 +225,22 @@ module _ {l : List ℤ} {n : ℕ} {v : Point} (h : Checking l n v) {i : ℕ} (t 
 
 -- ---- what the passes find is within the bounds
 
-pub along-small : {l : List ℤ} {n : ℕ} {line : Constraint} → Along l n line → {f : Found} → f ≡ tightest line 0 (entries l 0 n) found.Nothing → SmallFound f
-along-small {l} {n} h e = subst SmallFound (sym e) (tightest-small (h .line-small) 0 (entries l 0 n) (entries-small (h .entries)) found.Nothing tt)
+pub along-small :
+    {l : List ℤ} {n : ℕ} {line : Constraint} →
+    Along l n line →
+    {f : Found} →
+    f ≡ tightest line 0 (entries l 0 n) found.Nothing →
+    SmallFound f
+along-small {l} {n} h e =
+    subst SmallFound (sym e) (tightest-small (h .line-small) 0 (entries l 0 n) (entries-small (h .entries)) found.Nothing tt)
 
-pub broken-small : {l : List ℤ} {n : ℕ} → Entries l n → (v : Point) → {b : Broken} → b ≡ firstBroken v 0 (entries l 0 n) → {i : ℕ} {m : Constraint} → b ≡ broken.At i m → SmallConstraint m
+pub broken-small :
+    {l : List ℤ} {n : ℕ} →
+    Entries l n →
+    (v : Point) →
+    {b : Broken} →
+    b ≡ firstBroken v 0 (entries l 0 n) →
+    {i : ℕ} {m : Constraint} →
+    b ≡ broken.At i m →
+    SmallConstraint m
 broken-small {l} {n} h v e a = subst SmallBroken (sym e ∙ a) (firstBroken-small v 0 (entries l 0 n) (entries-small h))

@@ -1,5 +1,5 @@
--- Every value that an exact computation makes on its way fits 64 bits, and what one function asks follows from what its caller has. An i64 that a call
--- takes or returns is read back from its bits, `read z`, which is z where z fits.
+-- Every value that an exact computation makes on its way fits 64 bits, and what one function asks follows from what its caller has. An
+-- i64 that a call takes or returns is read back from its bits, `read z`, which is z where z fits.
 use mathlib.Core.Path.{_≡_, _∙_, ap}
 use mathlib.Core.Bool.{Bool}
 use Prim.Native.Nat.{ℕ, _^_, _<_}
@@ -60,12 +60,21 @@ module _ {p q s t : ℤ} (f : Factors p q s t) where
 
   factors-same : (F : ℤ → ℤ → ℤ → ℤ → ℤ) → F (read p) (read q) (read s) (read t) ≡ F p q s t
   factors-same F =
-      λ i. F (within-unread (f .p-small) tt i) (within-unread (f .q-small) tt i) (within-unread (f .s-small) tt i) (within-unread (f .t-small) tt i)
+      λ i. F (within-unread (f .p-small) tt i) (within-unread (f .q-small) tt i) (within-unread (f .s-small) tt i)
+      (within-unread (f .t-small) tt i)
 
-  pub sum-read : {z : ℤ} → mag z < 2 ^ 63 → z ≡ read p *ℤ read q +ℤ read s *ℤ read t → read z ≡ p *ℤ q +ℤ s *ℤ t
+  pub sum-read :
+      {z : ℤ} →
+      mag z < 2 ^ 63 →
+      z ≡ read p *ℤ read q +ℤ read s *ℤ read t →
+      read z ≡ p *ℤ q +ℤ s *ℤ t
   sum-read h e = unread h ∙ e ∙ factors-same (λ p q s t. p *ℤ q +ℤ s *ℤ t)
 
-  pub difference-read : {z : ℤ} → mag z < 2 ^ 63 → z ≡ read p *ℤ read q -ℤ read s *ℤ read t → read z ≡ p *ℤ q -ℤ s *ℤ t
+  pub difference-read :
+      {z : ℤ} →
+      mag z < 2 ^ 63 →
+      z ≡ read p *ℤ read q -ℤ read s *ℤ read t →
+      read z ≡ p *ℤ q -ℤ s *ℤ t
   difference-read h e = unread h ∙ e ∙ factors-same (λ p q s t. p *ℤ q -ℤ s *ℤ t)
 
 module _ {a x b y c d : ℤ} (f : Distance a x b y c d) where
@@ -80,11 +89,17 @@ module _ {a x b y c d : ℤ} (f : Distance a x b y c d) where
         d-small = within-read (f .d-small) tt;
       }
 
-  pub distance-read : {z : ℤ} → mag z < 2 ^ 63 → z ≡ read c *ℤ read d -ℤ (read a *ℤ read x +ℤ read b *ℤ read y) → read z ≡ c *ℤ d -ℤ (a *ℤ x +ℤ b *ℤ y)
+  pub distance-read :
+      {z : ℤ} →
+      mag z < 2 ^ 63 →
+      z ≡ read c *ℤ read d -ℤ (read a *ℤ read x +ℤ read b *ℤ read y) →
+      read z ≡ c *ℤ d -ℤ (a *ℤ x +ℤ b *ℤ y)
   distance-read h e =
       unread h
       ∙ e
-      ∙ λ i. within-unread (f .c-small) tt i *ℤ within-unread (f .d-small) tt i -ℤ (within-unread (f .a-small) tt i *ℤ within-unread (f .x-small) tt i +ℤ within-unread (f .b-small) tt i *ℤ within-unread (f .y-small) tt i)
+      ∙ λ i. within-unread (f .c-small) tt i *ℤ within-unread (f .d-small) tt i
+      -ℤ (within-unread (f .a-small) tt i *ℤ within-unread (f .x-small) tt i
+      +ℤ within-unread (f .b-small) tt i *ℤ within-unread (f .y-small) tt i)
 
 -- ---- what constraints, rays and functionals give to products
 
@@ -134,7 +149,11 @@ along-factors h =
       t-small = weaken tt (h .ray .dy-small);
     }
 
-pub kept-distance : {r : Constraint} {v : Point} → SmallConstraint r → SmallPoint v → Distance (r .a) (v .x) (r .b) (v .y) (r .c) (v .d)
+pub kept-distance :
+    {r : Constraint} {v : Point} →
+    SmallConstraint r →
+    SmallPoint v →
+    Distance (r .a) (v .x) (r .b) (v .y) (r .c) (v .d)
 kept-distance h k =
     record {
       a-small = h .a-small;
@@ -156,9 +175,21 @@ opposite-is {z} h =
     ∙ ap (λ y. pos 0 -ℤ y) (within-unread h tt)
     ∙ +ℤ-idl (negℤ z)
 
-pub opposite-read : {z : ℤ} → Within 1000000000 z → {y : ℤ} → mag y < 2 ^ 63 → y ≡ negℤ (read z) → read y ≡ negℤ z
+pub opposite-read :
+    {z : ℤ} →
+    Within 1000000000 z →
+    {y : ℤ} →
+    mag y < 2 ^ 63 →
+    y ≡ negℤ (read z) →
+    read y ≡ negℤ z
 opposite-read h b e = unread b ∙ e ∙ ap negℤ (within-unread h tt)
 
 -- of a coefficient
-pub zero-read : {n : ℕ} {z : ℤ} → Within n z → T (ltb n (2 ^ 63)) → {t : Bool} → t ≡ isZero (read z) → t ≡ isZero z
+pub zero-read :
+    {n : ℕ} {z : ℤ} →
+    Within n z →
+    T (ltb n (2 ^ 63)) →
+    {t : Bool} →
+    t ≡ isZero (read z) →
+    t ≡ isZero z
 zero-read h t e = e ∙ ap isZero (within-unread h t)

@@ -1,8 +1,7 @@
 -- What a walk comes to, from the state that it holds: each law takes what the calls on one way returned.
 use mathlib.Core.Path.{_≡_, sym, _∙_, ap}
-use mathlib.Core.Bool.{Bool, true}
+use mathlib.Core.Bool.{true}
 use Prim.Native.Nat.{ℕ}
-use lib.IntN.{pos}
 use Rattle.lp.specs.declared.Functional.{Functional}
 use Rattle.lp.specs.declared.Point.{Point}
 use Rattle.lp.specs.declared.Certificate.{Certificate}
@@ -31,7 +30,10 @@ module _ (f : Functional) (w : Walk) where
         restarts = w .restarts;
       }
 
-  pub solution-ended : {p : ℕ} {c : Certificate} → w .state ≡ Ended p c → of-state (Ended p c) ≡ solutionOf f w
+  pub solution-ended :
+      {p : ℕ} {c : Certificate} →
+      w .state ≡ Ended p c →
+      of-state (Ended p c) ≡ solutionOf f w
   solution-ended e = ap of-state (sym e)
 
   pub solution-going :
@@ -39,8 +41,26 @@ module _ (f : Functional) (w : Walk) where
       w .state ≡ Going s cone b →
       {o : Outcome} →
       o ≡ said f (Going s cone b) →
-      _≡_ {A = Solution} (record { outcome = o; moves = w .moves; opened = w .opened; place = 0; certificate = nobody; held = true; start = s; restarts = w .restarts })
+      _≡_ {A = Solution} (record {
+        outcome = o;
+        moves = w .moves;
+        opened = w .opened;
+        place = 0;
+        certificate = nobody;
+        held = true;
+        start = s;
+        restarts = w .restarts;
+      })
       (solutionOf f w)
   solution-going {s} e eo =
-      (λ i. record { outcome = eo i; moves = w .moves; opened = w .opened; place = 0; certificate = nobody; held = true; start = s; restarts = w .restarts })
+      (λ i. record {
+        outcome = eo i;
+        moves = w .moves;
+        opened = w .opened;
+        place = 0;
+        certificate = nobody;
+        held = true;
+        start = s;
+        restarts = w .restarts;
+      })
       ∙ ap of-state (sym e)

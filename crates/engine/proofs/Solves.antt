@@ -1,4 +1,5 @@
--- `solve` on each of its ways: the floors are not laid, the objective is out of its range, there is no room for the rules, or the rules are walked.
+-- `solve` on each of its ways: the floors are not laid, the objective is out of its range, there is no room for the rules, or the rules
+-- are walked.
 use mathlib.Core.Path.{_≡_, refl, sym, _∙_, ap, subst}
 use mathlib.Core.List.{List}
 use mathlib.Core.Bool.{Bool, true, false, cond, _&&_}
@@ -8,7 +9,6 @@ use lib.Dec.{T, leb}
 use lib.ListN.{length}
 use lib.IntN.{ℤ}
 use borrow.Author.Tests.{leb-true, le-leb}
-use Rattle.lp.specs.declared.Constraint.{Constraint}
 use Rattle.lp.specs.declared.Terms.{Terms}
 use Rattle.lp.specs.Outcome.{every}
 use Rattle.lp.specs.Document.{tie}
@@ -44,7 +44,10 @@ module _ (t : Terms) (n : ℕ) (l : List ℤ) where
   outside : (Fit → ⊥) → Outside ≡ solvedOf t l n
   outside h = go (inRange t l n) refl
     where
-      go : (b : Bool) → inRange t l n ≡ b → Outside ≡ cond b (Walked (solutionOf (t .objective) (walk tie (t .floors) (t .objective) (entries l 2 n)))) Outside
+      go :
+          (b : Bool) →
+          inRange t l n ≡ b →
+          Outside ≡ cond b (Walked (solutionOf (t .objective) (walk tie (t .floors) (t .objective) (entries l 2 n)))) Outside
       go true e = absurd (h (fit e))
       go false e = refl
 
@@ -78,7 +81,10 @@ module _ (t : Terms) (n : ℕ) (l : List ℤ) where
             second = ap (λ (l : List ℤ). entry l 1) (lays-laid (t .floors) l h so) ∙ laid-y (t .floors) l six;
           }
 
-      pub solved-by : {r : Solved} → r ≡ rulesSolved (t .objective) (t .floors) (entries after 2 n) → Solves t n l r after
+      pub solved-by :
+          {r : Solved} →
+          r ≡ rulesSolved (t .objective) (t .floors) (entries after 2 n) →
+          Solves t n l r after
       solved-by er =
           record {
             answer =
@@ -94,4 +100,5 @@ module _ (t : Terms) (n : ℕ) (l : List ℤ) where
 
           tests : (leb (3 * (n + 2)) (length l) && objectiveInRange (t .objective) && floorsInRange (t .floors)) ≡ true
           tests =
-              (λ i. le-leb (3 * (n + 2)) (length l) (omega (arith, lays-length (t .floors) l h, six)) i && e i && lays-tests (t .floors) l h so .1 i)
+              (λ i. le-leb (3 * (n + 2)) (length l) (omega (arith, lays-length (t .floors) l h, six)) i && e i
+              && lays-tests (t .floors) l h so .1 i)

@@ -1,4 +1,5 @@
--- The parts of a step, as the code goes through them: each law takes what the calls on one way returned, and says that the whole is the model's.
+-- The parts of a step, as the code goes through them: each law takes what the calls on one way returned, and says that the whole is the
+-- model's.
 use mathlib.Core.Path.{_≡_, refl, sym, _∙_, ap, ap₂, subst}
 use mathlib.Core.List.{List, [], _∷_}
 use mathlib.Core.Bool.{Bool, true, false, not, _&&_}
@@ -54,29 +55,71 @@ above-last f d = go (ltZ (pos 0) (along f d)) (ltZ (along f d) (pos 0))
 
 -- ---- the parts of what is within the bounds
 
-pub cone-rays : {cone : Cone} → SmallCone cone → {lo hi : Ray} → cone ≡ Wedge lo hi → SmallRay lo × SmallRay hi
+pub cone-rays :
+    {cone : Cone} →
+    SmallCone cone →
+    {lo hi : Ray} →
+    cone ≡ Wedge lo hi →
+    SmallRay lo × SmallRay hi
 cone-rays s e = subst SmallCone e s
 
 pub best-point : {b : Best} → SmallBest b → {v : Point} → b ≡ best.At v → SmallPoint v
 best-point s e = subst SmallBest e s
 
-pub state-parts : {w : State} → SmallState w → {s : Point} {cone : Cone} {b : Best} → w ≡ Going s cone b → SmallPoint s × SmallCone cone × SmallBest b
+pub state-parts :
+    {w : State} →
+    SmallState w →
+    {s : Point} {cone : Cone} {b : Best} →
+    w ≡ Going s cone b →
+    SmallPoint s × SmallCone cone × SmallBest b
 state-parts s e = subst SmallState e s
 
 -- ---- the line that is walked
 
 -- as its side and direction were worked out
-pub faced : (fs : List Functional) (h : Constraint) {d : Ray} {side : Bool} {line : Constraint} → d ≡ direction h → side ≡ above fs d → line ≡ facing side h → line ≡ facing (above fs (direction h)) h
+pub faced :
+    (fs : List Functional) (h : Constraint) {d : Ray} {side : Bool} {line : Constraint} →
+    d ≡ direction h →
+    side ≡ above fs d →
+    line ≡ facing side h →
+    line ≡ facing (above fs (direction h)) h
 faced fs h ed es el = el ∙ ap (λ s. facing s h) (es ∙ ap (above fs) ed)
 
+-- and what is found on it
+pub faced-tightest :
+    (fs : List Functional) (S : List Constraint) (h : Constraint) {d : Ray} {side : Bool} {line : Constraint} {f : Found} →
+    d ≡ direction h →
+    side ≡ above fs d →
+    line ≡ facing side h →
+    f ≡ tightest line 0 S found.Nothing →
+    f ≡ tightest (facing (above fs (direction h)) h) 0 S found.Nothing
+faced-tightest fs S h ed es el ef = ef ∙ ap (λ l. tightest l 0 S found.Nothing) (faced fs h ed es el)
+
 -- the start point's new place, from what the calls on the way to it returned
-pub restarted : (t : Tie) (S : List Constraint) (n : ℕ) (h : Constraint) {d : Ray} {side : Bool} {line : Constraint} {f : Found} {r : Restart} → (isZero (h .a) && isZero (h .b)) ≡ false → d ≡ direction h → side ≡ above (tieOrder t) d → line ≡ facing side h → f ≡ tightest line 0 S found.Nothing → r ≡ resettled S side n h f → r ≡ restart t S n h
+pub restarted :
+    (t : Tie) (S : List Constraint) (n : ℕ) (h : Constraint) {d : Ray} {side : Bool} {line : Constraint} {f : Found} {r : Restart} →
+    (isZero (h .a) && isZero (h .b)) ≡ false →
+    d ≡ direction h →
+    side ≡ above (tieOrder t) d →
+    line ≡ facing side h →
+    f ≡ tightest line 0 S found.Nothing →
+    r ≡ resettled S side n h f →
+    r ≡ restart t S n h
 restarted t S n h {d} {side} z ed es el ef er =
     er
-    ∙ ap₂ (λ s f. resettled S s n h f) (es ∙ ap (above (tieOrder t)) ed) (ef ∙ ap (λ l. tightest l 0 S found.Nothing) (faced (tieOrder t) h ed es el))
-    ∙ sym (ap (λ z. elim z [ true ↦ Failed (alone n) | false ↦ resettled S (above (tieOrder t) (direction h)) n h (tightest (facing (above (tieOrder t) (direction h)) h) 0 S found.Nothing) ]) z)
+    ∙ ap₂ (λ s f. resettled S s n h f) (es ∙ ap (above (tieOrder t)) ed) (faced-tightest (tieOrder t) S h ed es el ef)
+    ∙ sym (ap (λ z. elim z [
+      | true ↦ Failed (alone n)
+      | false ↦ resettled S (above (tieOrder t) (direction h)) n h
+          (tightest (facing (above (tieOrder t) (direction h)) h) 0 S found.Nothing)
+    ]) z)
 
-pub certificate-same : (i j k : ℕ) {u v w u′ v′ w′ : ℤ} → u ≡ u′ → v ≡ v′ → w ≡ w′ → certificate i u j v k w ≡ certificate i u′ j v′ k w′
+pub certificate-same :
+    (i j k : ℕ) {u v w u′ v′ w′ : ℤ} →
+    u ≡ u′ →
+    v ≡ v′ →
+    w ≡ w′ →
+    certificate i u j v k w ≡ certificate i u′ j v′ k w′
 certificate-same i j k eu ev ew = λ t. certificate i (eu t) j (ev t) k (ew t)
 
 -- ---- a step
@@ -89,7 +132,9 @@ module _ (t : Tie) (f : Functional) (S : List Constraint) (n : ℕ) (h : Constra
       shown : w ≡ record { state = Ended p c; moves = w .moves; opened = w .opened; restarts = w .restarts }
       shown = λ i. record { state = e i; moves = w .moves; opened = w .opened; restarts = w .restarts }
 
-  module _ {s : Point} {cone : Cone} {b : Best} (e : w .state ≡ Going s cone b) {kept : Bool} (ek : kept ≡ keeps h s) {r : Restart} (er : r ≡ keptOrRestarted t S n h s kept) {broken : Bool} (eb : broken ≡ breaks h b) {m : ℕ} (em : m ≡ w .moves + one-if broken) {k : ℕ} (ec : k ≡ w .restarts + one-if (not kept)) where
+  module _ {s : Point} {cone : Cone} {b : Best} (e : w .state ≡ Going s cone b) {kept : Bool} (ek : kept ≡ keeps h s) {r : Restart}
+      (er : r ≡ keptOrRestarted t S n h s kept) {broken : Bool} (eb : broken ≡ breaks h b) {m : ℕ} (em : m ≡ w .moves + one-if broken)
+      {k : ℕ} (ec : k ≡ w .restarts + one-if (not kept)) where
     moves-is : m ≡ w .moves + one-if (breaks h b)
     moves-is = em ∙ ap (λ k. w .moves + one-if k) eb
 
@@ -97,13 +142,28 @@ module _ (t : Tie) (f : Functional) (S : List Constraint) (n : ℕ) (h : Constra
     restarts-is = ec ∙ ap (λ u. w .restarts + one-if (not u)) ek
 
     settles : {q : Restart} → r ≡ q → settled t f S n h cone b (w .moves) (w .opened) (recounted (w .restarts) h s) q ≡ step t f S n h w
-    settles q = ap (settled t f S n h cone b (w .moves) (w .opened) (recounted (w .restarts) h s)) (sym q ∙ er ∙ ap (keptOrRestarted t S n h s) ek) ∙ sym (ap (stepped t f S n h (w .moves) (w .opened) (w .restarts)) e)
+    settles q =
+        ap (settled t f S n h cone b (w .moves) (w .opened) (recounted (w .restarts) h s)) (sym q ∙ er
+        ∙ ap (keptOrRestarted t S n h s) ek) ∙ sym (ap (stepped t f S n h (w .moves) (w .opened) (w .restarts)) e)
 
-    pub step-moved : {p : Point} → r ≡ Moved p → {wedge : Cone} → wedge ≡ narrow h cone → {next : Best} → next ≡ improved (gainOrder f t) f S h wedge b → {v : Walk} → v ≡ going p wedge next m (w .opened) k → v ≡ step t f S n h w
+    pub step-moved :
+        {p : Point} →
+        r ≡ Moved p →
+        {wedge : Cone} →
+        wedge ≡ narrow h cone →
+        {next : Best} →
+        next ≡ improved (gainOrder f t) f S h wedge b →
+        {v : Walk} →
+        v ≡ going p wedge next m (w .opened) k →
+        v ≡ step t f S n h w
     step-moved {p} q ew en ev =
         ev
         ∙ (λ i. going p (ew i) ((en ∙ ap (λ c. improved (gainOrder f t) f S h c b) ew) i) (moves-is i) (w .opened) (restarts-is i))
         ∙ settles q
 
-    pub step-failed : {c : Certificate} → r ≡ Failed c → _≡_ {A = Walk} (record { state = Ended (n - 1) c; moves = m; opened = w .opened; restarts = k }) (step t f S n h w)
-    step-failed {c} q = (λ i. record { state = Ended (n - 1) c; moves = moves-is i; opened = w .opened; restarts = restarts-is i }) ∙ settles q
+    pub step-failed :
+        {c : Certificate} →
+        r ≡ Failed c →
+        _≡_ {A = Walk} (record { state = Ended (n - 1) c; moves = m; opened = w .opened; restarts = k }) (step t f S n h w)
+    step-failed {c} q =
+        (λ i. record { state = Ended (n - 1) c; moves = moves-is i; opened = w .opened; restarts = restarts-is i }) ∙ settles q

@@ -1,4 +1,5 @@
--- Each test of a range says what its record says, both ways; and so the promises of `solve` and `amount` for numbers that are within their ranges.
+-- Each test of a range says what its record says, both ways; and so the promises of `solve` and `amount` for numbers that are within
+-- their ranges.
 use mathlib.Core.Path.{_≡_, refl, sym, _∙_, ap, subst}
 use mathlib.Core.List.{List, [], _∷_}
 use mathlib.Core.Bool.{Bool, true, false, cond, _&&_}
@@ -16,19 +17,17 @@ use Rattle.lp.specs.declared.Functional.{Functional}
 use Rattle.lp.specs.declared.Floors.{Floors}
 use Rattle.lp.specs.declared.Terms.{Terms}
 use Rattle.lp.specs.declared.Point.{Point}
-use Rattle.lp.specs.declared.Amount.{Amount}
-use Rattle.lp.specs.Program.{slack, floorX, floorY}
+use Rattle.lp.specs.Program.{floorX, floorY}
 use Rattle.lp.specs.Outcome.{every}
-use Rattle.lp.specs.Slack.{amount, lowest, slackOf}
+use Rattle.lp.specs.Slack.{amount, slackOf}
 use Rattle.lp.specs.Document.{tie}
 use Rattle.lp.specs.Range.{SmallConstraint, SmallSystem, SmallFunctional, SmallFloors, SmallTerms}
 use Rattle.model.specs.Bounds.{SmallPoint}
 use Rattle.model.specs.Step.{walk}
-use Rattle.engine.proofs.Sizes.{within-unread}
 use Rattle.engine.specs.declared.Solved.the-variants.{Outside, Walked}
 use Rattle.engine.specs.Entries.{entries, putEntry}
 use Rattle.engine.specs.Tests.{upTo, ruleInRange, objectiveInRange, floorsInRange, pointInRange}
-use Rattle.engine.specs.Solving.{solutionOf, inRange, solvedOf, withFloors, amountOf}
+use Rattle.engine.specs.Solving.{solutionOf, solvedOf, withFloors, amountOf}
 
 -- ---- one number
 
@@ -44,7 +43,7 @@ pub both : (s t : Bool) → (s && t) ≡ true → (s ≡ true) × (t ≡ true)
 both true t e = (refl, e)
 both false t e = absurd (subst T (sym e) tt)
 
-is-true : (s : Bool) → T s → s ≡ true
+pub is-true : (s : Bool) → T s → s ≡ true
 is-true true h = refl
 is-true false h = absurd h
 
@@ -129,7 +128,8 @@ pub solved :
 solved t l n h room s =
     ap (λ b. cond b (Walked (solutionOf (t .objective) (walk tie (t .floors) (t .objective) (entries l 2 n)))) Outside)
     (passes (leb (3 * (n + 2)) (length l)) (objectiveInRange (t .objective)) (floorsInRange (t .floors)) (every ruleInRange (entries l 2 n))
-    (le-leb (3 * (n + 2)) (length l) room) (objective-passes (h .objective-small)) (floors-pass (h .floors-small)) (system-passes (entries l 2 n) s))
+    (le-leb (3 * (n + 2)) (length l) room) (objective-passes (h .objective-small)) (floors-pass (h .floors-small))
+    (system-passes (entries l 2 n) s))
   where
     passes : (a b c d : Bool) → a ≡ true → b ≡ true → c ≡ true → d ≡ true → (a && b && c && d) ≡ true
     passes a b c d ea eb ec ed = rw (ea, eb, ec, ed)
@@ -146,19 +146,3 @@ floors-laid f l h room =
 pub measured : (r : Constraint) (v : Point) → SmallConstraint r → SmallPoint v → amountOf r v ≡ slackOf r v
 measured r v h k =
     ap (λ b. cond b (slackOf r v) (amount (pos 0) (pos 0))) (ap (λ b. b && pointInRange v) (rule-passes h) ∙ point-passes k)
-
--- as the code goes: the test, then the slack and its lowest terms
-module _ (r : Constraint) (v : Point) {a b : Bool} (ea : a ≡ ruleInRange r) (eb : b ≡ pointInRange v) where
-  pub amount-tests : (a && b) ≡ true → SmallConstraint r × SmallPoint v
-  amount-tests e = let t = both a b e in (rule-small (sym ea ∙ t .0), point-small (sym eb ∙ t .1))
-
-  amount-told : {s : Bool} → (a && b) ≡ s → cond s (slackOf r v) (amount (pos 0) (pos 0)) ≡ amountOf r v
-  amount-told e = ap (λ s. cond s (slackOf r v) (amount (pos 0) (pos 0))) (sym e ∙ (λ i. ea i && eb i))
-
-  pub amount-out : (a && b) ≡ false → amount (pos 0) (pos 0) ≡ amountOf r v
-  amount-out e = amount-told e
-
-  pub amount-in : (a && b) ≡ true → {z : ℤ} → mag z < 2 ^ 63 → z ≡ slack r v → {x : Amount} → x ≡ lowest (read z) (read (v .d)) → x ≡ amountOf r v
-  amount-in e {z} h ez ex =
-      let k = amount-tests e .1 in
-      ex ∙ (λ i. lowest ((unread {z = z} h ∙ ez) i) (within-unread (k .d-small) tt i)) ∙ amount-told e

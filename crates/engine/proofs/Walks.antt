@@ -1,5 +1,5 @@
--- The walk along the rules: what is left of it at entry i gives, from what it holds, the whole. One record says so, with its start, its step, its stop at a rule that
--- is out of its range, and its end; before it stands what the walk begins with.
+-- The walk along the rules: what is left of it at entry i gives, from what it holds, the whole. One record says so, with its start, its
+-- step, its stop at a rule that is out of its range, and its end; before it stands what the walk begins with.
 use mathlib.Core.Path.{_≡_, refl, sym, _∙_, ap, ap₂, subst, subst₂}
 use mathlib.Core.List.{List, [], _∷_, _++_}
 use mathlib.Core.Bool.{Bool, true, false, cond}
@@ -49,14 +49,29 @@ module _ (floors : Floors) (f : Functional) (h : SmallFloors floors) {g : Gain} 
   corner : point (read (floors .lx)) (read (floors .ly)) (pos 1) ≡ point (floors .lx) (floors .ly) (pos 1)
   corner = point-same (within-unread (h .lx-small) tt) (within-unread (h .ly-small) tt) refl
 
-  begun : {k : Gain} → g ≡ k → going (point (floors .lx) (floors .ly) (pos 1)) axes (opening f (point (floors .lx) (floors .ly) (pos 1)) axes k) 0 0 0 ≡ begin floors f
+  begun :
+      {k : Gain} →
+      g ≡ k →
+      going (point (floors .lx) (floors .ly) (pos 1)) axes (opening f (point (floors .lx) (floors .ly) (pos 1)) axes k) 0 0 0
+      ≡ begin floors f
   begun e =
-      ap (λ k. going (point (floors .lx) (floors .ly) (pos 1)) axes (opening f (point (floors .lx) (floors .ly) (pos 1)) axes k) 0 0 0) (sym e ∙ eg)
+      ap (λ k. going (point (floors .lx) (floors .ly) (pos 1)) axes (opening f (point (floors .lx) (floors .ly) (pos 1)) axes k) 0 0 0)
+      (sym e ∙ eg)
 
-  pub begun-open : {d : Ray} → g ≡ gain.Along d → {w : Walk} → w ≡ going (point (read (floors .lx)) (read (floors .ly)) (pos 1)) axes best.Open 0 0 0 → w ≡ begin floors f
+  pub begun-open :
+      {d : Ray} →
+      g ≡ gain.Along d →
+      {w : Walk} →
+      w ≡ going (point (read (floors .lx)) (read (floors .ly)) (pos 1)) axes best.Open 0 0 0 →
+      w ≡ begin floors f
   begun-open e ew = ew ∙ ap (λ s. going s axes best.Open 0 0 0) corner ∙ begun e
 
-  pub begun-best : g ≡ gain.Nowhere → {w : Walk} → w ≡ going (point (read (floors .lx)) (read (floors .ly)) (pos 1)) axes (best.At (point (read (floors .lx)) (read (floors .ly)) (pos 1))) 0 0 0 → w ≡ begin floors f
+  pub begun-best :
+      g ≡ gain.Nowhere →
+      {w : Walk} →
+      w ≡ going (point (read (floors .lx)) (read (floors .ly)) (pos 1)) axes (best.At
+      (point (read (floors .lx)) (read (floors .ly)) (pos 1))) 0 0 0 →
+      w ≡ begin floors f
   begun-best e ew = ew ∙ ap (λ s. going s axes (best.At s) 0 0 0) corner ∙ begun e
 
 -- ---- the walk
@@ -64,7 +79,8 @@ module _ (floors : Floors) (f : Functional) (h : SmallFloors floors) {g : Gain} 
 entries-next : (l : List ℤ) (i k : ℕ) → entries l i k ++ (entry l (i + k) ∷ []) ≡ entries l i (suc k)
 entries-next l i zero = ap (λ (j : ℕ). entry l j ∷ []) (add-zero i)
 entries-next l i (suc k) =
-    ap (λ (S : List Constraint). entry l i ∷ S) (ap (λ (j : ℕ). entries l (suc i) k ++ (entry l j ∷ [])) (shift i k) ∙ entries-next l (suc i) k)
+    ap (λ (S : List Constraint). entry l i ∷ S)
+    (ap (λ (j : ℕ). entries l (suc i) k ++ (entry l j ∷ [])) (shift i k) ∙ entries-next l (suc i) k)
   where
     shift : (i k : ℕ) → i + suc k ≡ suc i + k
     shift i k = omega arith
@@ -72,12 +88,18 @@ entries-next l i (suc k) =
 -- ---- one more rule of a run
 
 -- the rules from entry i on are within their ranges if the rule there is, and those after it
-every-more : (l : List ℤ) (n i : ℕ) → i < n → {b : Bool} → ruleInRange (entry l i) ≡ b → every ruleInRange (entries l i (n - i)) ≡ elim b [ true ↦ every ruleInRange (entries l (suc i) (n - suc i)) | false ↦ false ]
+every-more :
+    (l : List ℤ) (n i : ℕ) →
+    i < n →
+    {b : Bool} →
+    ruleInRange (entry l i) ≡ b →
+    every ruleInRange (entries l i (n - i)) ≡ elim b [ true ↦ every ruleInRange (entries l (suc i) (n - suc i)) | false ↦ false ]
 every-more l n i h e =
     ap (every ruleInRange) (entries-more l n i h)
     ∙ ap (λ b. elim b [ true ↦ every ruleInRange (entries l (suc i) (n - suc i)) | false ↦ false ]) e
 
--- w is held before entry i, and w₀ was before the first rule: the walk along what is left gives the whole, and what is left decides whether every rule is within its range
+-- w is held before entry i, and w₀ was before the first rule: the walk along what is left gives the whole, and what is left decides
+-- whether every rule is within its range
 pub record Walked (f : Functional) (l : List ℤ) (n : ℕ) (w₀ w : Walk) (i : ℕ) : Type 0 where
   pub few : n + 2 < 2 ^ 64
   pub inside : i ≤ n + 2
@@ -126,7 +148,11 @@ module _ {f : Functional} {floors : Floors} {l : List ℤ} {n : ℕ} (h : Walkin
         pub stepping : {tie′ : Tie} → tie′ ≡ tie → Stepping f tie′ l i m w
         stepping eq =
             record {
-              moving = record { objective = h .objective; restarting = record { tie = subst SmallTie (sym eq) tie-small; entries = v .taken; h-small = arrived } };
+              moving =
+                  record {
+                    objective = h .objective;
+                    restarting = record { tie = subst SmallTie (sym eq) tie-small; entries = v .taken; h-small = arrived };
+                  };
               state-small = v .small .state-small;
               moves-room = omega (arith, v .small .moves-small, v .floors-first);
               opened-room = omega (arith, v .small .opened-small, v .floors-first);
@@ -144,14 +170,21 @@ module _ {f : Functional} {floors : Floors} {l : List ℤ} {n : ℕ} (h : Walkin
                 last : (k : ℕ) → (k < i → ⊥) → k < i + 1 → i ≡ k
                 last k more c = omega arith
 
-        pub walked-step : {tie′ : Tie} → tie′ ≡ tie → {w′ : Walk} → w′ ≡ step tie′ f (entries l 0 i) i m w → Walked f l n w₀ w′ (i + 1)
+        pub walked-step :
+            {tie′ : Tie} →
+            tie′ ≡ tie →
+            {w′ : Walk} →
+            w′ ≡ step tie′ f (entries l 0 i) i m w →
+            Walked f l n w₀ w′ (i + 1)
         walked-step eq {w′} ew =
             record {
               few = v .few;
               inside = omega arith;
               floors-first = omega (arith, v .floors-first);
               taken = more-taken;
-              small = subst₂ (λ (k : ℕ) (u : Walk). SmallWalk k u) (one-later i (v .floors-first)) (sym made) (step-small tie f (entries l 0 i) (entries-small (v .taken)) i arrived (i - 2) w (v .small));
+              small =
+                  subst₂ (λ (k : ℕ) (u : Walk). SmallWalk k u) (one-later i (v .floors-first)) (sym made)
+                  (step-small tie f (entries l 0 i) (entries-small (v .taken)) i arrived (i - 2) w (v .small));
               rest = rw add-one (next ∙ v .rest);
               in-range = rw add-one (sym (every-more l (n + 2) i b (ap ruleInRange (sym e) ∙ sym et ∙ so)) ∙ v .in-range);
             }
@@ -165,7 +198,9 @@ module _ {f : Functional} {floors : Floors} {l : List ℤ} {n : ℕ} (h : Walkin
             prefix : entries l 0 i ++ (entry l i ∷ []) ≡ entries l 0 (suc i)
             prefix = ap (λ (j : ℕ). entries l 0 i ++ (entry l j ∷ [])) (sym (zero-add i)) ∙ entries-next l 0 i
 
-            next : walkFrom tie f (entries l 0 (suc i)) (suc i) (entries l (suc i) (n + 2 - suc i)) w′ ≡ walkFrom tie f (entries l 0 i) i (entries l i (n + 2 - i)) w
+            next :
+                walkFrom tie f (entries l 0 (suc i)) (suc i) (entries l (suc i) (n + 2 - suc i)) w′
+                ≡ walkFrom tie f (entries l 0 i) i (entries l i (n + 2 - i)) w
             next =
                 ap₂ (λ (S : List Constraint) (u : Walk). walkFrom tie f S (suc i) (entries l (suc i) (n + 2 - suc i)) u) (sym prefix)
                 (made ∙ ap (λ m. step tie f (entries l 0 i) i m w) e)
@@ -174,15 +209,24 @@ module _ {f : Functional} {floors : Floors} {l : List ℤ} {n : ℕ} (h : Walkin
       -- a rule that is out of its range ends it
       pub walked-stop : t ≡ false → Outside ≡ rulesSolved f floors (entries l 2 n)
       walked-stop so =
-          sym (ap (λ s. cond s (solved.Walked (solutionOf f (walk tie floors f (entries l 2 n)))) Outside) (sym (v .in-range) ∙ every-more l (n + 2) i b (ap ruleInRange (sym e) ∙ sym et ∙ so)))
+          sym (ap (λ s. cond s (solved.Walked (solutionOf f (walk tie floors f (entries l 2 n)))) Outside)
+          (sym (v .in-range) ∙ every-more l (n + 2) i b (ap ruleInRange (sym e) ∙ sym et ∙ so)))
 
     pub answering : Answering f w
     answering = record { objective = h .objective; state-small = v .small .state-small }
 
-    pub walked-end : n + 2 ≤ i → w₀ ≡ begin floors f → {s : Solution} → s ≡ solutionOf f w → solved.Walked s ≡ rulesSolved f floors (entries l 2 n)
+    pub walked-end :
+        n + 2 ≤ i →
+        w₀ ≡ begin floors f →
+        {s : Solution} →
+        s ≡ solutionOf f w →
+        solved.Walked s ≡ rulesSolved f floors (entries l 2 n)
     walked-end b e₀ es =
         ap solved.Walked (es ∙ ap (solutionOf f) whole)
-        ∙ sym (ap (λ s. cond s (solved.Walked (solutionOf f (walk tie floors f (entries l 2 n)))) Outside) (sym (v .in-range) ∙ ap (every ruleInRange) (entries-none l (n + 2) i b)))
+        ∙ sym (ap (λ s. cond s (solved.Walked (solutionOf f (walk tie floors f (entries l 2 n)))) Outside)
+        (sym (v .in-range) ∙ ap (every ruleInRange) (entries-none l (n + 2) i b)))
       where
         whole : w ≡ walk tie floors f (entries l 2 n)
-        whole = sym (ap (λ (S : List Constraint). walkFrom tie f (entries l 0 i) i S w) (entries-none l (n + 2) i b)) ∙ v .rest ∙ (λ j. walkFrom tie f (h .first j ∷ h .second j ∷ []) 2 (entries l 2 n) (e₀ j))
+        whole =
+            sym (ap (λ (S : List Constraint). walkFrom tie f (entries l 0 i) i S w) (entries-none l (n + 2) i b)) ∙ v .rest
+            ∙ (λ j. walkFrom tie f (h .first j ∷ h .second j ∷ []) 2 (entries l 2 n) (e₀ j))

@@ -1,4 +1,5 @@
--- The entries of a system in a flat list of numbers, three to an entry: a, b, c, a, b, c, .. Reading entries off the list, and putting one into it.
+-- The entries of a system in a flat list of numbers, three to an entry: a, b, c, a, b, c, .. Reading entries off the list, and putting
+-- one into it.
 use mathlib.Core.List.{List, [], _∷_}
 use Prim.Native.Nat.{ℕ, zero, suc, _+_, _*_}
 use lib.ListN.{getD, set}

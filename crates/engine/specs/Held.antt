@@ -1,5 +1,5 @@
--- The tightest point as the loop holds it: with no tag, the point at infinity standing for none. A point at infinity has denominator 0, and is the direction in
--- which the line is walked.
+-- The tightest point as the loop holds it: with no tag, the point at infinity standing for none. A point at infinity has denominator 0,
+-- and is the direction in which the line is walked.
 use mathlib.Core.Bool.{true, false}
 use Prim.Native.Nat.{ℕ}
 use lib.IntN.{pos, negℤ}

@@ -1,5 +1,6 @@
--- What the engine promises: the walk along rules that stand in a run of numbers (Solving), which are within their ranges (Tests). Below that, the run as
--- entries of a system (Entries), what a pass holds (Held), the start point's part of a step (Start), and what the engine's private functions ask (Sizes).
+-- What the engine promises: the walk along rules that stand in a run of numbers (Solving), which are within their ranges (Tests). Below
+-- that, the run as entries of a system (Entries), what a pass holds (Held), the start point's part of a step (Start), and what the
+-- engine's private functions ask (Sizes).
 pub mod Entries
 pub mod Tests
 pub mod Solving

@@ -1,5 +1,5 @@
--- What the engine's private functions ask of numbers, one record for each: that they are within document 01's bounds. No function that is called from outside
--- asks anything.
+-- What the engine's private functions ask of numbers, one record for each: that they are within document 01's bounds. No function that is
+-- called from outside asks anything.
 use mathlib.Core.Path.{_≡_}
 use mathlib.Core.List.{List}
 use Prim.Native.Nat.{ℕ, _+_, _*_, _^_, _≤_, _<_}
@@ -37,11 +37,6 @@ pub record Distance (a x b y c d : ℤ) : Type 0 where
   pub y-small : Within 65534000000000 y
   pub c-small : Within 1000000000 c
   pub d-small : Within 2147352578 d
-
--- of a point's slack against a constraint
-pub record Measured (r : Constraint) (v : Point) : Type 0 where
-  pub constraint : SmallConstraint r
-  pub point : SmallPoint v
 
 pub record Lines (r s : Constraint) : Type 0 where
   pub first : SmallConstraint r

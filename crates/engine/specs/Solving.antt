@@ -1,5 +1,5 @@
--- The promises of `solve` and `amount`. What `solve` hands back is the model's walk along the rules that stand in the run of numbers, if all numbers are within
--- their ranges and the run has room; what the run holds afterwards is the floors before the same rules.
+-- The promises of `solve` and `amount`. What `solve` hands back is the model's walk along the rules that stand in the run of numbers, if
+-- all numbers are within their ranges and the run has room; what the run holds afterwards is the floors before the same rules.
 use mathlib.Core.Path.{_≡_}
 use mathlib.Core.List.{List}
 use mathlib.Core.Bool.{Bool, true, false, cond, _&&_}

@@ -1,5 +1,5 @@
--- The ranges of lp's Range and of model's Bounds as tests, since a function that anybody may call must look before it computes. That each test is its record is
--- proved in proofs/Tests.antt.
+-- The ranges of lp's Range and of model's Bounds as tests, since a function that anybody may call must look before it computes. That each
+-- test is its record is proved in proofs/Tests.antt.
 use mathlib.Core.Bool.{Bool, _&&_}
 use Prim.Native.Nat.{ℕ}
 use lib.Dec.{leb}

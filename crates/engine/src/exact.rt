@@ -1,5 +1,5 @@
-// Exact arithmetic on constraints, points and rays: the sign of a determinant decides on which side of a line a point lies. Products and sums stay
-// within 64 bits because the numbers are within document 01's bounds, so that nothing is divided and nothing is rounded.
+// Exact arithmetic on constraints, points and rays: the sign of a determinant decides on which side of a line a point lies. Products and
+// sums stay within 64 bits because the numbers are within document 01's bounds, so that nothing is divided and nothing is rounded.
 use lp::Constraint;
 use lp::Functional;
 use lp::Point;
@@ -57,6 +57,7 @@ pub fn is_level(h: Constraint) -> bool
     is_zero(h.a) && is_zero(h.b)
 }
 
+// Above 0 where r is left as the line of s is walked.
 pub fn det(r: Constraint, s: Constraint) -> i64
     requires { ⌜ Lines r s ⌝ }
     ensures { λ z. ⌜ z ≡ detOf r s ⌝ }
@@ -76,14 +77,6 @@ pub fn meet(r: Constraint, s: Constraint) -> Point
     }
 }
 
-// Constraint m is left as the line is walked.
-pub fn crosses(m: Constraint, line: Constraint) -> bool
-    requires { ⌜ Lines m line ⌝ }
-    ensures { λ t. ⌜ t ≡ ltZ (pos 0) (detOf m line) ⌝ }
-{
-    0 < difference(m.a, line.b, line.a, m.b)
-}
-
 // How far a point is from a constraint's line, times d. Its sign decides; only what is shown is reduced.
 pub fn slack(r: Constraint, v: Point) -> i64
     requires { ⌜ Distance (r .a) (v .x) (r .b) (v .y) (r .c) (v .d) ⌝ }
@@ -97,13 +90,6 @@ pub fn keeps(r: Constraint, v: Point) -> bool
     ensures { λ t. ⌜ t ≡ keepsOf r v ⌝ }
 {
     0 <= slack(r, v)
-}
-
-// A point that is not at infinity.
-pub fn is_proper(v: Point) -> bool
-    ensures { λ t. ⌜ t ≡ ltZ (pos 0) (v .d) ⌝ }
-{
-    0 < v.d
 }
 
 // A constraint that is never left along a ray.

@@ -1,5 +1,6 @@
-// The engine: a chain of rules planned, with no byte of a book in sight. Exact arithmetic on 64-bit integers, equal function by function to the functional model
-// of crate `model`. What a private function asks of its numbers is one record, and document 01's bounds answer it; the two functions below ask nothing.
+// The engine: a chain of rules planned, with no byte of a book in sight. Exact arithmetic on 64-bit integers, equal function by function
+// to the functional model of crate `model`. What a private function asks of its numbers is one record, and document 01's bounds answer
+// it; the two functions below ask nothing.
 mod cone;
 mod entries;
 mod exact;
@@ -21,8 +22,8 @@ use lp::Terms;
 ghost use mathlib.Core.Path.{_≡_};
 ghost use Rattle.engine.specs.Solving.{Solves, amountOf};
 
-// What the walk along a chain of rules comes to: the outcome, the counts, the place and a certificate by index (0 and 1 are the floors, i + 2 is rule i), and the
-// start pair with how often it was worked out. What is not used is zero.
+// What the walk along a chain of rules comes to: the outcome, the counts, the place and a certificate by index (0 and 1 are the floors, i
+// + 2 is rule i), and the start pair with how often it was worked out. What is not used is zero.
 pub struct Solution {
     pub outcome: Outcome,
     pub moves: usize,

@@ -1,5 +1,5 @@
-// The optimum: it stays where it keeps the new constraint, and else moves to the tightest point on that constraint's line. No check is needed there: the
-// start point says whether the system is feasible.
+// The optimum: it stays where it keeps the new constraint, and else moves to the tightest point on that constraint's line. No check is
+// needed there: the start point says whether the system is feasible.
 use crate::cone::gaining;
 use crate::exact::direction;
 use crate::exact::facing;
@@ -17,27 +17,19 @@ use model::Found;
 use model::Gain;
 ghost use mathlib.Core.Path.{_≡_};
 ghost use Rattle.lp.specs.Outcome.{gainOrder};
-ghost use Rattle.model.specs.Scan.{tightest as tightestOf};
-ghost use Rattle.model.specs.Step.{foundPoint, tightestPoint, improved as improvedOf, isOpen, breaks as breaksOf};
+ghost use Rattle.model.specs.Step.{tightestPoint, improved as improvedOf, breaks as breaksOf};
 ghost use Rattle.engine.specs.Entries.{entries as entriesOf};
-ghost use Rattle.engine.specs.Sizes.{Along, Moving, Improving, Breaking};
-
-fn tightest_point(entries: &[i64], n: usize, line: Constraint) -> Point
-    requires { ⌜ Along (now entries) n line ⌝ }
-    ensures { λ r. ⌜ r ≡ foundPoint (tightestOf line 0 (entriesOf (now (entries .entry)) 0 n) Found.Nothing) ⌝ }
-{
-    match tightest(entries, n, line) {
-        Found::Nothing => Point { x: 0, y: 0, d: 1 },
-        Found::At(_, _, p) => reduce(p),
-    }
-}
+ghost use Rattle.engine.specs.Sizes.{Moving, Improving, Breaking};
 
 fn moved(objective: Functional, tie: Tie, entries: &[i64], n: usize, h: Constraint) -> Point
     requires { ⌜ Moving objective tie (now entries) n h ⌝ }
     ensures { λ r. ⌜ r ≡ tightestPoint (gainOrder objective tie) (entriesOf (now (entries .entry)) 0 n) h ⌝ }
 {
     let side = upward(objective, tie, direction(h));
-    tightest_point(entries, n, facing(side, h))
+    match tightest(entries, n, facing(side, h)) {
+        Found::Nothing => Point { x: 0, y: 0, d: 1 },
+        Found::At(_, _, p) => reduce(p),
+    }
 }
 
 pub fn improved(
@@ -64,15 +56,6 @@ pub fn improved(
                 Best::At(moved(objective, tie, entries, n, h))
             }
         }
-    }
-}
-
-pub fn is_open(best: Best) -> bool
-    ensures { λ t. ⌜ t ≡ isOpen best ⌝ }
-{
-    match best {
-        Best::Open => true,
-        Best::At(_) => false,
     }
 }
 

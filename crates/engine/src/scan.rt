@@ -1,7 +1,7 @@
-// The passes over the entries of a system. Entries stand in one lent slice, three numbers each, floors first; n says how many of them count.
+// The passes over the entries of a system. Entries stand in one lent slice, three numbers each, floors first; n says how many of them
+// count.
 use crate::entries::entry;
-use crate::exact::crosses;
-use crate::exact::is_proper;
+use crate::exact::det;
 use crate::exact::keeps;
 use crate::exact::meet;
 use crate::exact::opposite;
@@ -16,8 +16,9 @@ ghost use Rattle.engine.specs.Entries.{entries as entriesOf};
 ghost use Rattle.engine.specs.Held.{farthest, tightened, foundOf};
 ghost use Rattle.engine.specs.Sizes.{Tightening, Along, Checking};
 
-// The tightest point so far on a line that is walked, with the entry that makes it and the entry's index. At first it is the point at infinity, whose d is 0:
-// whatever meets the line breaks it. (The model's Found says the same; this has no tag, and so the loop holds it in registers.)
+// The tightest point so far on a line that is walked, with the entry that makes it and the entry's index. At first it is the point at
+// infinity, whose d is 0: whatever meets the line breaks it. (The model's Found says the same; this has no tag, and so the loop holds it
+// in registers.)
 pub struct Held {
     pub index: usize,
     pub entry: Constraint,
@@ -39,7 +40,8 @@ fn at_infinity(line: Constraint) -> Held
     }
 }
 
-// Entry m, at index i, is met along the line, and before the point held so far. Whether the point keeps it is asked first: most entries it keeps.
+// Entry m, at index i, is met along the line, and before the point held so far. Whether the point keeps it is asked first: most entries
+// it keeps.
 fn tighter(line: Constraint, i: usize, m: Constraint, held: Held) -> Held
     requires { ⌜ Tightening line m held ⌝ }
     ensures { λ t. ⌜ t ≡ tightened line i m held ⌝ }
@@ -48,7 +50,7 @@ fn tighter(line: Constraint, i: usize, m: Constraint, held: Held) -> Held
     if keeps(m, p) {
         return held;
     }
-    if crosses(m, line) {
+    if 0 < det(m, line) {
         Held {
             index: i,
             entry: m,
@@ -63,7 +65,7 @@ fn found(held: Held) -> Found
     ensures { λ r. ⌜ r ≡ foundOf held ⌝ }
 {
     let p = held.point;
-    if is_proper(p) {
+    if 0 < p.d {
         let k = held.entry;
         Found::At(held.index, k, p)
     } else {

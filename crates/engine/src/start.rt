@@ -1,5 +1,5 @@
-// The start point, which says whether the system is feasible: when a constraint breaks it, it moves to the tightest point on that constraint's line,
-// or there is none and three constraints say why.
+// The start point, which says whether the system is feasible: when a constraint breaks it, it moves to the tightest point on that
+// constraint's line, or there is none and three constraints say why.
 use crate::exact::det;
 use crate::exact::direction;
 use crate::exact::facing;

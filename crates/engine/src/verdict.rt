@@ -1,4 +1,5 @@
-// What a walk comes to: the outcome, and where it is infeasible its place and certificate, else the start point. Fields that an outcome does not use are zero.
+// What a walk comes to: the outcome, and where it is infeasible its place and certificate, else the start point. Fields that an outcome
+// does not use are zero.
 use crate::Solution;
 use crate::cone::gaining;
 use fraction::reduce_ray;
@@ -35,24 +36,21 @@ pub fn solution(objective: Functional, walk: Walk) -> Solution
     ensures { λ r. ⌜ r ≡ solutionOf objective walk ⌝ }
 {
     let state = walk.state;
-    let moves = walk.moves;
-    let opened = walk.opened;
-    let restarts = walk.restarts;
     match state {
         State::Ended(place, certificate) => Solution {
             outcome: Outcome::Infeasible,
-            moves,
-            opened,
+            moves: walk.moves,
+            opened: walk.opened,
             place,
             certificate,
             held: false,
             start: Point { x: 0, y: 0, d: 0 },
-            restarts,
+            restarts: walk.restarts,
         },
         State::Going(s, cone, best) => Solution {
             outcome: said(objective, s, cone, best),
-            moves,
-            opened,
+            moves: walk.moves,
+            opened: walk.opened,
             place: 0,
             certificate: Certificate {
                 first: 0,
@@ -64,7 +62,7 @@ pub fn solution(objective: Functional, walk: Walk) -> Solution
             },
             held: true,
             start: s,
-            restarts,
+            restarts: walk.restarts,
         },
     }
 }

@@ -1,6 +1,6 @@
-// The walk along a chain of constraints: after each prefix it holds the start point, the cone of rays and the optimum, or the place where the system became
-// infeasible, and it counts the constraints that broke the start point before them. Entries stand in one lent slice, the two floors first, and each constraint that
-// arrives is scanned against those before it.
+// The walk along a chain of constraints: after each prefix it holds the start point, the cone of rays and the optimum, or the place where
+// the system became infeasible, and it counts the constraints that broke the start point before them. Entries stand in one lent slice,
+// the two floors first, and each constraint that arrives is scanned against those before it.
 use crate::Solved;
 use crate::cone::gaining;
 use crate::cone::narrow;
@@ -8,7 +8,6 @@ use crate::entries::entry;
 use crate::exact::keeps;
 use crate::optimum::breaks;
 use crate::optimum::improved;
-use crate::optimum::is_open;
 use crate::range::rule_in_range;
 use crate::start::start;
 use crate::verdict::solution;
@@ -45,10 +44,14 @@ fn going(s: Point, cone: Cone, best: Best, moves: usize, opened: usize, restarts
     requires { ⌜ Counting opened ⌝ }
     ensures { λ r. ⌜ r ≡ goingOf s cone best moves opened restarts ⌝ }
 {
+    let opened = match best {
+        Best::Open => opened + 1,
+        Best::At(_) => opened,
+    };
     Walk {
         state: State::Going(s, cone, best),
         moves,
-        opened: counted(opened, is_open(best)),
+        opened,
         restarts,
     }
 }
@@ -117,7 +120,8 @@ fn tie() -> Tie
     }
 }
 
-// The walk along n rules, which stand after the floors. A rule is looked at before it is taken in, so that no pass of its own is made for that.
+// The walk along n rules, which stand after the floors. A rule is looked at before it is taken in, so that no pass of its own is made for
+// that.
 pub fn walk_rules(objective: Functional, floors: Floors, run: &[i64], n: usize) -> Solved
     requires { ⌜ Walking objective floors (now run) n ⌝ }
     ensures { λ r. ⌜ r ≡ rulesSolved objective floors (entriesOf (now (run .entry)) 2 n) ⌝ }

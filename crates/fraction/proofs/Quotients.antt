@@ -1,6 +1,7 @@
--- A quotient by what divides several numbers, for every i64 and every u64: what the machine divides is what the integers have, and where the divisor is 0 or
--- no i64 at all, the quotient is known. An i64 that a call takes or returns is read back from its bits, `read z`, which is z.
-use mathlib.Core.Path.{_≡_, refl, sym, _∙_, ap, ap₂, subst}
+-- A quotient by what divides several numbers, for every i64 and every u64: what the machine divides is what the integers have, and where
+-- the divisor is 0 or no i64 at all, the quotient is known. An i64 that a call takes or returns is read back from its bits, `read z`,
+-- which is z.
+use mathlib.Core.Path.{_≡_, sym, _∙_, ap, ap₂, subst}
 use Prim.Native.Nat.{ℕ, zero, suc, _/_, _^_, _≤_, _<_}
 use native.Mathlib.Nat.{div-zero, div-eq-of-lt, div-self, div-le-self}
 use native.Mathlib.Omega.{arith}
@@ -10,7 +11,7 @@ use mir.Syntax.{w64}
 use mir.Val.{SFits, toZ}
 use mir.Facts.{toZ-ofZ}
 use Rattle.ints.specs.Gcd.{gcd, gcd2, gcd3}
-use Rattle.ints.proofs.Bits.{read}
+use Rattle.ints.proofs.Bits.{read, low}
 use Rattle.ints.proofs.Gcd.{gcd-comm, gcd-assoc}
 use Rattle.lp.specs.Program.{point, ray}
 use Rattle.lp.specs.Slack.{amount}
@@ -19,11 +20,6 @@ pub unread : {z : ℤ} → mag z < 2 ^ 63 → read z ≡ z
 unread h = toZ-ofZ {w = w64} (record { sfits = h })
 
 -- ---- a divisor that is an i64
-
--- minus n, for n up to 2^63
-low : (n : ℕ) → n ≤ 2 ^ 63 → SFits w64 (negℤ (pos n))
-low zero h = record { sfits = omega arith }
-low (suc n) h = record { sfits = omega arith }
 
 module _ (g : ℕ) where
   fits : (z : ℤ) → mag z < 2 ^ 63 → SFits w64 (quotZ z (pos g))
@@ -50,11 +46,22 @@ pub by-zero : (z : ℤ) {g : ℕ} → g ≡ 0 → pos 0 ≡ quotZ z (pos g)
 by-zero z {g} e = nought z g (ap (λ (n : ℕ). natAbs z / n) e ∙ div-zero (natAbs z))
 
 -- it is greater than the number
-pub by-greater : (z : ℤ) (g : ℕ) {m : ℕ} → m ≡ natAbs (read z) → mag z < 2 ^ 63 → m < g → pos 0 ≡ quotZ z (pos g)
+pub by-greater :
+    (z : ℤ) (g : ℕ) {m : ℕ} →
+    m ≡ natAbs (read z) →
+    mag z < 2 ^ 63 →
+    m < g →
+    pos 0 ≡ quotZ z (pos g)
 by-greater z g e h less = nought z g (div-eq-of-lt (subst (λ (n : ℕ). n < g) (e ∙ ap natAbs (unread {z = z} h)) less))
 
 -- or it is 2^63, and the number is the least i64
-pub by-least : (z : ℤ) (g : ℕ) {m : ℕ} → m ≡ natAbs (read z) → mag z < 2 ^ 63 → 2 ^ 63 ≤ g → g ≤ m → negsuc 0 ≡ quotZ z (pos g)
+pub by-least :
+    (z : ℤ) (g : ℕ) {m : ℕ} →
+    m ≡ natAbs (read z) →
+    mag z < 2 ^ 63 →
+    2 ^ 63 ≤ g →
+    g ≤ m →
+    negsuc 0 ≡ quotZ z (pos g)
 by-least z g e h big less = go z h (subst (λ (n : ℕ). g ≤ n) (e ∙ ap natAbs (unread {z = z} h)) less)
   where
     go : (z : ℤ) → mag z < 2 ^ 63 → g ≤ natAbs z → negsuc 0 ≡ quotZ z (pos g)

@@ -1,5 +1,5 @@
-// Points, rays and amounts in lowest terms: their numbers are divided by what divides them all. The greatest common divisor is worked out by repeated remainders, on
-// magnitudes. Each function takes every i64 there is.
+// Points, rays and amounts in lowest terms: their numbers are divided by what divides them all. The greatest common divisor is worked out
+// by repeated remainders, on magnitudes. Each function takes every i64 there is.
 use ints::magnitude;
 use lp::Amount;
 use lp::Point;
@@ -18,7 +18,8 @@ fn divisor(m: u64, n: u64) -> u64
     if n == 0 { m } else { divisor(n, m % n) }
 }
 
-// z by g. A divisor of 0, which divides zeros alone, gives 0. One that is no i64 is 2^63 or more: it goes once into the least i64, if it is 2^63, and into no other.
+// z by g. A divisor of 0, which divides zeros alone, gives 0. One that is no i64 is 2^63 or more: it goes once into the least i64, if it
+// is 2^63, and into no other.
 fn quotient(z: i64, g: u64) -> i64
     ensures { λ r. ⌜ r ≡ quotZ z (pos g) ⌝ }
 {

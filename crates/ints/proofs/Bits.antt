@@ -1,7 +1,8 @@
--- The machine's signed numbers. A signed local is its bits, so each operand is a number read back from them; a number that fits is read back whole.
+-- The machine's signed numbers. A signed local is its bits, so each operand is a number read back from them; a number that fits is read
+-- back whole.
 use mathlib.Core.Path.{_≡_, refl, ap, sym, _∙_, subst}
 use mathlib.Core.Bool.{true, false}
-use Prim.Native.Nat.{ℕ, zero, suc, _+_, _^_, _<_}
+use Prim.Native.Nat.{ℕ, zero, suc, _+_, _^_, _≤_, _<_}
 use native.Mathlib.Omega.{arith}
 use lib.Dec.{T}
 use lib.IntN.{ℤ, pos, negsuc, negℤ, sucℤ, natAbs, _+ℤ_, _-ℤ_, +ℤ-one, +ℤ-idl, negℤ-negℤ}
@@ -42,8 +43,9 @@ raise n = +ℤ-one (negsuc n) ∙ go n
 turn : (n : ℕ) → pos 0 -ℤ negℤ (pos n) ≡ pos n
 turn n = +ℤ-idl (negℤ (negℤ (pos n))) ∙ negℤ-negℤ (pos n)
 
-low : (n : ℕ) → n < 2 ^ 63 → SFits w64 (negℤ (pos n))
-low zero h = record { sfits = h }
+-- the least i64 is −2^63
+pub low : (n : ℕ) → n ≤ 2 ^ 63 → SFits w64 (negℤ (pos n))
+low zero h = record { sfits = omega arith }
 low (suc n) h = record { sfits = omega arith }
 
 abbrev pub raised : ℤ → ℤ
@@ -65,7 +67,7 @@ negative z f t =
     let p : z ≡ negsuc n = below-zero z f t in
     let h : n < 2 ^ 63 = f .sfits in
     let e : raised z ≡ negℤ (pos n) = ap (λ (y : ℤ). y +ℤ pos 1) (toZ-ofZ {w = w64} f ∙ p) ∙ raise n in
-    let fits : SFits w64 (raised z) = subst (λ (y : ℤ). SFits w64 y) (sym e) (low n h) in
+    let fits : SFits w64 (raised z) = subst (λ (y : ℤ). SFits w64 y) (sym e) (low n (omega arith)) in
     let g : turned z ≡ pos n = ap (λ (y : ℤ). pos 0 -ℤ y) (toZ-ofZ {w = w64} fits ∙ e) ∙ turn n in
     let fits′ : SFits w64 (turned z) = subst (λ (y : ℤ). SFits w64 y) (sym g) (record { sfits = h }) in
     let k : read (turned z) ≡ pos n = toZ-ofZ {w = w64} fits′ ∙ g in

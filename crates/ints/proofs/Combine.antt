@@ -8,7 +8,8 @@ use lib.IntN.{ℤ, pos, _-ℤ_, _*ℤ_, +ℤ-invr, *ℤ-zero}
 use lib.Signed.{clashℤ}
 use Rattle.ints.specs.Order.{_≤ᶻ_, _<ᶻ_}
 use Rattle.ints.proofs.Ring.{Poly, eval, normal, Fun, body, ForAll, for-all, ring-sound, _⊖_, _⊗_, con}
-use Rattle.ints.proofs.Order.{nn-add, nn-mul, nn-zero, pos-nn, pos-add-nn, nn-add-pos, pos-mul, nn-sub, pos-sub, sub-nn, sub-pos, nn-cancel, pos-cancel, le-of-eq}
+use Rattle.ints.proofs.Order.{nn-add, nn-mul, nn-zero, pos-nn, pos-add-nn, nn-add-pos, pos-mul, nn-sub, pos-sub, sub-nn, sub-pos}
+use Rattle.ints.proofs.Order.{nn-cancel, pos-cancel, le-of-eq}
 
 -- what proves a sum of products not negative, or positive, from the signs of its parts
 pub ruleset signs = (pos-add-nn, nn-add-pos, pos-mul, nn-add, nn-mul, pos-nn, sub-nn, sub-pos)
@@ -41,12 +42,16 @@ module _ (n : ℕ) (f : Fun n Bound) where
   abbrev bound : Bound
   bound = body Bound n f
 
-  pub by-le : normal (bound .right ⊖ bound .left) ≡ normal (bound .sum) → ForAll n (λ ρ. pos 0 ≤ᶻ eval ρ (bound .sum) → eval ρ (bound .left) ≤ᶻ eval ρ (bound .right)) []
+  pub by-le :
+      normal (bound .right ⊖ bound .left) ≡ normal (bound .sum) →
+      ForAll n (λ ρ. pos 0 ≤ᶻ eval ρ (bound .sum) → eval ρ (bound .left) ≤ᶻ eval ρ (bound .right)) []
   by-le e =
       for-all n (λ ρ. pos 0 ≤ᶻ eval ρ (bound .sum) → eval ρ (bound .left) ≤ᶻ eval ρ (bound .right))
       (λ ρ h. nn-sub (subst (λ z. pos 0 ≤ᶻ z) (sym (ring-sound ρ (bound .right ⊖ bound .left) (bound .sum) e)) h)) []
 
-  pub by-lt : normal (bound .right ⊖ bound .left) ≡ normal (bound .sum) → ForAll n (λ ρ. pos 0 <ᶻ eval ρ (bound .sum) → eval ρ (bound .left) <ᶻ eval ρ (bound .right)) []
+  pub by-lt :
+      normal (bound .right ⊖ bound .left) ≡ normal (bound .sum) →
+      ForAll n (λ ρ. pos 0 <ᶻ eval ρ (bound .sum) → eval ρ (bound .left) <ᶻ eval ρ (bound .right)) []
   by-lt e =
       for-all n (λ ρ. pos 0 <ᶻ eval ρ (bound .sum) → eval ρ (bound .left) <ᶻ eval ρ (bound .right))
       (λ ρ h. pos-sub (subst (λ z. pos 0 <ᶻ z) (sym (ring-sound ρ (bound .right ⊖ bound .left) (bound .sum) e)) h)) []
@@ -55,15 +60,23 @@ module _ (n : ℕ) (f : Fun n Scaled) where
   abbrev scaled : Scaled
   scaled = body Scaled n f
 
-  pub by-le-of : normal (scaled .factor ⊗ (scaled .right ⊖ scaled .left)) ≡ normal (scaled .sum) → ForAll n (λ ρ. pos 0 <ᶻ eval ρ (scaled .factor) → pos 0 ≤ᶻ eval ρ (scaled .sum) → eval ρ (scaled .left) ≤ᶻ eval ρ (scaled .right)) []
+  pub by-le-of :
+      normal (scaled .factor ⊗ (scaled .right ⊖ scaled .left)) ≡ normal (scaled .sum) →
+      ForAll n (λ ρ. pos 0 <ᶻ eval ρ (scaled .factor) → pos 0 ≤ᶻ eval ρ (scaled .sum) → eval ρ (scaled .left) ≤ᶻ eval ρ (scaled .right))
+      []
   by-le-of e =
       for-all n (λ ρ. pos 0 <ᶻ eval ρ (scaled .factor) → pos 0 ≤ᶻ eval ρ (scaled .sum) → eval ρ (scaled .left) ≤ᶻ eval ρ (scaled .right))
-      (λ ρ k h. nn-sub (nn-cancel k (subst (λ z. pos 0 ≤ᶻ z) (sym (ring-sound ρ (scaled .factor ⊗ (scaled .right ⊖ scaled .left)) (scaled .sum) e)) h))) []
+      (λ ρ k h. nn-sub (nn-cancel k
+      (subst (λ z. pos 0 ≤ᶻ z) (sym (ring-sound ρ (scaled .factor ⊗ (scaled .right ⊖ scaled .left)) (scaled .sum) e)) h))) []
 
-  pub by-lt-of : normal (scaled .factor ⊗ (scaled .right ⊖ scaled .left)) ≡ normal (scaled .sum) → ForAll n (λ ρ. pos 0 <ᶻ eval ρ (scaled .factor) → pos 0 <ᶻ eval ρ (scaled .sum) → eval ρ (scaled .left) <ᶻ eval ρ (scaled .right)) []
+  pub by-lt-of :
+      normal (scaled .factor ⊗ (scaled .right ⊖ scaled .left)) ≡ normal (scaled .sum) →
+      ForAll n (λ ρ. pos 0 <ᶻ eval ρ (scaled .factor) → pos 0 <ᶻ eval ρ (scaled .sum) → eval ρ (scaled .left) <ᶻ eval ρ (scaled .right))
+      []
   by-lt-of e =
       for-all n (λ ρ. pos 0 <ᶻ eval ρ (scaled .factor) → pos 0 <ᶻ eval ρ (scaled .sum) → eval ρ (scaled .left) <ᶻ eval ρ (scaled .right))
-      (λ ρ k h. pos-sub (pos-cancel k (subst (λ z. pos 0 <ᶻ z) (sym (ring-sound ρ (scaled .factor ⊗ (scaled .right ⊖ scaled .left)) (scaled .sum) e)) h))) []
+      (λ ρ k h. pos-sub (pos-cancel k
+      (subst (λ z. pos 0 <ᶻ z) (sym (ring-sound ρ (scaled .factor ⊗ (scaled .right ⊖ scaled .left)) (scaled .sum) e)) h))) []
 
 -- a sum that is identically 0 is not positive
 module _ (n : ℕ) (f : Fun n Poly) where

@@ -1,6 +1,6 @@
--- An integer z divided by a natural number g that divides its magnitude: `quotZ z (pos g)` is exact, grows no larger, and a factor cancels.
--- These are the facts of one coordinate; proofs/Reduced.antt uses each of them for every coordinate. Divisibility of natural numbers, `_∣_`, is the
--- library's.
+-- An integer z divided by a natural number g that divides its magnitude: `quotZ z (pos g)` is exact, grows no larger, and a factor
+-- cancels. These are the facts of one coordinate; proofs/Reduced.antt uses each of them for every coordinate. Divisibility of natural
+-- numbers, `_∣_`, is the library's.
 use mathlib.Core.Path.{_≡_, refl, sym, _∙_, ap, subst}
 use Prim.Native.Nat.{ℕ, zero, suc, _*_, _/_, _≤_, _<_, _∣_}
 use native.Mathlib.Nat.{mul-div-cancel', dvd-mul-right, one-dvd, div-le-self}
@@ -70,10 +70,20 @@ pub quot-reduced : (z : ℤ) {g : ℕ} → g ≡ 1 → quotZ z (pos g) ≡ z
 quot-reduced z e = rw e (quot-one z)
 
 -- p·z = q·z′ are divided by p·g = q·g′: then z by g is z′ by g′
-pub quot-same : (p q z z′ : ℤ) (g g′ : ℕ) → pos 0 <ᶻ p → pos 0 <ᶻ q → 0 < g → natAbs p * g ≡ natAbs q * g′ → g ∣ natAbs z → g′ ∣ natAbs z′ → p *ℤ z ≡ q *ℤ z′ → quotZ z (pos g) ≡ quotZ z′ (pos g′)
+pub quot-same :
+    (p q z z′ : ℤ) (g g′ : ℕ) →
+    pos 0 <ᶻ p →
+    pos 0 <ᶻ q →
+    0 < g →
+    natAbs p * g ≡ natAbs q * g′ →
+    g ∣ natAbs z →
+    g′ ∣ natAbs z′ →
+    p *ℤ z ≡ q *ℤ z′ →
+    quotZ z (pos g) ≡ quotZ z′ (pos g′)
 quot-same p q z z′ g g′ hp hq hg eg h h′ ez =
     mul-cancel (pos-mul hp (pos-of-lt hg))
-    (whole p z g h ∙ ez ∙ sym (whole q z′ g′ h′) ∙ ap (λ t. t *ℤ quotZ z′ (pos g′)) (factor q g′ hq ∙ ap pos (sym eg) ∙ sym (factor p g hp)))
+    (whole p z g h ∙ ez ∙ sym (whole q z′ g′ h′)
+    ∙ ap (λ t. t *ℤ quotZ z′ (pos g′)) (factor q g′ hq ∙ ap pos (sym eg) ∙ sym (factor p g hp)))
   where
     whole : (k x : ℤ) (c : ℕ) → c ∣ natAbs x → k *ℤ pos c *ℤ quotZ x (pos c) ≡ k *ℤ x
     whole k x c i = mul-assoc k (pos c) (quotZ x (pos c)) ∙ ap (λ t. k *ℤ t) (quot-exact x c i)

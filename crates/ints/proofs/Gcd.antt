@@ -1,10 +1,11 @@
--- The greatest common divisor that specs/Gcd.antt computes: Euclid's two equations without fuel, the induction that they give, that gcd m n divides
--- both numbers and is divided by every common divisor, and what follows from that alone. At the end the same for three integers.
--- It rests on the library's divisibility of natural numbers, above all `dvd-mod-iff`.
+-- The greatest common divisor that specs/Gcd.antt computes: Euclid's two equations without fuel, the induction that they give, that gcd m
+-- n divides both numbers and is divided by every common divisor, and what follows from that alone. At the end the same for three
+-- integers. It rests on the library's divisibility of natural numbers, above all `dvd-mod-iff`.
 use mathlib.Core.Path.{_≡_, refl, sym, _∙_, ap₂, subst}
 use mathlib.Core.Logic.{_↔_}
 use Prim.Native.Nat.{ℕ, zero, suc, _*_, _/_, _%_, _≤_, _<_, _∣_}
-use native.Mathlib.Nat.{mod-lt, dvd-mod-iff, dvd-refl, dvd-zero, dvd-trans, dvd-antisymm, dvd-mul-right, dvd-of-mul-dvd-mul-left, mul-dvd-mul-left, pos-of-dvd-of-pos, eq-zero-of-zero-dvd, le-of-dvd, zero-mul, mul-div-cancel'}
+use native.Mathlib.Nat.{mod-lt, dvd-mod-iff, dvd-refl, dvd-zero, dvd-trans, dvd-antisymm, dvd-mul-right, dvd-of-mul-dvd-mul-left}
+use native.Mathlib.Nat.{mul-dvd-mul-left, pos-of-dvd-of-pos, eq-zero-of-zero-dvd, le-of-dvd, zero-mul, mul-div-cancel'}
 use native.Mathlib.Omega.{arith}
 use lib.IntN.{ℤ, pos, natAbs, _*ℤ_}
 use Rattle.ints.specs.Order.{_<ᶻ_}
@@ -94,7 +95,9 @@ gcd-assoc l m n =
 pub gcd-mul : (k m n : ℕ) → gcd (k * m) (k * n) ≡ k * gcd m n
 gcd-mul zero m n = ap₂ gcd (zero-mul m) (zero-mul n) ∙ gcd-zero 0 ∙ sym (zero-mul (gcd m n))
 gcd-mul (suc j) m n =
-    dvd-antisymm (subst (λ d. d ∣ (suc j * gcd m n)) whole (mul-dvd-mul-left _ (suc j) (gcd-greatest c m n (part m (gcd-left (suc j * m) (suc j * n))) (part n (gcd-right (suc j * m) (suc j * n))))))
+    dvd-antisymm (subst (λ d. d ∣ (suc j * gcd m n)) whole
+    (mul-dvd-mul-left _ (suc j)
+    (gcd-greatest c m n (part m (gcd-left (suc j * m) (suc j * n))) (part n (gcd-right (suc j * m) (suc j * n))))))
     (gcd-greatest _ (suc j * m) (suc j * n) (mul-dvd-mul-left _ (suc j) (gcd-left m n)) (mul-dvd-mul-left _ (suc j) (gcd-right m n)))
   where
     c : ℕ
@@ -139,7 +142,9 @@ pub gcd2-pos : (x y : ℤ) → (x ≡ pos 0 → y ≡ pos 0 → ⊥) → 0 < gcd
 gcd2-pos x y h = go (gcd2 x y) refl
   where
     go : (g : ℕ) → gcd2 x y ≡ g → 0 < g
-    go zero e = absurd (h (natAbs-nought x (gcd-nought-left (natAbs x) (natAbs y) e)) (natAbs-nought y (gcd-nought-right (natAbs x) (natAbs y) e)))
+    go zero e =
+        absurd (h (natAbs-nought x (gcd-nought-left (natAbs x) (natAbs y) e))
+        (natAbs-nought y (gcd-nought-right (natAbs x) (natAbs y) e)))
     go (suc g) e = omega arith
 
 pub gcd3-mul : (k x y d : ℤ) → gcd3 (k *ℤ x) (k *ℤ y) (k *ℤ d) ≡ natAbs k * gcd3 x y d

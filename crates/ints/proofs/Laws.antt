@@ -2,7 +2,8 @@
 -- Each is by recursion on the first factor, through the library's successor and predecessor laws.
 use mathlib.Core.Path.{_≡_, sym, _∙_, ap, ap₂}
 use Prim.Native.Nat.{zero, suc}
-use lib.IntN.{ℤ, pos, negsuc, predℤ, negℤ, _+ℤ_, _-ℤ_, _*ℤ_, +ℤ-assoc, +ℤ-comm, +ℤ-idl, +ℤ-idr, +ℤ-invr, +ℤ-invl, sucℤ-+ℤ, predℤ-+ℤ, zero-*ℤ, sucℤ-*ℤ, predℤ-*ℤ, *ℤ-comm}
+use lib.IntN.{ℤ, pos, negsuc, predℤ, negℤ, _+ℤ_, _-ℤ_, _*ℤ_, +ℤ-assoc, +ℤ-comm, +ℤ-idl, +ℤ-idr, +ℤ-invr, +ℤ-invl, sucℤ-+ℤ, predℤ-+ℤ}
+use lib.IntN.{zero-*ℤ, sucℤ-*ℤ, predℤ-*ℤ, *ℤ-comm}
 
 pub add-swap-last : (x y z : ℤ) → x +ℤ y +ℤ z ≡ x +ℤ z +ℤ y
 add-swap-last x y z = +ℤ-assoc x y z ∙ ap (λ t. x +ℤ t) (+ℤ-comm y z) ∙ sym (+ℤ-assoc x z y)

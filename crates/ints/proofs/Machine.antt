@@ -1,6 +1,7 @@
--- Sizes: `Within n z` says that z's magnitude is at most n. Bounds of sums and products are computed from those of their parts, and a bound below
--- 2 ^ 63 gives what the machine's i64 asks of a result, `SFits w64 z`. An operand of an i64 operation is a number read back from its bits,
--- `toZ w64 (ofZ w64 z)`, which is z where z fits (the library's `toZ-ofZ`). `sizes` answers such needs from Within facts in what a function requires.
+-- Sizes: `Within n z` says that z's magnitude is at most n. Bounds of sums and products are computed from those of their parts, and a
+-- bound below 2 ^ 63 gives what the machine's i64 asks of a result, `SFits w64 z`. An operand of an i64 operation is a number read back
+-- from its bits, `toZ w64 (ofZ w64 z)`, which is z where z fits (the library's `toZ-ofZ`). `sizes` answers such needs from Within facts
+-- in what a function requires.
 use mathlib.Core.Bool.{Bool, true, false, cond}
 use Prim.Native.Nat.{ℕ, suc, _+_, _*_, _-_, _/_, _^_, _≤_, _<_}
 use native.Mathlib.Nat.{mul-le-mul, le-trans, le-mul-of-pos-right, mul-comm, mul-div-le, div-mul-le-self}
@@ -49,7 +50,11 @@ within-quot {n} {a} b h = record { small = le-trans (quot-no-larger a b) (h .sma
 
 -- a positive factor left out
 pub within-factor : {n : ℕ} {k a : ℤ} → pos 0 <ᶻ k → Within n (k *ℤ a) → Within n a
-within-factor {n} {k} {a} p h = record { small = le-trans (le-mul-of-pos-right (natAbs a) (natAbs-pos p)) (rw (mul-comm (natAbs a) (natAbs k), ← natAbs-mul) (h .small)) }
+within-factor {n} {k} {a} p h =
+    record {
+      small = le-trans (le-mul-of-pos-right (natAbs a) (natAbs-pos p))
+          (rw (mul-comm (natAbs a) (natAbs k), ← natAbs-mul) (h .small));
+    }
 
 -- a larger bound: `weaken tt h` for two numerals
 pub weaken : {m n : ℕ} {z : ℤ} → T (leb m n) → Within m z → Within n z
@@ -88,7 +93,8 @@ within-read {n} {z} h t = rw (toZ-ofZ {w = w64} (within-fits h t)) h
 pub divisor-bits : {z : ℤ} → pos 0 <ᶻ z → 0 < ofZ w64 z
 divisor-bits h = pos-elim (λ z. 0 < ofZ w64 z) (λ n. omega arith) h
 
--- ---- the same downwards, for `search`: from the room N that a goal leaves to the room of its parts, so that a goal shows every bound. A sum gives
+-- ---- the same downwards, for `search`: from the room N that a goal leaves to the room of its parts, so that a goal shows every bound.
+-- A sum gives
 -- each part half of its room, a product gives one factor what the bound of the other leaves; at the ends stand facts.
 
 pub room-fits : {z : ℤ} → Within (2 ^ 63 - 1) z → SFits w64 z
@@ -109,10 +115,11 @@ room-mul-left {m} {n} {a} {b} h k = record { small = le-trans (within-mul h k .s
 pub room-mul-right : {m n : ℕ} {a b : ℤ} → Within m b → Within (n / m) a → Within n (a *ℤ b)
 room-mul-right {m} {n} {a} {b} h k = record { small = le-trans (within-mul k h .small) (div-mul-le-self n m) }
 
--- `search sizes depth 8` answers the needs of up to two products and their sum or difference, and that the result is what is ensured. What is larger
--- is quicker by hand: a record of the facts `SFits w64 (..)`, each by `within-fits (within-add ..) tt`, as `facts` of what the function requires, and
--- `search (toZ-ofZ, facts (c .pre))`.
-pub ruleset sizes = (tt, toZ-ofZ, room-fits, room-fact, room-add, room-sub, room-mul-left, room-mul-right, within-quot, within-numeral, divisor-bits)
+-- `search sizes depth 8` answers the needs of up to two products and their sum or difference, and that the result is what is ensured.
+-- What is larger is quicker by hand: a record of the facts `SFits w64 (..)`, each by `within-fits (within-add ..) tt`, as `facts` of what
+-- the function requires, and `search (toZ-ofZ, facts (c .pre))`.
+pub ruleset sizes =
+    (tt, toZ-ofZ, room-fits, room-fact, room-add, room-sub, room-mul-left, room-mul-right, within-quot, within-numeral, divisor-bits)
 
 -- ---- a bound on a magnitude is one on the number
 

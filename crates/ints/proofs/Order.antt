@@ -129,7 +129,8 @@ below-suc (negsuc (suc a)) = ltZ-yes (lt→ltb a (suc a) (omega arith))
 
 pub sub-pos : {a b : ℤ} → a <ᶻ b → pos 0 <ᶻ b -ℤ a
 sub-pos {a} {b} h =
-    subst (λ z. pos 0 <ᶻ z) (ap (λ z. b -ℤ z +ℤ pos 1) (sym (+ℤ-one a)) ∙ ring 2 (λ x y. y ⊖ (x ⊕ con (pos 1)) ⊕ con (pos 1) ≐ y ⊖ x) refl a b)
+    subst (λ z. pos 0 <ᶻ z) (ap (λ z. b -ℤ z +ℤ pos 1) (sym (+ℤ-one a))
+    ∙ ring 2 (λ x y. y ⊖ (x ⊕ con (pos 1)) ⊕ con (pos 1) ≐ y ⊖ x) refl a b)
     (nn-add-pos (sub-nn (lt-suc a b h)) (pos-nat 0))
 
 pub pos-sub : {a b : ℤ} → pos 0 <ᶻ b -ℤ a → a <ᶻ b
@@ -163,7 +164,9 @@ antisymmetric {a} {b} h k = go (gap a b h)
   where
     go : (g : (n : ℕ) × (b ≡ a +ℤ pos n)) → a ≡ b
     go (zero, e) = sym (e ∙ +ℤ-idr a)
-    go (suc n, e) = clashℤ (pos-sub (subst (λ z. pos 0 <ᶻ z) (sym (ap (λ z. z -ℤ a) e ∙ ring 2 (λ x y. x ⊕ y ⊖ x ≐ y) refl a (pos (suc n)))) (pos-nat n))) k
+    go (suc n, e) =
+        clashℤ (pos-sub (subst (λ z. pos 0 <ᶻ z) (sym (ap (λ z. z -ℤ a) e ∙ ring 2 (λ x y. x ⊕ y ⊖ x ≐ y) refl a (pos (suc n))))
+        (pos-nat n))) k
 
 -- ---- a number's sign, and the comparison of two
 
@@ -231,5 +234,6 @@ zero-cancel {k} {z} hk e =
 pub mul-cancel : {k a b : ℤ} → pos 0 <ᶻ k → k *ℤ a ≡ k *ℤ b → a ≡ b
 mul-cancel {k} {a} {b} hk e =
     ring 2 (λ x y. x ≐ x ⊖ y ⊕ y) refl a b
-    ∙ ap (λ z. z +ℤ b) (zero-cancel hk (ring 3 (λ k x y. k ⊗ (x ⊖ y) ≐ k ⊗ x ⊖ k ⊗ y) refl k a b ∙ ap (λ z. z -ℤ k *ℤ b) e ∙ +ℤ-invr (k *ℤ b)))
+    ∙ ap (λ z. z +ℤ b) (zero-cancel hk
+    (ring 3 (λ k x y. k ⊗ (x ⊖ y) ≐ k ⊗ x ⊖ k ⊗ y) refl k a b ∙ ap (λ z. z -ℤ k *ℤ b) e ∙ +ℤ-invr (k *ℤ b)))
     ∙ +ℤ-idl b

@@ -1,8 +1,8 @@
--- Triples x, y, d with d > 0, which stand for the point x/d, y/d, and pairs, which stand for a direction, in lowest terms: divided by their greatest
--- common divisor. The quotients are exact and no larger, their greatest common divisor is 1, and two triples (pairs) with a common positive
--- multiple have the same quotients: so each point, and each direction, has one reduced triple or pair. There is no need of Bézout:
--- k·gcd3 x y d = gcd3 (k·x) (k·y) (k·d) is enough. That a quotient is no larger is `quot-no-larger`, that a reduced triple stays as it is
--- `quot-reduced` (proofs/Divides.antt): neither asks what the divisor is.
+-- Triples x, y, d with d > 0, which stand for the point x/d, y/d, and pairs, which stand for a direction, in lowest terms: divided by
+-- their greatest common divisor. The quotients are exact and no larger, their greatest common divisor is 1, and two triples (pairs) with
+-- a common positive multiple have the same quotients: so each point, and each direction, has one reduced triple or pair. There is no need
+-- of Bézout: k·gcd3 x y d = gcd3 (k·x) (k·y) (k·d) is enough. That a quotient is no larger is `quot-no-larger`, that a reduced triple
+-- stays as it is `quot-reduced` (proofs/Divides.antt): neither asks what the divisor is.
 use mathlib.Core.Path.{_≡_, refl, sym, _∙_, ap}
 use Prim.Native.Nat.{ℕ, zero, suc, _+_, _*_, _<_, _∣_}
 use native.Mathlib.Nat.{eq-of-mul-eq-mul-left}
@@ -53,7 +53,13 @@ module _ (x y d : ℤ) where
         ∙ gcd3-same (record { first = reduce-first; second = reduce-second; third = reduce-third }))
 
     -- p·(x, y, d) = q·(x′, y′, d′) have the same quotients
-    pub multiples-agree : (x′ y′ d′ p q : ℤ) → pos 0 <ᶻ p → pos 0 <ᶻ q → SameTriple (p *ℤ x) (p *ℤ y) (p *ℤ d) (q *ℤ x′) (q *ℤ y′) (q *ℤ d′) → SameTriple (quotZ x (pos (gcd3 x y d))) (quotZ y (pos (gcd3 x y d))) (quotZ d (pos (gcd3 x y d))) (quotZ x′ (pos (gcd3 x′ y′ d′))) (quotZ y′ (pos (gcd3 x′ y′ d′))) (quotZ d′ (pos (gcd3 x′ y′ d′)))
+    pub multiples-agree :
+        (x′ y′ d′ p q : ℤ) →
+        pos 0 <ᶻ p →
+        pos 0 <ᶻ q →
+        SameTriple (p *ℤ x) (p *ℤ y) (p *ℤ d) (q *ℤ x′) (q *ℤ y′) (q *ℤ d′) →
+        SameTriple (quotZ x (pos (gcd3 x y d))) (quotZ y (pos (gcd3 x y d))) (quotZ d (pos (gcd3 x y d))) (quotZ x′ (pos (gcd3 x′ y′ d′)))
+        (quotZ y′ (pos (gcd3 x′ y′ d′))) (quotZ d′ (pos (gcd3 x′ y′ d′)))
     multiples-agree x′ y′ d′ p q hp hq e =
         record {
           first = same x x′ (gcd3-first x y d) (gcd3-first x′ y′ d′) (e .first);
@@ -61,20 +67,32 @@ module _ (x y d : ℤ) where
           third = same d d′ (gcd3-third x y d) (gcd3-third x′ y′ d′) (e .third);
         }
       where
-        same : (z z′ : ℤ) → gcd3 x y d ∣ natAbs z → gcd3 x′ y′ d′ ∣ natAbs z′ → p *ℤ z ≡ q *ℤ z′ → quotZ z (pos (gcd3 x y d)) ≡ quotZ z′ (pos (gcd3 x′ y′ d′))
+        same :
+            (z z′ : ℤ) →
+            gcd3 x y d ∣ natAbs z →
+            gcd3 x′ y′ d′ ∣ natAbs z′ →
+            p *ℤ z ≡ q *ℤ z′ →
+            quotZ z (pos (gcd3 x y d)) ≡ quotZ z′ (pos (gcd3 x′ y′ d′))
         same z z′ =
             quot-same p q z z′ (gcd3 x y d) (gcd3 x′ y′ d′) hp hq (gcd3-pos x y d h)
             (sym (gcd3-mul p x y d) ∙ gcd3-same e ∙ gcd3-mul q x′ y′ d′)
 
     -- a positive factor changes nothing
-    pub reduce-scale : (k : ℤ) → pos 0 <ᶻ k → SameTriple (quotZ x (pos (gcd3 x y d))) (quotZ y (pos (gcd3 x y d))) (quotZ d (pos (gcd3 x y d))) (quotZ (k *ℤ x) (pos (gcd3 (k *ℤ x) (k *ℤ y) (k *ℤ d)))) (quotZ (k *ℤ y) (pos (gcd3 (k *ℤ x) (k *ℤ y) (k *ℤ d)))) (quotZ (k *ℤ d) (pos (gcd3 (k *ℤ x) (k *ℤ y) (k *ℤ d))))
+    pub reduce-scale :
+        (k : ℤ) →
+        pos 0 <ᶻ k →
+        SameTriple (quotZ x (pos (gcd3 x y d))) (quotZ y (pos (gcd3 x y d))) (quotZ d (pos (gcd3 x y d)))
+        (quotZ (k *ℤ x) (pos (gcd3 (k *ℤ x) (k *ℤ y) (k *ℤ d)))) (quotZ (k *ℤ y) (pos (gcd3 (k *ℤ x) (k *ℤ y) (k *ℤ d))))
+        (quotZ (k *ℤ d) (pos (gcd3 (k *ℤ x) (k *ℤ y) (k *ℤ d))))
     reduce-scale k hk =
         multiples-agree (k *ℤ x) (k *ℤ y) (k *ℤ d) k (pos 1) hk (pos-nat 0)
         (record { first = sym (one-mul (k *ℤ x)); second = sym (one-mul (k *ℤ y)); third = sym (one-mul (k *ℤ d)) })
 
     -- x/d = x′/d′ and y/d = y′/d′ have the same quotients
     module _ (x′ y′ d′ : ℤ) (h′ : pos 0 <ᶻ d′) (ex : x *ℤ d′ ≡ x′ *ℤ d) (ey : y *ℤ d′ ≡ y′ *ℤ d) where
-      pub reduce-same : SameTriple (quotZ x (pos (gcd3 x y d))) (quotZ y (pos (gcd3 x y d))) (quotZ d (pos (gcd3 x y d))) (quotZ x′ (pos (gcd3 x′ y′ d′))) (quotZ y′ (pos (gcd3 x′ y′ d′))) (quotZ d′ (pos (gcd3 x′ y′ d′)))
+      pub reduce-same :
+          SameTriple (quotZ x (pos (gcd3 x y d))) (quotZ y (pos (gcd3 x y d))) (quotZ d (pos (gcd3 x y d)))
+          (quotZ x′ (pos (gcd3 x′ y′ d′))) (quotZ y′ (pos (gcd3 x′ y′ d′))) (quotZ d′ (pos (gcd3 x′ y′ d′)))
       reduce-same =
           multiples-agree x′ y′ d′ d′ d h′ h
           (record { first = *ℤ-comm d′ x ∙ ex ∙ *ℤ-comm x′ d; second = *ℤ-comm d′ y ∙ ey ∙ *ℤ-comm y′ d; third = *ℤ-comm d′ d })
@@ -112,17 +130,31 @@ module _ (x y : ℤ) where
         (sym (gcd2-mul (pos (gcd2 x y)) (quotZ x (pos (gcd2 x y))) (quotZ y (pos (gcd2 x y))))
         ∙ gcd2-same (record { first = reduce2-first; second = reduce2-second }))
 
-    pub multiples2-agree : (x′ y′ p q : ℤ) → pos 0 <ᶻ p → pos 0 <ᶻ q → SamePair (p *ℤ x) (p *ℤ y) (q *ℤ x′) (q *ℤ y′) → SamePair (quotZ x (pos (gcd2 x y))) (quotZ y (pos (gcd2 x y))) (quotZ x′ (pos (gcd2 x′ y′))) (quotZ y′ (pos (gcd2 x′ y′)))
+    pub multiples2-agree :
+        (x′ y′ p q : ℤ) →
+        pos 0 <ᶻ p →
+        pos 0 <ᶻ q →
+        SamePair (p *ℤ x) (p *ℤ y) (q *ℤ x′) (q *ℤ y′) →
+        SamePair (quotZ x (pos (gcd2 x y))) (quotZ y (pos (gcd2 x y))) (quotZ x′ (pos (gcd2 x′ y′))) (quotZ y′ (pos (gcd2 x′ y′)))
     multiples2-agree x′ y′ p q hp hq e =
         record {
           first = same x x′ (gcd-left (natAbs x) (natAbs y)) (gcd-left (natAbs x′) (natAbs y′)) (e .first);
           second = same y y′ (gcd-right (natAbs x) (natAbs y)) (gcd-right (natAbs x′) (natAbs y′)) (e .second);
         }
       where
-        same : (z z′ : ℤ) → gcd2 x y ∣ natAbs z → gcd2 x′ y′ ∣ natAbs z′ → p *ℤ z ≡ q *ℤ z′ → quotZ z (pos (gcd2 x y)) ≡ quotZ z′ (pos (gcd2 x′ y′))
+        same :
+            (z z′ : ℤ) →
+            gcd2 x y ∣ natAbs z →
+            gcd2 x′ y′ ∣ natAbs z′ →
+            p *ℤ z ≡ q *ℤ z′ →
+            quotZ z (pos (gcd2 x y)) ≡ quotZ z′ (pos (gcd2 x′ y′))
         same z z′ = quot-same p q z z′ (gcd2 x y) (gcd2 x′ y′) hp hq h (sym (gcd2-mul p x y) ∙ gcd2-same e ∙ gcd2-mul q x′ y′)
 
-    pub reduce2-scale : (k : ℤ) → pos 0 <ᶻ k → SamePair (quotZ x (pos (gcd2 x y))) (quotZ y (pos (gcd2 x y))) (quotZ (k *ℤ x) (pos (gcd2 (k *ℤ x) (k *ℤ y)))) (quotZ (k *ℤ y) (pos (gcd2 (k *ℤ x) (k *ℤ y))))
+    pub reduce2-scale :
+        (k : ℤ) →
+        pos 0 <ᶻ k →
+        SamePair (quotZ x (pos (gcd2 x y))) (quotZ y (pos (gcd2 x y))) (quotZ (k *ℤ x) (pos (gcd2 (k *ℤ x) (k *ℤ y))))
+        (quotZ (k *ℤ y) (pos (gcd2 (k *ℤ x) (k *ℤ y))))
     reduce2-scale k hk =
         multiples2-agree (k *ℤ x) (k *ℤ y) k (pos 1) hk (pos-nat 0)
         (record { first = sym (one-mul (k *ℤ x)); second = sym (one-mul (k *ℤ y)) })
@@ -138,7 +170,10 @@ sum-pos {x} {y} hx hy =
     natural (suc m) n h = pos-of-lt (omega arith)
 
 module _ (x y x′ y′ : ℤ) (hx : pos 0 ≤ᶻ x) (hy : pos 0 ≤ᶻ y) (hx′ : pos 0 ≤ᶻ x′) (hy′ : pos 0 ≤ᶻ y′) (e : x *ℤ y′ ≡ x′ *ℤ y) where
-  pub reduce2-same : 0 < gcd2 x y → 0 < gcd2 x′ y′ → SamePair (quotZ x (pos (gcd2 x y))) (quotZ y (pos (gcd2 x y))) (quotZ x′ (pos (gcd2 x′ y′))) (quotZ y′ (pos (gcd2 x′ y′)))
+  pub reduce2-same :
+      0 < gcd2 x y →
+      0 < gcd2 x′ y′ →
+      SamePair (quotZ x (pos (gcd2 x y))) (quotZ y (pos (gcd2 x y))) (quotZ x′ (pos (gcd2 x′ y′))) (quotZ y′ (pos (gcd2 x′ y′)))
   reduce2-same h h′ =
       multiples2-agree x y h x′ y′ (x′ +ℤ y′) (x +ℤ y) (sum-pos hx′ hy′ h′) (sum-pos hx hy h)
       (record {

@@ -1,6 +1,6 @@
--- A ring solver by reflection. An identity between polynomials over ℤ is proved by its two normal forms being the same: `ring n f refl x₁ .. xₙ`,
--- where f takes n polynomial variables to the two sides. A normal form is a list of terms, each a coefficient other than 0 and a sorted
--- list of variables, in the order of those lists. `ring-sound` is the one theorem behind it.
+-- A ring solver by reflection. An identity between polynomials over ℤ is proved by its two normal forms being the same: `ring n f refl x₁
+-- .. xₙ`, where f takes n polynomial variables to the two sides. A normal form is a list of terms, each a coefficient other than 0 and a
+-- sorted list of variables, in the order of those lists. `ring-sound` is the one theorem behind it.
 use mathlib.Core.Path.{_≡_, refl, sym, _∙_, ap, ap₂}
 use mathlib.Core.List.{List, [], _∷_}
 use mathlib.Core.Bool.{Bool, true, false}
@@ -117,7 +117,10 @@ module _ (ρ : List ℤ) where
   insert-sound i [] = refl
   insert-sound i (j ∷ m) = go (ltb j i) (insert-sound i m)
     where
-      go : (b : Bool) → monoValue (insert i m) ≡ at ρ i *ℤ monoValue m → monoValue (elim b [ true ↦ j ∷ insert i m | false ↦ i ∷ j ∷ m ]) ≡ at ρ i *ℤ (at ρ j *ℤ monoValue m)
+      go :
+          (b : Bool) →
+          monoValue (insert i m) ≡ at ρ i *ℤ monoValue m →
+          monoValue (elim b [ true ↦ j ∷ insert i m | false ↦ i ∷ j ∷ m ]) ≡ at ρ i *ℤ (at ρ j *ℤ monoValue m)
       go true e =
           ap (λ t. at ρ j *ℤ t) e
           ∙ sym (mul-assoc (at ρ j) (at ρ i) (monoValue m))
@@ -157,7 +160,12 @@ module _ (ρ : List ℤ) where
       under same e s = ap₂ (λ x y. x ∷ y) e s
       under after e s = tt
 
-      go : (b : Bool) → (T b → i ≡ j) → (o : Order) → Same l m o → Same (i ∷ l) (j ∷ m) (elim b [ true ↦ o | false ↦ elim (ltb i j) [ true ↦ before | false ↦ after ] ])
+      go :
+          (b : Bool) →
+          (T b → i ≡ j) →
+          (o : Order) →
+          Same l m o →
+          Same (i ∷ l) (j ∷ m) (elim b [ true ↦ o | false ↦ elim (ltb i j) [ true ↦ before | false ↦ after ] ])
       go true e o s = under o (e tt) s
       go false e o s = less (ltb i j)
 
@@ -165,7 +173,12 @@ module _ (ρ : List ℤ) where
   addTerm-sound c m [] = push-sound c m []
   addTerm-sound c m (t ∷ n) = go (compare m (t .monomial)) (compare-same m (t .monomial)) (addTerm-sound c m n)
     where
-      go : (o : Order) → Same m (t .monomial) o → value (addTerm c m n) ≡ c *ℤ monoValue m +ℤ value n → value (elim o [ before ↦ push c m (t ∷ n) | same ↦ push (c +ℤ t .coefficient) m n | after ↦ t ∷ addTerm c m n ]) ≡ c *ℤ monoValue m +ℤ (t .coefficient *ℤ monoValue (t .monomial) +ℤ value n)
+      go :
+          (o : Order) →
+          Same m (t .monomial) o →
+          value (addTerm c m n) ≡ c *ℤ monoValue m +ℤ value n →
+          value (elim o [ before ↦ push c m (t ∷ n) | same ↦ push (c +ℤ t .coefficient) m n | after ↦ t ∷ addTerm c m n ])
+          ≡ c *ℤ monoValue m +ℤ (t .coefficient *ℤ monoValue (t .monomial) +ℤ value n)
       go before s e = push-sound c m (t ∷ n)
       go same s e =
           push-sound (c +ℤ t .coefficient) m n
@@ -189,7 +202,8 @@ module _ (ρ : List ℤ) where
   scale-sound c m [] = sym (*ℤ-zero (c *ℤ monoValue m))
   scale-sound c m (t ∷ n) =
       addTerm-sound (c *ℤ t .coefficient) (times m (t .monomial)) (scale c m n)
-      ∙ ap₂ (λ y z. y +ℤ z) (ap (λ z. c *ℤ t .coefficient *ℤ z) (times-sound m (t .monomial)) ∙ swap c (t .coefficient) (monoValue m) (monoValue (t .monomial))) (scale-sound c m n)
+      ∙ ap₂ (λ y z. y +ℤ z) (ap (λ z. c *ℤ t .coefficient *ℤ z) (times-sound m (t .monomial))
+      ∙ swap c (t .coefficient) (monoValue m) (monoValue (t .monomial))) (scale-sound c m n)
       ∙ sym (mul-distrib-left (c *ℤ monoValue m) (t .coefficient *ℤ monoValue (t .monomial)) (value n))
     where
       swap : (a b x y : ℤ) → a *ℤ b *ℤ (x *ℤ y) ≡ a *ℤ x *ℤ (b *ℤ y)
@@ -225,7 +239,8 @@ module _ (ρ : List ℤ) where
 pub ring-sound : (ρ : List ℤ) (p q : Poly) → normal p ≡ normal q → eval ρ p ≡ eval ρ q
 ring-sound ρ p q e = sym (normal-sound ρ p) ∙ ap (value ρ) e ∙ normal-sound ρ q
 
--- ---- the form in which it is used: sides as functions of n variables. The k-th variable is number n - k, so that an environment grows at its head.
+-- ---- the form in which it is used: sides as functions of n variables. The k-th variable is number n - k, so that an environment grows
+-- at its head.
 
 pub record Sides : Type 0 where
   pub left : Poly
@@ -252,7 +267,10 @@ pub for-all : (n : ℕ) (P : List ℤ → Type 0) → ((ρ : List ℤ) → P ρ)
 for-all zero P h ρ = h ρ
 for-all (suc n) P h ρ = λ x. for-all n P h (x ∷ ρ)
 
-pub ring : (n : ℕ) (f : Fun n Sides) → normal (body Sides n f .left) ≡ normal (body Sides n f .right) → ForAll n (λ ρ. eval ρ (body Sides n f .left) ≡ eval ρ (body Sides n f .right)) []
+pub ring :
+    (n : ℕ) (f : Fun n Sides) →
+    normal (body Sides n f .left) ≡ normal (body Sides n f .right) →
+    ForAll n (λ ρ. eval ρ (body Sides n f .left) ≡ eval ρ (body Sides n f .right)) []
 ring n f e =
     for-all n (λ ρ. eval ρ (body Sides n f .left) ≡ eval ρ (body Sides n f .right))
     (λ ρ. ring-sound ρ (body Sides n f .left) (body Sides n f .right) e) []

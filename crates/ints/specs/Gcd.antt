@@ -1,6 +1,6 @@
--- The greatest common divisor, by Euclid: the second number falls at each step, so one step more than it is fuel enough. Of integers it is that
--- of their magnitudes. That it is the greatest common divisor is proved in proofs/Gcd.antt. An integer z is divided by a natural number g as
--- `quotZ z (pos g)`, which rounds toward zero and is exact wherever it is used (proofs/Divides.antt).
+-- The greatest common divisor, by Euclid: the second number falls at each step, so one step more than it is fuel enough. Of integers it
+-- is that of their magnitudes. That it is the greatest common divisor is proved in proofs/Gcd.antt. An integer z is divided by a natural
+-- number g as `quotZ z (pos g)`, which rounds toward zero and is exact wherever it is used (proofs/Divides.antt).
 use mathlib.Core.Path.{_≡_}
 use Prim.Native.Nat.{ℕ, zero, suc, _%_}
 use lib.IntN.{ℤ, natAbs}

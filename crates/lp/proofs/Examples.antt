@@ -1,4 +1,5 @@
--- The class examples marked * in document 01 hold of the definitions, and so do its pitfalls and the slacks: one computation over each table, and every row follows.
+-- The class examples marked * in document 01 hold of the definitions, and so do its pitfalls and the slacks: one computation over each
+-- table, and every row follows.
 use mathlib.Core.Path.{_≡_, refl}
 use mathlib.Core.List.{List, [], _∷_, map, List·Memᴰ, List·Memᴰ·cases-cons, List·Memᴰ·not-nil}
 use mathlib.Core.Bool.{Bool, true, false}
@@ -34,7 +35,14 @@ at-row : (test : Example → Bool) (table : List Example) → T (every test tabl
 at-row test [] t = λ e i. absurd (List·Memᴰ·not-nil i)
 at-row test (x ∷ table) t = go (test x) refl t (at-row test table)
   where
-    go : (b : Bool) → test x ≡ b → T (elim b [ true ↦ every test table | false ↦ false ]) → (T (every test table) → (e : Example) → List·Memᴰ e table → T (test e)) → (e : Example) → List·Memᴰ e (x ∷ table) → T (test e)
+    go :
+        (b : Bool) →
+        test x ≡ b →
+        T (elim b [ true ↦ every test table | false ↦ false ]) →
+        (T (every test table) → (e : Example) → List·Memᴰ e table → T (test e)) →
+        (e : Example) →
+        List·Memᴰ e (x ∷ table) →
+        T (test e)
     go true q u f e i = ⊎-elim (λ p. subst (λ z. T (test z)) (sym p) (subst T (sym q) tt)) (f u e) (List·Memᴰ·cases-cons i)
     go false q u f e i = absurd u
 

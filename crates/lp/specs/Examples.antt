@@ -1,4 +1,5 @@
--- The ten class examples marked * in document 01, and the mistakes that it warns of; and slacks. In a witness 0 is floor x, 1 floor y, and 2 the first rule.
+-- The ten class examples marked * in document 01, and the mistakes that it warns of; and slacks. In a witness 0 is floor x, 1 floor y,
+-- and 2 the first rule.
 use mathlib.Core.List.{List, [], _∷_}
 use Prim.Native.Nat.{ℕ}
 use lib.IntN.{ℤ, pos, negsuc, negℤ}
@@ -25,7 +26,15 @@ example rules p q answer moved opened =
 
 abbrev impossible : List Constraint → ℤ → ℤ → ℕ → List Weighted → ℕ → ℕ → Example
 impossible rules p q placed witness moved opened =
-    record { rules = rules; objective = functional p q; answer = Infeasible; moved = moved; opened = opened; placed = placed; witness = witness }
+    record {
+      rules = rules;
+      objective = functional p q;
+      answer = Infeasible;
+      moved = moved;
+      opened = opened;
+      placed = placed;
+      witness = witness;
+    }
 
 abbrev once : ℕ → Weighted
 once e = record { entry = e; weight = pos 1 }
@@ -34,24 +43,30 @@ abbrev pub classExamples : List Example
 classExamples =
     example [] (pos 0) (pos 0) (Optimal (point (pos 0) (pos 0) (pos 1))) 0 0
     ∷ example [] (pos 1) (pos 1) (Unbounded (point (pos 0) (pos 0) (pos 1)) (ray (pos 1) (pos 0))) 0 1
-    ∷ example (atMost (pos 1) (pos 2) (pos 8) ∷ atMost (pos 3) (pos 1) (pos 9) ∷ []) (pos 1) (pos 1) (Optimal (point (pos 2) (pos 3) (pos 1))) 1 1
-    ∷ example (atMost (pos 2) (pos 3) (pos 7) ∷ atMost (pos 3) (pos 2) (pos 7) ∷ []) (pos 1) (pos 1) (Optimal (point (pos 7) (pos 7) (pos 5))) 1 1
+    ∷ example (atMost (pos 1) (pos 2) (pos 8) ∷ atMost (pos 3) (pos 1) (pos 9) ∷ []) (pos 1) (pos 1)
+    (Optimal (point (pos 2) (pos 3) (pos 1))) 1 1
+    ∷ example (atMost (pos 2) (pos 3) (pos 7) ∷ atMost (pos 3) (pos 2) (pos 7) ∷ []) (pos 1) (pos 1)
+    (Optimal (point (pos 7) (pos 7) (pos 5))) 1 1
     ∷ example (atMost (pos 2) (pos 1) (pos 4) ∷ []) (pos 2) (pos 1) (Optimal (point (pos 0) (pos 4) (pos 1))) 0 1
     ∷ example (atMost (pos 1) (negsuc 0) (pos 2) ∷ []) (pos 1) (pos 0) (Unbounded (point (pos 0) (pos 0) (pos 1)) (ray (pos 1) (pos 1))) 0 2
     ∷ impossible (atMost (pos 1) (pos 1) (pos 3) ∷ atLeast (pos 1) (pos 1) (pos 4) ∷ []) (pos 1) (pos 0) 2 (once 2 ∷ once 3 ∷ []) 1 1
     ∷ impossible (atMost (pos 1) (pos 0) (negsuc 0) ∷ []) (pos 0) (pos 0) 1 (once 0 ∷ once 2 ∷ []) 1 0
     ∷ impossible (atMost (pos 0) (pos 0) (negsuc 0) ∷ []) (pos 0) (pos 0) 1 (once 2 ∷ []) 1 0
-    ∷ impossible (atLeast (pos 1) (pos 1) (pos 4) ∷ atMost (pos 1) (pos 0) (pos 1) ∷ atMost (pos 0) (pos 1) (pos 1) ∷ []) (negsuc 0) (negsuc 0) 3 (once 2 ∷ once 3 ∷ once 4 ∷ []) 2 0
+    ∷ impossible (atLeast (pos 1) (pos 1) (pos 4) ∷ atMost (pos 1) (pos 0) (pos 1) ∷ atMost (pos 0) (pos 1) (pos 1) ∷ [])
+    (negsuc 0) (negsuc 0) 3 (once 2 ∷ once 3 ∷ once 4 ∷ []) 2 0
     ∷ []
 
--- a gaining direction where no pair is allowed; a parallel rule that is met after a move; a tie that the rule's own direction would break the other way; a
--- broken start pair of an unlimited prefix, which is no move; a rule after the place; a direction that is a multiple of its lowest terms
+-- a gaining direction where no pair is allowed; a parallel rule that is met after a move; a tie that the rule's own direction would break
+-- the other way; a broken start pair of an unlimited prefix, which is no move; a rule after the place; a direction that is a multiple of
+-- its lowest terms
 abbrev pub pitfalls : List Example
 pitfalls =
     impossible (atMost (pos 1) (pos 0) (negsuc 0) ∷ []) (pos 0) (pos 1) 1 (once 0 ∷ once 2 ∷ []) 0 1
-    ∷ example (atMost (pos 1) (pos 0) (pos 5) ∷ atMost (pos 1) (pos 0) (pos 3) ∷ []) (pos 1) (pos 0) (Optimal (point (pos 3) (pos 0) (pos 1))) 1 1
+    ∷ example (atMost (pos 1) (pos 0) (pos 5) ∷ atMost (pos 1) (pos 0) (pos 3) ∷ []) (pos 1) (pos 0)
+    (Optimal (point (pos 3) (pos 0) (pos 1))) 1 1
     ∷ example (atLeast (pos 2) (pos 1) (pos 4) ∷ []) (negsuc 1) (negsuc 0) (Optimal (point (pos 0) (pos 4) (pos 1))) 1 0
-    ∷ example (atLeast (pos 1) (pos 1) (pos 4) ∷ atMost (pos 1) (pos 1) (pos 6) ∷ []) (pos 1) (pos 1) (Optimal (point (pos 0) (pos 6) (pos 1))) 0 2
+    ∷ example (atLeast (pos 1) (pos 1) (pos 4) ∷ atMost (pos 1) (pos 1) (pos 6) ∷ []) (pos 1) (pos 1)
+    (Optimal (point (pos 0) (pos 6) (pos 1))) 0 2
     ∷ impossible (atMost (pos 1) (pos 0) (negsuc 0) ∷ atMost (pos 0) (pos 1) (pos 5) ∷ []) (pos 0) (pos 0) 1 (once 0 ∷ once 2 ∷ []) 1 0
     ∷ example (atMost (pos 2) (negsuc 1) (pos 4) ∷ []) (pos 1) (pos 0) (Unbounded (point (pos 0) (pos 0) (pos 1)) (ray (pos 1) (pos 1))) 0 2
     ∷ []
@@ -66,8 +81,8 @@ pub record Slack : Type 0 where
 abbrev slackRow : Constraint → Point → Amount → Slack
 slackRow r v a = record { rule = r; at = v; left = a }
 
--- spare; spare in lowest terms; tight; broken; a rule of kind 2 turned round, of which 9/5 is left; the same of a pair that is not reduced; and the terms at their
--- limits, which no pair where two lawful rules meet comes near: broken and spare, some 6.4·10¹⁸ over D
+-- spare; spare in lowest terms; tight; broken; a rule of kind 2 turned round, of which 9/5 is left; the same of a pair that is not
+-- reduced; and the terms at their limits, which no pair where two lawful rules meet comes near: broken and spare, some 6.4·10¹⁸ over D
 abbrev pub slacks : List Slack
 slacks =
     slackRow (atMost (pos 1) (pos 0) (pos 4)) (point (pos 7) (pos 7) (pos 5)) (amount (pos 13) (pos 5))
@@ -76,6 +91,8 @@ slacks =
     ∷ slackRow (atMost (pos 1) (pos 1) (pos 2)) (point (pos 7) (pos 7) (pos 5)) (amount (negsuc 3) (pos 5))
     ∷ slackRow (atLeast (pos 1) (pos 1) (pos 1)) (point (pos 7) (pos 7) (pos 5)) (amount (pos 9) (pos 5))
     ∷ slackRow (atLeast (pos 1) (pos 1) (pos 1)) (point (pos 14) (pos 14) (pos 10)) (amount (pos 9) (pos 5))
-    ∷ slackRow (atMost (pos 32767) (pos 32767) (negsuc 999999999)) (point (pos 65533999999999) (pos 65534000000000) (pos 2147352577)) (amount (negsuc 6442057732999967232) (pos 2147352577))
-    ∷ slackRow (atMost (negsuc 32766) (negsuc 32766) (pos 1000000000)) (point (pos 65533999999999) (pos 65534000000000) (pos 2147352577)) (amount (pos 6442057732999967233) (pos 2147352577))
+    ∷ slackRow (atMost (pos 32767) (pos 32767) (negsuc 999999999)) (point (pos 65533999999999) (pos 65534000000000)
+    (pos 2147352577)) (amount (negsuc 6442057732999967232) (pos 2147352577))
+    ∷ slackRow (atMost (negsuc 32766) (negsuc 32766) (pos 1000000000)) (point (pos 65533999999999) (pos 65534000000000)
+    (pos 2147352577)) (amount (pos 6442057732999967233) (pos 2147352577))
     ∷ []

@@ -1,5 +1,6 @@
--- What a reader must believe of linear programs: the words (Program), the ranges of what a book gives (Range), amounts of slack (Slack), the textbook's meaning (Textbook), the same as something to
--- compute (Outcome, Prefixes, Start), witnesses (Certificate), and document 01's own values and examples (Document, Examples, Starts).
+-- What a reader must believe of linear programs: the words (Program), the ranges of what a book gives (Range), amounts of slack (Slack),
+-- the textbook's meaning (Textbook), the same as something to compute (Outcome, Prefixes, Start), witnesses (Certificate), and document
+-- 01's own values and examples (Document, Examples, Starts).
 pub mod Program
 pub mod Range
 pub mod Slack

@@ -68,7 +68,8 @@ allowed S v = every (λ r. keeps r v) S
 
 abbrev pub above : List Functional → Ray → Bool
 above [] d = false
-above (f ∷ fs) d = elim (ltZ (pos 0) (along f d)) [ true ↦ true | false ↦ elim (ltZ (along f d) (pos 0)) [ true ↦ false | false ↦ above fs d ] ]
+above (f ∷ fs) d =
+    elim (ltZ (pos 0) (along f d)) [ true ↦ true | false ↦ elim (ltZ (along f d) (pos 0)) [ true ↦ false | false ↦ above fs d ] ]
 
 abbrev pub better : List Functional → Point → Point → Bool
 better fs w v = above fs (between v w)

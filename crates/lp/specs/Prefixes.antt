@@ -1,5 +1,5 @@
--- Place, moves and open: over the prefixes of a chain, each planned as a system of its own. `done` is the prefix so far, the last argument what
--- follows it.
+-- Place, moves and open: over the prefixes of a chain, each planned as a system of its own. `done` is the prefix so far, the last
+-- argument what follows it.
 use mathlib.Core.List.{List, [], _∷_, _++_}
 use mathlib.Core.Bool.{Bool, true, false, not}
 use Prim.Native.Nat.{ℕ, _+_}

@@ -1,5 +1,6 @@
--- The ranges of what a book gives, each within its numbers whatever the book: a rule's a and b are −32,767 to 32,767 and its c −1,000,000,000 to 1,000,000,000, an
--- objective's p and q −32,767 to 32,767, a floor any signed number of sixteen bits. This is the one definition of the range of a rule.
+-- The ranges of what a book gives, each within its numbers whatever the book: a rule's a and b are −32,767 to 32,767 and its c
+-- −1,000,000,000 to 1,000,000,000, an objective's p and q −32,767 to 32,767, a floor any signed number of sixteen bits. This is the one
+-- definition of the range of a rule.
 use mathlib.Core.List.{List, [], _∷_}
 use Rattle.ints.specs.Within.{Within}
 use Rattle.lp.specs.declared.Constraint.{Constraint}

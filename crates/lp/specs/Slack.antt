@@ -1,5 +1,5 @@
--- How far a point is from a constraint's line, as a fraction in lowest terms with its sign: above zero is spare, zero (0/1) is tight, below zero is
--- broken. `Keeps` and `keeps` read the sign of the numerator before it is reduced, which is the same (theory, Slack.antt).
+-- How far a point is from a constraint's line, as a fraction in lowest terms with its sign: above zero is spare, zero (0/1) is tight,
+-- below zero is broken. `Keeps` and `keeps` read the sign of the numerator before it is reduced, which is the same (theory, Slack.antt).
 use lib.IntN.{ℤ, pos}
 use lib.Signed.{quotZ}
 use Rattle.ints.specs.Gcd.{gcd2}

@@ -31,7 +31,8 @@ abbrev pub isLost : Start → Constraint → Bool
 isLost none r = false
 isLost (at s) r = not (keeps r s)
 
--- over the prefixes: the rules that the start pair before them does not keep. The rule that leaves no allowed pair is among them, and no rule after it.
+-- over the prefixes: the rules that the start pair before them does not keep. The rule that leaves no allowed pair is among them, and no
+-- rule after it.
 module _ (t : Tie) (floors : Floors) where
   abbrev pub restartsFrom : List Constraint → List Constraint → ℕ
   restartsFrom done [] = 0

@@ -1,4 +1,5 @@
--- Chains with their start pair and its count: none of the rules breaks it, every one does, only the last does, and a prefix that allows no pair ends it.
+-- Chains with their start pair and its count: none of the rules breaks it, every one does, only the last does, and a prefix that allows
+-- no pair ends it.
 use mathlib.Core.List.{List, [], _∷_}
 use mathlib.Core.Bool.{Bool, true, false, _&&_}
 use Prim.Native.Nat.{ℕ}
@@ -26,11 +27,14 @@ chains =
     -- none does
     ∷ chain (constraint (pos 1) (pos 2) (pos 8) ∷ constraint (pos 3) (pos 1) (pos 9) ∷ []) (at (point (pos 0) (pos 0) (pos 1))) 0
     -- every one does: (0, 4), (1, 3), (3/2, 3)
-    ∷ chain (atLeast (pos 1) (pos 1) (pos 4) ∷ constraint (pos 0) (pos 1) (pos 3) ∷ atLeast (pos 2) (pos 1) (pos 6) ∷ []) (at (point (pos 3) (pos 6) (pos 2))) 3
+    ∷ chain (atLeast (pos 1) (pos 1) (pos 4) ∷ constraint (pos 0) (pos 1) (pos 3) ∷ atLeast (pos 2) (pos 1) (pos 6) ∷ [])
+    (at (point (pos 3) (pos 6) (pos 2))) 3
     -- only the last does
-    ∷ chain (constraint (pos 1) (pos 2) (pos 8) ∷ constraint (pos 3) (pos 1) (pos 9) ∷ atLeast (pos 1) (pos 0) (pos 1) ∷ []) (at (point (pos 1) (pos 0) (pos 1))) 1
+    ∷ chain (constraint (pos 1) (pos 2) (pos 8) ∷ constraint (pos 3) (pos 1) (pos 9) ∷ atLeast (pos 1) (pos 0) (pos 1) ∷ [])
+    (at (point (pos 1) (pos 0) (pos 1))) 1
     -- the second rule leaves no pair and is counted; those after it are not
-    ∷ chain (constraint (pos 1) (pos 1) (pos 3) ∷ atLeast (pos 1) (pos 1) (pos 4) ∷ atLeast (pos 1) (pos 0) (pos 1) ∷ atLeast (pos 0) (pos 1) (pos 5) ∷ []) none 1
+    ∷ chain (constraint (pos 1) (pos 1) (pos 3) ∷ atLeast (pos 1) (pos 1) (pos 4) ∷ atLeast (pos 1) (pos 0) (pos 1)
+    ∷ atLeast (pos 0) (pos 1) (pos 5) ∷ []) none 1
     ∷ chain (atLeast (pos 1) (pos 0) (pos 2) ∷ constraint (pos 1) (pos 0) (pos 1) ∷ atLeast (pos 1) (pos 0) (pos 3) ∷ []) none 2
     -- a rule without a direction that nothing keeps
     ∷ chain (constraint (pos 0) (pos 0) (negsuc 0) ∷ constraint (pos 0) (pos 0) (negsuc 0) ∷ []) none 1

@@ -1,4 +1,5 @@
--- The textbook's meaning: what infeasible, unbounded and optimal are, over all points of any size; and document 01's words for its tie and its directions.
+-- The textbook's meaning: what infeasible, unbounded and optimal are, over all points of any size; and document 01's words for its tie
+-- and its directions.
 use mathlib.Core.Path.{_≡_}
 use mathlib.Core.List.{List, List·Memᴰ}
 use lib.IntN.{ℤ, pos, _*ℤ_}

@@ -1,5 +1,5 @@
--- The model walks the class examples and the pitfalls of document 01 to their answers, places and counts, with valid certificates. That it does so for every
--- system is proved in `theory`; these rows are what a wrong model trips over.
+-- The model walks the class examples and the pitfalls of document 01 to their answers, places and counts, with valid certificates. That
+-- it does so for every system is proved in `theory`; these rows are what a wrong model trips over.
 use mathlib.Core.Bool.{Bool, true, _&&_}
 use lib.Dec.{T, eqb}
 use lib.ListN.{take}

@@ -1,5 +1,6 @@
--- Document 01's bounds on what the walk holds: corners, directions and weights (those of what a book gives are lp's Range). The planner's code asks for them, since they keep
--- every product and sum within 64 bits; that the walk's numbers have them is proved in proofs/Bounds.antt.
+-- Document 01's bounds on what the walk holds: corners, directions and weights (those of what a book gives are lp's Range). The planner's
+-- code asks for them, since they keep every product and sum within 64 bits; that the walk's numbers have them is proved in
+-- proofs/Bounds.antt.
 use mathlib.Core.List.{List, [], _∷_}
 use Prim.Native.Nat.{ℕ, suc, _≤_}
 use lib.IntN.{pos}

@@ -1,5 +1,5 @@
--- The step: what the walk holds after one more constraint h. S is the system so far, n its length, and so h's index. At most three passes over S are made,
--- none where nothing is broken, and one where gains come to have a top.
+-- The step: what the walk holds after one more constraint h. S is the system so far, n its length, and so h's index. At most three passes
+-- over S are made, none where nothing is broken, and one where gains come to have a top.
 use mathlib.Core.List.{List, [], _∷_, _++_}
 use mathlib.Core.Bool.{Bool, true, false, not, _&&_}
 use Prim.Native.Nat.{ℕ, suc, _+_, _-_}
@@ -118,7 +118,8 @@ breaks h best.Open = false
 breaks h (best.At v) = elim (keeps h v) [ true ↦ false | false ↦ true ]
 
 abbrev pub going : Point → Cone → Best → ℕ → ℕ → ℕ → Walk
-going s cone b moves opened restarts = record { state = Going s cone b; moves = moves; opened = opened + one-if (isOpen b); restarts = restarts }
+going s cone b moves opened restarts =
+    record { state = Going s cone b; moves = moves; opened = opened + one-if (isOpen b); restarts = restarts }
 
 -- with the start point kept, moved or lost
 abbrev pub settled : Tie → Functional → List Constraint → ℕ → Constraint → Cone → Best → ℕ → ℕ → ℕ → Restart → Walk

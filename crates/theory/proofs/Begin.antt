@@ -39,7 +39,8 @@ use Rattle.theory.proofs.Standing.{Standing, BestStands, gains-nowhere}
 pub floors-quadrant : (floors : Floors) (rules : List Constraint) → Quadrant (system floors rules)
 floors-quadrant floors rules d r = (
   nn-by (R ∷ []) (λ d. d .dx ≐ ⊝ (con (negsuc 0) ⊗ d .dx ⊕ con (pos 0) ⊗ d .dy)) refl d (neg-nn (r (floorX floors) (List·Memᴰ·head refl))),
-  nn-by (R ∷ []) (λ d. d .dy ≐ ⊝ (con (pos 0) ⊗ d .dx ⊕ con (negsuc 0) ⊗ d .dy)) refl d (neg-nn (r (floorY floors) (List·Memᴰ·tail (List·Memᴰ·head refl)))),
+  nn-by (R ∷ []) (λ d. d .dy ≐ ⊝ (con (pos 0) ⊗ d .dx ⊕ con (negsuc 0) ⊗ d .dy)) refl d
+      (neg-nn (r (floorY floors) (List·Memᴰ·tail (List·Memᴰ·head refl)))),
 )
 
 -- a point with denominator 1 is in lowest terms
@@ -61,15 +62,18 @@ module _ (floors : Floors) where
 
   -- both floors, and nothing else
   both-floors {ℓ} : (Q : Constraint → Type ℓ) → Q (floorX floors) → Q (floorY floors) → (r : Constraint) → List·Memᴰ r S → Q r
-  both-floors Q x y = for-members Q (floorX floors) (floorY floors ∷ []) x (for-members Q (floorY floors) [] y (λ r i. absurd (List·Memᴰ·not-nil i)))
+  both-floors Q x y =
+      for-members Q (floorX floors) (floorY floors ∷ []) x (for-members Q (floorY floors) [] y (λ r i. absurd (List·Memᴰ·not-nil i)))
 
   corner-feasible : Feasible S corner
   corner-feasible =
       record {
         proper = pos-nat 0;
         kept = both-floors (λ r. Keeps r corner)
-            (nn-zero (equal (Z ∷ Z ∷ []) (λ x y. ⊝ x ⊗ con (pos 1) ⊖ (con (negsuc 0) ⊗ x ⊕ con (pos 0) ⊗ y) ≐ con (pos 0)) refl (floors .lx) (floors .ly)))
-            (nn-zero (equal (Z ∷ Z ∷ []) (λ x y. ⊝ y ⊗ con (pos 1) ⊖ (con (pos 0) ⊗ x ⊕ con (negsuc 0) ⊗ y) ≐ con (pos 0)) refl (floors .lx) (floors .ly)));
+            (nn-zero (equal (Z ∷ Z ∷ []) (λ x y. ⊝ x ⊗ con (pos 1) ⊖ (con (negsuc 0) ⊗ x ⊕ con (pos 0) ⊗ y) ≐ con (pos 0)) refl
+            (floors .lx) (floors .ly)))
+            (nn-zero (equal (Z ∷ Z ∷ []) (λ x y. ⊝ y ⊗ con (pos 1) ⊖ (con (pos 0) ⊗ x ⊕ con (negsuc 0) ⊗ y) ≐ con (pos 0)) refl
+            (floors .lx) (floors .ly)));
       }
 
   corner-vertex : Vertex S corner
@@ -80,7 +84,9 @@ module _ (floors : Floors) where
         one-member = List·Memᴰ·head refl;
         other-member = List·Memᴰ·tail (List·Memᴰ·head refl);
         crosses = pos-nat 0;
-        lowest = sym (ap reduce (point-path {v = meet (floorX floors) (floorY floors)} {w = corner} meet-x meet-y refl) ∙ reduce-whole (floors .lx) (floors .ly));
+        lowest =
+            sym (ap reduce (point-path {v = meet (floorX floors) (floorY floors)} {w = corner} meet-x meet-y refl)
+            ∙ reduce-whole (floors .lx) (floors .ly));
       }
     where
       meet-x : (meet (floorX floors) (floorY floors)) .x ≡ floors .lx
@@ -96,11 +102,13 @@ module _ (floors : Floors) where
 
     out-x : pos 0 ≤ᶻ out .dx
     out-x =
-        nn-by (P ∷ Z ∷ []) (λ w x. w .x ⊖ x ⊗ w .d ≐ ⊝ x ⊗ w .d ⊖ (con (negsuc 0) ⊗ w .x ⊕ con (pos 0) ⊗ w .y)) refl w (floors .lx) (h .kept (floorX floors) (List·Memᴰ·head refl))
+        nn-by (P ∷ Z ∷ []) (λ w x. w .x ⊖ x ⊗ w .d ≐ ⊝ x ⊗ w .d ⊖ (con (negsuc 0) ⊗ w .x ⊕ con (pos 0) ⊗ w .y)) refl w (floors .lx)
+        (h .kept (floorX floors) (List·Memᴰ·head refl))
 
     out-y : pos 0 ≤ᶻ out .dy
     out-y =
-        nn-by (P ∷ Z ∷ []) (λ w y. w .y ⊖ y ⊗ w .d ≐ ⊝ y ⊗ w .d ⊖ (con (pos 0) ⊗ w .x ⊕ con (negsuc 0) ⊗ w .y)) refl w (floors .ly) (h .kept (floorY floors) (List·Memᴰ·tail (List·Memᴰ·head refl)))
+        nn-by (P ∷ Z ∷ []) (λ w y. w .y ⊖ y ⊗ w .d ≐ ⊝ y ⊗ w .d ⊖ (con (pos 0) ⊗ w .x ⊕ con (negsuc 0) ⊗ w .y)) refl w (floors .ly)
+        (h .kept (floorY floors) (List·Memᴰ·tail (List·Memᴰ·head refl)))
 
     back : opposite out ≡ between w corner
     back =
@@ -125,7 +133,8 @@ module _ (floors : Floors) where
         lo-forward = record { nn-dx = leZ-yes tt; nn-dy = leZ-yes tt; size = pos-nat 0 };
         hi-forward = record { nn-dx = leZ-yes tt; nn-dy = leZ-yes tt; size = pos-nat 0 };
         after-lo = λ d r. nn-by (R ∷ []) (λ d. con (pos 1) ⊗ d .dy ⊖ con (pos 0) ⊗ d .dx ≐ d .dy) refl d (floors-quadrant floors [] d r .1);
-        before-hi = λ d r. nn-by (R ∷ []) (λ d. d .dx ⊗ con (pos 1) ⊖ d .dy ⊗ con (pos 0) ≐ d .dx) refl d (floors-quadrant floors [] d r .0);
+        before-hi =
+            λ d r. nn-by (R ∷ []) (λ d. d .dx ⊗ con (pos 1) ⊖ d .dy ⊗ con (pos 0) ≐ d .dx) refl d (floors-quadrant floors [] d r .0);
         lo-candidate = (floorY floors, List·Memᴰ·tail (List·Memᴰ·head refl), inr refl);
         hi-candidate = (floorX floors, List·Memᴰ·head refl, inl refl);
       }
@@ -136,7 +145,10 @@ module _ (floors : Floors) where
     corner-opens gain.Nowhere e = (
       record {
         feasible = corner-feasible;
-        greatest = λ w h. subst (Up (gainOrder f t)) (back w h) (gain-falls t good f (out w h) (out-x w h) (out-y w h) (gains-nowhere S f axes (floors-quadrant floors []) axes-span e (out w h) (out-recedes w h)));
+        greatest =
+            λ w h. subst (Up (gainOrder f t)) (back w h)
+            (gain-falls t good f (out w h) (out-x w h) (out-y w h)
+            (gains-nowhere S f axes (floors-quadrant floors []) axes-span e (out w h) (out-recedes w h)));
         vertex = corner-vertex;
       },
       e,
@@ -146,7 +158,13 @@ module _ (floors : Floors) where
     standing-at-first =
         record {
           quadrant = floors-quadrant floors [];
-          start = record { feasible = corner-feasible; greatest = λ w h. subst (Up (tieOrder t)) (back w h) (tie-falls t good (out w h) (out-x w h) (out-y w h)); vertex = corner-vertex };
+          start =
+              record {
+                feasible = corner-feasible;
+                greatest = λ w h. subst (Up (tieOrder t)) (back w h)
+                    (tie-falls t good (out w h) (out-x w h) (out-y w h));
+                vertex = corner-vertex;
+              };
           spans = axes-span;
           optimum = corner-opens (gaining f axes) refl;
         }

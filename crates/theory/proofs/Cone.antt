@@ -1,5 +1,6 @@
--- The rays of a system: an angular interval from lo to hi inside the quadrant, or nothing. |d| stands for dx + dy, which is positive for every ray but 0;
--- the identity f(q)·|p| − f(p)·|q| = cross(p, q)·(b − a) compares what a functional (a, b) does along two rays, also where they are the same.
+-- The rays of a system: an angular interval from lo to hi inside the quadrant, or nothing. |d| stands for dx + dy, which is positive for
+-- every ray but 0; the identity f(q)·|p| − f(p)·|q| = cross(p, q)·(b − a) compares what a functional (a, b) does along two rays, also
+-- where they are the same.
 use mathlib.Core.Path.{_≡_, refl, sym, _∙_, ap, subst}
 use mathlib.Core.List.{List, [], _∷_, List·Memᴰ}
 use mathlib.Core.Bool.{Bool, true, false, not}
@@ -9,7 +10,8 @@ use lib.IntN.{pos, negℤ, _+ℤ_, _-ℤ_, _*ℤ_, zero-*ℤ}
 use lib.Signed.{leZ, ltZ, leZ-yes, ltZ-yes, ltZ-no, clashℤ}
 use Rattle.ints.specs.Order.{_≤ᶻ_, _<ᶻ_}
 use Rattle.ints.proofs.Ring.{Poly, _⊕_, _⊖_, _⊗_, ⊝_, _≐_, con}
-use Rattle.ints.proofs.Order.{Sign, minus, nought, plus, sign, nn-add, nn-mul, nn-zero, nn-cancel, nn-neg, sub-nn, pos-nn, pos-mul, pos-add-nn, nn-add-pos, pos-cancel, neg-nn, leZ-no, le-or-lt, le-of-eq, lt-le}
+use Rattle.ints.proofs.Order.{Sign, minus, nought, plus, sign, nn-add, nn-mul, nn-zero, nn-cancel, nn-neg, sub-nn, pos-nn, pos-mul}
+use Rattle.ints.proofs.Order.{pos-add-nn, nn-add-pos, pos-cancel, neg-nn, leZ-no, le-or-lt, le-of-eq, lt-le}
 use Rattle.lp.specs.declared.Constraint.{Constraint}
 use Rattle.lp.specs.declared.Functional.{Functional}
 use Rattle.lp.specs.declared.Ray.{Ray}
@@ -62,7 +64,8 @@ sizeᵖ d = d .dx ⊕ d .dy
 
 -- ---- a functional along a ray between two
 
-module _ (f : Constraint) (lo hi d : Ray) (lo-size : pos 0 <ᶻ lo .dx +ℤ lo .dy) (hi-size : pos 0 <ᶻ hi .dx +ℤ hi .dy) (after : pos 0 ≤ᶻ cross lo d) (before : pos 0 ≤ᶻ cross d hi) where
+module _ (f : Constraint) (lo hi d : Ray) (lo-size : pos 0 <ᶻ lo .dx +ℤ lo .dy) (hi-size : pos 0 <ᶻ hi .dx +ℤ hi .dy)
+    (after : pos 0 ≤ᶻ cross lo d) (before : pos 0 ≤ᶻ cross d hi) where
   -- not above 0 along both, not above 0 between
   pub between-falls : pos 0 ≤ᶻ d .dx +ℤ d .dy → rise f lo ≤ᶻ pos 0 → rise f hi ≤ᶻ pos 0 → rise f d ≤ᶻ pos 0
   between-falls size falls-lo falls-hi = nn-neg (go (le-or-lt (f .b) (f .a)))
@@ -125,7 +128,8 @@ module _ (S S′ : List Constraint) (h : Constraint) (ext : Extends S h S′) (q
         go (minus n) = clashℤ n (w .after-lo hi (w .hi-recedes))
         go (nought e) =
             absurd
-            (clash-by (C ∷ R ∷ R ∷ []) (λ h lo hi. ⊝ riseᵖ h lo ⊗ sizeᵖ hi ⊕ crossᵖ lo hi ⊗ (h .a ⊖ h .b) ⊕ riseᵖ h hi ⊗ sizeᵖ lo) refl h lo hi
+            (clash-by (C ∷ R ∷ R ∷ []) (λ h lo hi. ⊝ riseᵖ h lo ⊗ sizeᵖ hi ⊕ crossᵖ lo hi ⊗ (h .a ⊖ h .b) ⊕ riseᵖ h hi ⊗ sizeᵖ lo) refl h
+            lo hi
             (nn-add-pos
             (nn-add (nn-mul (neg-nn p) (pos-nn (w .hi-forward .size))) (nn-zero (ap (λ z. z *ℤ (h .a -ℤ h .b)) e ∙ zero-*ℤ (h .a -ℤ h .b))))
             (pos-mul q (w .lo-forward .size))))
@@ -138,7 +142,8 @@ module _ (S S′ : List Constraint) (h : Constraint) (ext : Extends S h S′) (q
         go (minus n) = clashℤ n (w .after-lo hi (w .hi-recedes))
         go (nought e) =
             absurd
-            (clash-by (C ∷ R ∷ R ∷ []) (λ h lo hi. ⊝ riseᵖ h hi ⊗ sizeᵖ lo ⊕ crossᵖ lo hi ⊗ (h .b ⊖ h .a) ⊕ riseᵖ h lo ⊗ sizeᵖ hi) refl h lo hi
+            (clash-by (C ∷ R ∷ R ∷ []) (λ h lo hi. ⊝ riseᵖ h hi ⊗ sizeᵖ lo ⊕ crossᵖ lo hi ⊗ (h .b ⊖ h .a) ⊕ riseᵖ h lo ⊗ sizeᵖ hi) refl h
+            lo hi
             (nn-add-pos
             (nn-add (nn-mul (neg-nn q) (pos-nn (w .lo-forward .size))) (nn-zero (ap (λ z. z *ℤ (h .b -ℤ h .a)) e ∙ zero-*ℤ (h .b -ℤ h .a))))
             (pos-mul p (w .hi-forward .size))))
@@ -165,13 +170,16 @@ module _ (S S′ : List Constraint) (h : Constraint) (ext : Extends S h S′) (q
         hi′-old r i =
             nn-neg
             (nn-cancel (opens-at-hi p q)
-            (nn-by (C ∷ C ∷ R ∷ R ∷ []) (λ r h lo hi. crossᵖ lo hi ⊗ ⊝ (r .a ⊗ h .b ⊕ r .b ⊗ ⊝ h .a) ≐ riseᵖ h hi ⊗ ⊝ riseᵖ r lo ⊕ ⊝ riseᵖ h lo ⊗ ⊝ riseᵖ r hi) refl r h lo hi
+            (nn-by (C ∷ C ∷ R ∷ R ∷ [])
+            (λ r h lo hi. crossᵖ lo hi ⊗ ⊝ (r .a ⊗ h .b ⊕ r .b ⊗ ⊝ h .a) ≐ riseᵖ h hi ⊗ ⊝ riseᵖ r lo ⊕ ⊝ riseᵖ h lo ⊗ ⊝ riseᵖ r hi) refl r
+            h lo hi
             (nn-add (nn-mul (pos-nn q) (neg-nn (w .lo-recedes r i))) (nn-mul (neg-nn p) (neg-nn (w .hi-recedes r i))))))
 
         hi′-size : pos 0 <ᶻ h .b +ℤ negℤ (h .a)
         hi′-size =
             pos-cancel (opens-at-hi p q)
-            (pos-by (C ∷ R ∷ R ∷ []) (λ h lo hi. crossᵖ lo hi ⊗ (h .b ⊕ ⊝ h .a) ≐ riseᵖ h hi ⊗ sizeᵖ lo ⊕ ⊝ riseᵖ h lo ⊗ sizeᵖ hi) refl h lo hi
+            (pos-by (C ∷ R ∷ R ∷ []) (λ h lo hi. crossᵖ lo hi ⊗ (h .b ⊕ ⊝ h .a) ≐ riseᵖ h hi ⊗ sizeᵖ lo ⊕ ⊝ riseᵖ h lo ⊗ sizeᵖ hi) refl h
+            lo hi
             (pos-add-nn (pos-mul q (w .lo-forward .size)) (nn-mul (neg-nn p) (pos-nn (w .hi-forward .size)))))
 
     raise-lo : pos 0 <ᶻ rise h lo → rise h hi ≤ᶻ pos 0 → Wedged S′ (ray (negℤ (h .b)) (h .a)) hi
@@ -194,13 +202,16 @@ module _ (S S′ : List Constraint) (h : Constraint) (ext : Extends S h S′) (q
         lo′-old r i =
             nn-neg
             (nn-cancel (opens-at-lo p q)
-            (nn-by (C ∷ C ∷ R ∷ R ∷ []) (λ r h lo hi. crossᵖ lo hi ⊗ ⊝ (r .a ⊗ ⊝ h .b ⊕ r .b ⊗ h .a) ≐ riseᵖ h lo ⊗ ⊝ riseᵖ r hi ⊕ ⊝ riseᵖ h hi ⊗ ⊝ riseᵖ r lo) refl r h lo hi
+            (nn-by (C ∷ C ∷ R ∷ R ∷ [])
+            (λ r h lo hi. crossᵖ lo hi ⊗ ⊝ (r .a ⊗ ⊝ h .b ⊕ r .b ⊗ h .a) ≐ riseᵖ h lo ⊗ ⊝ riseᵖ r hi ⊕ ⊝ riseᵖ h hi ⊗ ⊝ riseᵖ r lo) refl r
+            h lo hi
             (nn-add (nn-mul (pos-nn p) (neg-nn (w .hi-recedes r i))) (nn-mul (neg-nn q) (neg-nn (w .lo-recedes r i))))))
 
         lo′-size : pos 0 <ᶻ negℤ (h .b) +ℤ h .a
         lo′-size =
             pos-cancel (opens-at-lo p q)
-            (pos-by (C ∷ R ∷ R ∷ []) (λ h lo hi. crossᵖ lo hi ⊗ (⊝ h .b ⊕ h .a) ≐ riseᵖ h lo ⊗ sizeᵖ hi ⊕ ⊝ riseᵖ h hi ⊗ sizeᵖ lo) refl h lo hi
+            (pos-by (C ∷ R ∷ R ∷ []) (λ h lo hi. crossᵖ lo hi ⊗ (⊝ h .b ⊕ h .a) ≐ riseᵖ h lo ⊗ sizeᵖ hi ⊕ ⊝ riseᵖ h hi ⊗ sizeᵖ lo) refl h
+            lo hi
             (pos-add-nn (pos-mul p (w .hi-forward .size)) (nn-mul (neg-nn q) (pos-nn (w .lo-forward .size)))))
 
     closed : pos 0 <ᶻ rise h lo → pos 0 <ᶻ rise h hi → (d : Ray) → Recedes S′ d → Null d
@@ -218,9 +229,16 @@ module _ (S S′ : List Constraint) (h : Constraint) (ext : Extends S h S′) (q
         go : (d .dx +ℤ d .dy ≤ᶻ pos 0) ⊎ (pos 0 <ᶻ d .dx +ℤ d .dy) → Null d
         go (inl z) = null-of-size d nn-dx nn-dy z
         go (inr s) =
-            clashℤ (between-rises h lo hi d (w .lo-forward .size) (w .hi-forward .size) (w .after-lo d old) (w .before-hi d old) s p q) (f h (ext .new))
+            clashℤ (between-rises h lo hi d (w .lo-forward .size) (w .hi-forward .size) (w .after-lo d old) (w .before-hi d old) s p q)
+            (f h (ext .new))
 
-    narrowed-spans : (x y : Bool) → (T x → rise h lo ≤ᶻ pos 0) → (T (not x) → pos 0 <ᶻ rise h lo) → (T y → rise h hi ≤ᶻ pos 0) → (T (not y) → pos 0 <ᶻ rise h hi) → Spans S′ (narrowed h lo hi x y)
+    narrowed-spans :
+        (x y : Bool) →
+        (T x → rise h lo ≤ᶻ pos 0) →
+        (T (not x) → pos 0 <ᶻ rise h lo) →
+        (T y → rise h hi ≤ᶻ pos 0) →
+        (T (not y) → pos 0 <ᶻ rise h hi) →
+        Spans S′ (narrowed h lo hi x y)
     narrowed-spans true true a b c d = same-wedge (a tt) (c tt)
     narrowed-spans true false a b c d = lower-hi (a tt) (d tt)
     narrowed-spans false true a b c d = raise-lo (b tt) (c tt)
@@ -229,7 +247,8 @@ module _ (S S′ : List Constraint) (h : Constraint) (ext : Extends S h S′) (q
   pub narrow-spans : (cone : Cone) → Spans S cone → Spans S′ (narrow h cone)
   narrow-spans Empty s = λ d f. s d (recedes-old d f)
   narrow-spans (Wedge lo hi) w =
-      narrowed-spans lo hi w (leZ (rise h lo) (pos 0)) (leZ (rise h hi) (pos 0)) (λ t. leZ-yes t) (λ t. leZ-no t) (λ t. leZ-yes t) (λ t. leZ-no t)
+      narrowed-spans lo hi w (leZ (rise h lo) (pos 0)) (leZ (rise h hi) (pos 0)) (λ t. leZ-yes t) (λ t. leZ-no t) (λ t. leZ-yes t)
+      (λ t. leZ-no t)
 
 -- ---- gains
 
@@ -258,7 +277,14 @@ module _ (S : List Constraint) (f : Functional) (quadrant : Quadrant S) where
 
     lo-gains : pos 0 <ᶻ along f lo → Flattest S f lo
     lo-gains p =
-        record { recedes = w .lo-recedes; forward = w .lo-forward; gains = p; candidate = w .lo-candidate; flattest = λ e r c g. w .after-lo e r }
+        record {
+          recedes = w .lo-recedes;
+          forward = w .lo-forward;
+          gains = p;
+          candidate = w .lo-candidate;
+          flattest = λ e r c g.
+              w .after-lo e r;
+        }
 
     hi-gains : along f lo ≤ᶻ pos 0 → pos 0 <ᶻ along f hi → Flattest S f hi
     hi-gains p q =
@@ -276,7 +302,13 @@ module _ (S : List Constraint) (f : Functional) (quadrant : Quadrant S) where
             (nn-by (C ∷ R ∷ []) (λ k lo. ⊝ k .b ⊗ lo .dy ⊖ k .a ⊗ lo .dx ≐ ⊝ riseᵖ k lo) refl k lo (neg-nn (w .lo-recedes k i))))
             (nn-add (quadrant e r .0) (quadrant e r .1)) p p)
 
-    wedge-gains : (x y : Bool) → (T x → pos 0 <ᶻ along f lo) → (T (not x) → along f lo ≤ᶻ pos 0) → (T y → pos 0 <ᶻ along f hi) → (T (not y) → along f hi ≤ᶻ pos 0) → Gains S f (elim x [ true ↦ gain.Along lo | false ↦ elim y [ true ↦ gain.Along hi | false ↦ gain.Nowhere ] ])
+    wedge-gains :
+        (x y : Bool) →
+        (T x → pos 0 <ᶻ along f lo) →
+        (T (not x) → along f lo ≤ᶻ pos 0) →
+        (T y → pos 0 <ᶻ along f hi) →
+        (T (not y) → along f hi ≤ᶻ pos 0) →
+        Gains S f (elim x [ true ↦ gain.Along lo | false ↦ elim y [ true ↦ gain.Along hi | false ↦ gain.Nowhere ] ])
     wedge-gains true y a b c d = lo-gains (a tt)
     wedge-gains false true a b c d = hi-gains (b tt) (c tt)
     wedge-gains false false a b c d = none-gains (b tt) (d tt)
@@ -284,4 +316,5 @@ module _ (S : List Constraint) (f : Functional) (quadrant : Quadrant S) where
   pub gaining-gains : (cone : Cone) → Spans S cone → Gains S f (gaining f cone)
   gaining-gains Empty s = λ d r. le-of-eq (along-null f d (s d r))
   gaining-gains (Wedge lo hi) w =
-      wedge-gains lo hi w (ltZ (pos 0) (along f lo)) (ltZ (pos 0) (along f hi)) (λ t. ltZ-yes t) (λ t. ltZ-no t) (λ t. ltZ-yes t) (λ t. ltZ-no t)
+      wedge-gains lo hi w (ltZ (pos 0) (along f lo)) (ltZ (pos 0) (along f hi)) (λ t. ltZ-yes t) (λ t. ltZ-no t) (λ t. ltZ-yes t)
+      (λ t. ltZ-no t)

@@ -1,5 +1,5 @@
--- The certificates that the model makes are valid: their weights cancel, name distinct entries, and are within document 01's bound for lawful
--- coefficients.
+-- The certificates that the model makes are valid: their weights cancel, name distinct entries, and are within document 01's bound for
+-- lawful coefficients.
 use mathlib.Core.Path.{_≡_, refl, sym, _∙_, ap, subst}
 use mathlib.Core.List.{List, [], _∷_, _++_, List·Memᴰ, List·Memᴰ·not-nil, List·Memᴰ·eq-of-singleton, List·Memᴰ·append-cases, append-nil}
 use mathlib.Core.Bool.{Bool, true, false, not, _&&_}
@@ -38,16 +38,27 @@ none = constraint (pos 0) (pos 0) (pos 0)
 
 -- ---- sums over the entries that are named
 
-total-weighted : (part : Constraint → ℤ) (S : List Constraint) (e : ℕ) (w : ℤ) (l : List Weighted) → total part S (weighted e w ++ l) ≡ w *ℤ part (getD S e none) +ℤ total part S l
+total-weighted :
+    (part : Constraint → ℤ) (S : List Constraint) (e : ℕ) (w : ℤ) (l : List Weighted) →
+    total part S (weighted e w ++ l) ≡ w *ℤ part (getD S e none) +ℤ total part S l
 total-weighted part S e (pos zero) l =
     sym (ap (λ z. z +ℤ total part S l) (zero-*ℤ (part (getD S e none))) ∙ +ℤ-idl (total part S l))
 total-weighted part S e (pos (suc n)) l = refl
 total-weighted part S e (negsuc n) l = refl
 
-total-last : (part : Constraint → ℤ) (S : List Constraint) (e : ℕ) (w : ℤ) → total part S (weighted e w) ≡ w *ℤ part (getD S e none) +ℤ pos 0
+total-last :
+    (part : Constraint → ℤ) (S : List Constraint) (e : ℕ) (w : ℤ) →
+    total part S (weighted e w) ≡ w *ℤ part (getD S e none) +ℤ pos 0
 total-last part S e w = ap (total part S) (sym (append-nil (weighted e w))) ∙ total-weighted part S e w []
 
-weighted-sound : (S : List Constraint) (e : ℕ) → e < length S → {w : ℤ} → pos 0 ≤ᶻ w → (u : Weighted) → List·Memᴰ u (weighted e w) → Sound S u
+weighted-sound :
+    (S : List Constraint) (e : ℕ) →
+    e < length S →
+    {w : ℤ} →
+    pos 0 ≤ᶻ w →
+    (u : Weighted) →
+    List·Memᴰ u (weighted e w) →
+    Sound S u
 weighted-sound S e h k = nn-elim (λ w. (u : Weighted) → List·Memᴰ u (weighted e w) → Sound S u) go k
   where
     go : (n : ℕ) (u : Weighted) → List·Memᴰ u (weighted e (pos n)) → Sound S u
@@ -71,10 +82,18 @@ module _ (S : List Constraint) (l : List Weighted) where
   InRange w = leZ (pos 1) (w .weight) && leZ (w .weight) greatestWeight
 
   -- the test of `lp`, from its parts
-  certifies-of : Refutes S l → T (ltb 0 (length l)) → T (leb (length l) 3) → T (distinct l) → ((w : Weighted) → List·Memᴰ w l → T (InRange w)) → T (certifies S l)
+  certifies-of :
+      Refutes S l →
+      T (ltb 0 (length l)) →
+      T (leb (length l) 3) →
+      T (distinct l) →
+      ((w : Weighted) → List·Memᴰ w l → T (InRange w)) →
+      T (certifies S l)
   certifies-of r some few apart sizes =
-      and-eight (ltb 0 (length l)) (leb (length l) 3) (distinct l) (every (λ w. ltb (w .entry) (length S)) l) (every InRange l) (isZero (total (λ r. r .a) S l)) (isZero (total (λ r. r .b) S l)) (ltZ (total (λ r. r .c) S l) (pos 0))
-      some few apart (every-of (λ w. ltb (w .entry) (length S)) l (λ w i. lt→ltb (w .entry) (length S) (r .sound w i .entered))) (every-of InRange l sizes) (zero-test (r .cancels-a)) (zero-test (r .cancels-b)) (r .falls .lt)
+      and-eight (ltb 0 (length l)) (leb (length l) 3) (distinct l) (every (λ w. ltb (w .entry) (length S)) l) (every InRange l)
+      (isZero (total (λ r. r .a) S l)) (isZero (total (λ r. r .b) S l)) (ltZ (total (λ r. r .c) S l) (pos 0))
+      some few apart (every-of (λ w. ltb (w .entry) (length S)) l (λ w i. lt→ltb (w .entry) (length S) (r .sound w i .entered)))
+      (every-of InRange l sizes) (zero-test (r .cancels-a)) (zero-test (r .cancels-b)) (r .falls .lt)
     where
       zero-test : {z : ℤ} → z ≡ pos 0 → T (isZero z)
       zero-test e = subst (λ z. T (isZero z)) (sym e) tt
@@ -88,7 +107,10 @@ module _ (S : List Constraint) (i j k : ℕ) (u v w : ℤ) (hu : pos 0 <ᶻ u) (
   l = weighted i u ++ (weighted j v ++ weighted k w)
 
   -- any fact about the list, at the three shapes that it has
-  shapes : (Q : List Weighted → Type 0) → ((a b c : ℕ) → Q (weighted i (pos (suc a)) ++ (weighted j (pos b) ++ weighted k (pos (suc c))))) → Q l
+  shapes :
+      (Q : List Weighted → Type 0) →
+      ((a b c : ℕ) → Q (weighted i (pos (suc a)) ++ (weighted j (pos b) ++ weighted k (pos (suc c))))) →
+      Q l
   shapes Q f =
       pos-elim (λ u. Q (weighted i u ++ (weighted j v ++ weighted k w)))
       (λ a. nn-elim (λ v. Q (weighted i (pos (suc a)) ++ (weighted j v ++ weighted k w)))
@@ -114,31 +136,61 @@ module _ (S : List Constraint) (i j k : ℕ) (u v w : ℤ) (hu : pos 0 <ᶻ u) (
       go : (a b c : ℕ) → T (distinct (weighted i (pos (suc a)) ++ (weighted j (pos b) ++ weighted k (pos (suc c)))))
       go a zero c =
           and-both (every (λ x. not (eqb i (x .entry))) (weighted k (pos (suc c)))) (distinct (weighted k (pos (suc c))))
-          (every-of (λ x. not (eqb i (x .entry))) (weighted k (pos (suc c))) (for-members (λ x. T (not (eqb i (x .entry)))) (record { entry = k; weight = pos (suc c) }) [] (apart i k ik) (λ x m. absurd (List·Memᴰ·not-nil m)))) tt
+          (every-of (λ x. not (eqb i (x .entry))) (weighted k (pos (suc c)))
+          (for-members (λ x. T (not (eqb i (x .entry)))) (record { entry = k; weight = pos (suc c) }) [] (apart i k ik)
+          (λ x m. absurd (List·Memᴰ·not-nil m)))) tt
       go a (suc b) c =
-          and-both (every (λ x. not (eqb i (x .entry))) (weighted j (pos (suc b)) ++ weighted k (pos (suc c)))) (distinct (weighted j (pos (suc b)) ++ weighted k (pos (suc c))))
+          and-both (every (λ x. not (eqb i (x .entry))) (weighted j (pos (suc b)) ++ weighted k (pos (suc c))))
+          (distinct (weighted j (pos (suc b)) ++ weighted k (pos (suc c))))
           (every-of (λ x. not (eqb i (x .entry))) (weighted j (pos (suc b)) ++ weighted k (pos (suc c)))
-          (for-members (λ x. T (not (eqb i (x .entry)))) (record { entry = j; weight = pos (suc b) }) (weighted k (pos (suc c))) (apart i j ij) (for-members (λ x. T (not (eqb i (x .entry)))) (record { entry = k; weight = pos (suc c) }) [] (apart i k ik) (λ x m. absurd (List·Memᴰ·not-nil m)))))
+          (for-members (λ x. T (not (eqb i (x .entry)))) (record { entry = j; weight = pos (suc b) }) (weighted k (pos (suc c)))
+          (apart i j ij) (for-members (λ x. T (not (eqb i (x .entry)))) (record { entry = k; weight = pos (suc c) }) [] (apart i k ik)
+          (λ x m. absurd (List·Memᴰ·not-nil m)))))
           (and-both (every (λ x. not (eqb j (x .entry))) (weighted k (pos (suc c)))) (distinct (weighted k (pos (suc c))))
-          (every-of (λ x. not (eqb j (x .entry))) (weighted k (pos (suc c))) (for-members (λ x. T (not (eqb j (x .entry)))) (record { entry = k; weight = pos (suc c) }) [] (apart j k jk) (λ x m. absurd (List·Memᴰ·not-nil m)))) tt)
+          (every-of (λ x. not (eqb j (x .entry))) (weighted k (pos (suc c)))
+          (for-members (λ x. T (not (eqb j (x .entry)))) (record { entry = k; weight = pos (suc c) }) [] (apart j k jk)
+          (λ x m. absurd (List·Memᴰ·not-nil m)))) tt)
 
   entries-sound : i < length S → j < length S → k < length S → (x : Weighted) → List·Memᴰ x l → Sound S x
   entries-sound hi hj hk x m =
-      ⊎-elim (weighted-sound S i hi (pos-nn hu) x) (λ n. ⊎-elim (weighted-sound S j hj hv x) (weighted-sound S k hk (pos-nn hw) x) (List·Memᴰ·append-cases (weighted j v) n)) (List·Memᴰ·append-cases (weighted i u) m)
+      ⊎-elim (weighted-sound S i hi (pos-nn hu) x)
+      (λ n. ⊎-elim (weighted-sound S j hj hv x) (weighted-sound S k hk (pos-nn hw) x) (List·Memᴰ·append-cases (weighted j v) n))
+      (List·Memᴰ·append-cases (weighted i u) m)
 
-  entries-total : (part : Constraint → ℤ) → total part S l ≡ u *ℤ part (getD S i none) +ℤ (v *ℤ part (getD S j none) +ℤ (w *ℤ part (getD S k none) +ℤ pos 0))
+  entries-total :
+      (part : Constraint → ℤ) →
+      total part S l ≡ u *ℤ part (getD S i none) +ℤ (v *ℤ part (getD S j none) +ℤ (w *ℤ part (getD S k none) +ℤ pos 0))
   entries-total part =
       total-weighted part S i u (weighted j v ++ weighted k w)
-      ∙ ap (λ z. u *ℤ part (getD S i none) +ℤ z) (total-weighted part S j v (weighted k w) ∙ ap (λ z. v *ℤ part (getD S j none) +ℤ z) (total-last part S k w))
+      ∙ ap (λ z. u *ℤ part (getD S i none) +ℤ z) (total-weighted part S j v (weighted k w)
+      ∙ ap (λ z. v *ℤ part (getD S j none) +ℤ z) (total-last part S k w))
 
-  entries-sizes : u ≤ᶻ greatestWeight → v ≤ᶻ greatestWeight → w ≤ᶻ greatestWeight → (x : Weighted) → List·Memᴰ x l → T (leZ (pos 1) (x .weight) && leZ (x .weight) greatestWeight)
+  entries-sizes :
+      u ≤ᶻ greatestWeight →
+      v ≤ᶻ greatestWeight →
+      w ≤ᶻ greatestWeight →
+      (x : Weighted) →
+      List·Memᴰ x l →
+      T (leZ (pos 1) (x .weight) && leZ (x .weight) greatestWeight)
   entries-sizes bu bv bw x m =
-      ⊎-elim (size i (pos-nn hu) bu) (λ n. ⊎-elim (size j hv bv) (size k (pos-nn hw) bw) (List·Memᴰ·append-cases (weighted j v) n)) (List·Memᴰ·append-cases (weighted i u) m)
+      ⊎-elim (size i (pos-nn hu) bu) (λ n. ⊎-elim (size j hv bv) (size k (pos-nn hw) bw) (List·Memᴰ·append-cases (weighted j v) n))
+      (List·Memᴰ·append-cases (weighted i u) m)
     where
-      size : (e : ℕ) {y : ℤ} → pos 0 ≤ᶻ y → y ≤ᶻ greatestWeight → List·Memᴰ x (weighted e y) → T (leZ (pos 1) (x .weight) && leZ (x .weight) greatestWeight)
-      size e h = nn-elim (λ y. y ≤ᶻ greatestWeight → List·Memᴰ x (weighted e y) → T (leZ (pos 1) (x .weight) && leZ (x .weight) greatestWeight)) go h
+      size :
+          (e : ℕ) {y : ℤ} →
+          pos 0 ≤ᶻ y →
+          y ≤ᶻ greatestWeight →
+          List·Memᴰ x (weighted e y) →
+          T (leZ (pos 1) (x .weight) && leZ (x .weight) greatestWeight)
+      size e h =
+          nn-elim (λ y. y ≤ᶻ greatestWeight → List·Memᴰ x (weighted e y) → T (leZ (pos 1) (x .weight) && leZ (x .weight) greatestWeight))
+          go h
         where
-          go : (n : ℕ) → pos n ≤ᶻ greatestWeight → List·Memᴰ x (weighted e (pos n)) → T (leZ (pos 1) (x .weight) && leZ (x .weight) greatestWeight)
+          go :
+              (n : ℕ) →
+              pos n ≤ᶻ greatestWeight →
+              List·Memᴰ x (weighted e (pos n)) →
+              T (leZ (pos 1) (x .weight) && leZ (x .weight) greatestWeight)
           go zero b n = absurd (List·Memᴰ·not-nil n)
           go (suc a) b n =
               subst (λ y. T (leZ (pos 1) (y .weight) && leZ (y .weight) greatestWeight)) (sym (List·Memᴰ·eq-of-singleton n))
@@ -160,7 +212,8 @@ facing-normal false r h = record { small-a = within-neg (h .small-a); small-b = 
 det-bound : (r s : Constraint) → SmallNormal r → SmallNormal s → det r s ≤ᶻ greatestWeight
 det-bound r s p q =
     within-le {n = 2147352578} {z = det r s}
-    (within-sub {m = 1073676289} {n = 1073676289} {a = r .a *ℤ s .b} {b = s .a *ℤ r .b} (within-mul (p .small-a) (q .small-b)) (within-mul (q .small-a) (p .small-b)))
+    (within-sub {m = 1073676289} {n = 1073676289} {a = r .a *ℤ s .b} {b = s .a *ℤ r .b} (within-mul (p .small-a) (q .small-b))
+    (within-mul (q .small-a) (p .small-b)))
 
 line-bound : (side : Bool) (k m : Constraint) → SmallNormal k → SmallNormal m → lineWeight side k m ≤ᶻ greatestWeight
 line-bound true k m p q = det-bound m k q p
@@ -175,7 +228,10 @@ module _ (S : List Constraint) (h : Constraint) where
   new-entry : At S′ (length S) h
   new-entry = at-new S h
 
-  module _ (side : Bool) (j : ℕ) (k : Constraint) (i : ℕ) (m : Constraint) (at-k : At S j k) (at-m : At S i m) (v : Point) (proper : pos 0 <ᶻ v .d) (breaks : slack h v <ᶻ pos 0) (keeps-k : Keeps k v) (keeps-m : Keeps m v) (crosses : pos 0 <ᶻ det k (facing side h)) (away : pos 0 ≤ᶻ det (facing side h) m) (broken : slack m (meet k (facing side h)) <ᶻ pos 0) where
+  module _ (side : Bool) (j : ℕ) (k : Constraint) (i : ℕ) (m : Constraint) (at-k : At S j k) (at-m : At S i m) (v : Point)
+      (proper : pos 0 <ᶻ v .d) (breaks : slack h v <ᶻ pos 0) (keeps-k : Keeps k v) (keeps-m : Keeps m v)
+      (crosses : pos 0 <ᶻ det k (facing side h)) (away : pos 0 ≤ᶻ det (facing side h) m)
+      (broken : slack m (meet k (facing side h)) <ᶻ pos 0) where
     abbrev weight : ℤ
     weight = lineWeight side k m
 
@@ -185,22 +241,30 @@ module _ (S : List Constraint) (h : Constraint) where
     entry-of : (e : ℕ) (r : Constraint) → At S e r → getD S′ e none ≡ r
     entry-of e r a = at-getD S′ e r none (at-append S (h ∷ []) e r a)
 
-    sum-of : (part : Constraint → ℤ) → total part S′ (named (conflict side (length S) h j k i m)) ≡ weight *ℤ part h +ℤ (det (facing side h) m *ℤ part k +ℤ (det k (facing side h) *ℤ part m +ℤ pos 0))
+    sum-of :
+        (part : Constraint → ℤ) →
+        total part S′ (named (conflict side (length S) h j k i m))
+        ≡ weight *ℤ part h +ℤ (det (facing side h) m *ℤ part k +ℤ (det k (facing side h) *ℤ part m +ℤ pos 0))
     sum-of part =
         entries-total S′ (length S) j i weight (det (facing side h) m) (det k (facing side h)) weight-positive away crosses part
-        ∙ (λ t. weight *ℤ part (at-getD S′ (length S) h none new-entry t) +ℤ (det (facing side h) m *ℤ part (entry-of j k at-k t) +ℤ (det k (facing side h) *ℤ part (entry-of i m at-m t) +ℤ pos 0)))
+        ∙ (λ t. weight *ℤ part (at-getD S′ (length S) h none new-entry t)
+        +ℤ (det (facing side h) m *ℤ part (entry-of j k at-k t) +ℤ (det k (facing side h) *ℤ part (entry-of i m at-m t) +ℤ pos 0)))
 
     below-new : (e : ℕ) (r : Constraint) → At S e r → length S ≡ e → ⊥
     below-new e r a q = omega (arith, at-below S e r a)
 
     different : j ≡ i → ⊥
     different q =
-        clashℤ broken (nn-zero (subst (λ r. slack r (meet k (facing side h)) ≡ pos 0) (at-unique S i k m (subst (λ e. At S e k) q at-k) at-m) (meet-on-first k (facing side h))))
+        clashℤ broken (nn-zero (subst (λ r. slack r (meet k (facing side h)) ≡ pos 0)
+        (at-unique S i k m (subst (λ e. At S e k) q at-k) at-m) (meet-on-first k (facing side h))))
 
     refuted : Refutes S′ (named (conflict side (length S) h j k i m))
     refuted =
         record {
-          sound = entries-sound S′ (length S) j i weight (det (facing side h) m) (det k (facing side h)) weight-positive away crosses (at-below S′ (length S) h new-entry) (at-below S′ j k (at-append S (h ∷ []) j k at-k)) (at-below S′ i m (at-append S (h ∷ []) i m at-m));
+          sound =
+              entries-sound S′ (length S) j i weight (det (facing side h) m) (det k (facing side h)) weight-positive away crosses
+              (at-below S′ (length S) h new-entry) (at-below S′ j k (at-append S (h ∷ []) j k at-k))
+              (at-below S′ i m (at-append S (h ∷ []) i m at-m));
           cancels-a = sum-of (λ r. r .a) ∙ weights-cancel-a side h k m;
           cancels-b = sum-of (λ r. r .b) ∙ weights-cancel-b side h k m;
           falls = subst (λ z. z <ᶻ pos 0) (sym (sum-of (λ r. r .c) ∙ weights-sum-c side h k m)) broken;
@@ -214,8 +278,10 @@ module _ (S : List Constraint) (h : Constraint) where
             certifies-of S′ (named (conflict side (length S) h j k i m)) refuted
             (some-entries S′ (length S) j i weight (det l m) (det k l) weight-positive away crosses)
             (few-entries S′ (length S) j i weight (det l m) (det k l) weight-positive away crosses)
-            (entries-differ S′ (length S) j i weight (det l m) (det k l) weight-positive away crosses (below-new j k at-k) (below-new i m at-m) different)
-            (entries-sizes S′ (length S) j i weight (det l m) (det k l) weight-positive away crosses (line-bound side k m nk nm) (det-bound l m nl nm) (det-bound k l nk nl))
+            (entries-differ S′ (length S) j i weight (det l m) (det k l) weight-positive away crosses (below-new j k at-k)
+            (below-new i m at-m) different)
+            (entries-sizes S′ (length S) j i weight (det l m) (det k l) weight-positive away crosses (line-bound side k m nk nm)
+            (det-bound l m nl nm) (det-bound k l nk nl))
           where
             l : Constraint
             l = facing side h
@@ -236,7 +302,8 @@ module _ (S : List Constraint) (h : Constraint) where
   module _ (no-a : h .a ≡ pos 0) (no-b : h .b ≡ pos 0) (negative : h .c <ᶻ pos 0) where
     alone-sum : (part : Constraint → ℤ) → total part S′ (named (alone (length S))) ≡ part h
     alone-sum part =
-        +ℤ-idr (pos 1 *ℤ part (getD S′ (length S) none)) ∙ one-mul (part (getD S′ (length S) none)) ∙ ap part (at-getD S′ (length S) h none new-entry)
+        +ℤ-idr (pos 1 *ℤ part (getD S′ (length S) none)) ∙ one-mul (part (getD S′ (length S) none))
+        ∙ ap part (at-getD S′ (length S) h none new-entry)
 
     alone-refuted : Refutes S′ (named (alone (length S)))
     alone-refuted =
@@ -251,5 +318,8 @@ module _ (S : List Constraint) (h : Constraint) where
     alone-certified =
         record {
           refutes = alone-refuted;
-          valid = λ lawful. certifies-of S′ (named (alone (length S))) alone-refuted tt tt tt (for-members (λ w. T (leZ (pos 1) (w .weight) && leZ (w .weight) greatestWeight)) (record { entry = length S; weight = pos 1 }) [] tt (λ w i. absurd (List·Memᴰ·not-nil i)));
+          valid =
+              λ lawful. certifies-of S′ (named (alone (length S))) alone-refuted tt tt tt
+              (for-members (λ w. T (leZ (pos 1) (w .weight) && leZ (w .weight) greatestWeight))
+              (record { entry = length S; weight = pos 1 }) [] tt (λ w i. absurd (List·Memᴰ·not-nil i)));
         }

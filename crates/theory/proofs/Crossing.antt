@@ -1,5 +1,5 @@
--- Convexity and the crossing point: v breaks h and w keeps it, so the segment between them crosses the line of h. The crossing point keeps whatever
--- both keep, and is not below w if w is not above v. v may be a ray (denominator 0).
+-- Convexity and the crossing point: v breaks h and w keeps it, so the segment between them crosses the line of h. The crossing point
+-- keeps whatever both keep, and is not below w if w is not above v. v may be a ray (denominator 0).
 use mathlib.Core.Path.{_≡_, refl, subst}
 use mathlib.Core.List.{[], _∷_}
 use lib.IntN.{pos, negℤ, _+ℤ_, _*ℤ_}
@@ -22,7 +22,12 @@ crossing h v w =
 
 abbrev crossingᵖ : Constraintᵖ → Pointᵖ → Pointᵖ → Pointᵖ
 crossingᵖ h v w =
-    record { x = slackᵖ h w ⊗ v .x ⊕ ⊝ slackᵖ h v ⊗ w .x; y = slackᵖ h w ⊗ v .y ⊕ ⊝ slackᵖ h v ⊗ w .y; d = slackᵖ h w ⊗ v .d ⊕ ⊝ slackᵖ h v ⊗ w .d }
+    record {
+      x = slackᵖ h w ⊗ v .x ⊕ ⊝ slackᵖ h v ⊗ w .x;
+      y = slackᵖ h w ⊗ v .y ⊕ ⊝ slackᵖ h v ⊗ w .y;
+      d = slackᵖ h w ⊗ v .d
+          ⊕ ⊝ slackᵖ h v ⊗ w .d;
+    }
 
 module _ (h : Constraint) (v w : Point) (broken : slack h v <ᶻ pos 0) (kept : Keeps h w) where
   pub crossing-proper : pos 0 ≤ᶻ v .d → pos 0 <ᶻ w .d → pos 0 <ᶻ (crossing h v w) .d

@@ -1,6 +1,6 @@
--- An order of points as a set of upward directions. `Up d` says that going along d is no loss; a point is at most another if the direction between
--- them is up. What follows needs only that `Up` is closed under sums and factors and that nothing but 0 is up both ways: the lexicographic
--- orders of functionals (Lexicographic.antt) are one instance.
+-- An order of points as a set of upward directions. `Up d` says that going along d is no loss; a point is at most another if the
+-- direction between them is up. What follows needs only that `Up` is closed under sums and factors and that nothing but 0 is up both
+-- ways: the lexicographic orders of functionals (Lexicographic.antt) are one instance.
 use mathlib.Core.Path.{_≡_, refl, _∙_, ap₂, subst}
 use mathlib.Core.List.{List, [], _∷_}
 use lib.IntN.{ℤ, pos, negℤ, _+ℤ_, _*ℤ_}
@@ -43,7 +43,8 @@ null-of-size d hx hy z =
 -- nothing is gained along 0
 pub along-null : (f : Functional) (d : Ray) → Null d → along f d ≡ pos 0
 along-null f d n =
-    ap₂ (λ x y. f .p *ℤ x +ℤ f .q *ℤ y) (n .no-dx) (n .no-dy) ∙ equal (F ∷ []) (λ f. f .p ⊗ con (pos 0) ⊕ f .q ⊗ con (pos 0) ≐ con (pos 0)) refl f
+    ap₂ (λ x y. f .p *ℤ x +ℤ f .q *ℤ y) (n .no-dx) (n .no-dy)
+    ∙ equal (F ∷ []) (λ f. f .p ⊗ con (pos 0) ⊕ f .q ⊗ con (pos 0) ≐ con (pos 0)) refl f
 
 -- ---- the order
 
@@ -62,11 +63,19 @@ abbrev pub Greatest : (Ray → Type 0) → List Constraint → Point → Type 0
 Greatest Up S v = (w : Point) → Feasible S w → AtMost Up w v
 
 module _ (Up : Ray → Type 0) (O : Upward Up) where
-  pub at-most-trans : (v w z : Point) → pos 0 ≤ᶻ v .d → pos 0 <ᶻ w .d → pos 0 ≤ᶻ z .d → AtMost Up v w → AtMost Up w z → AtMost Up v z
+  pub at-most-trans :
+      (v w z : Point) →
+      pos 0 ≤ᶻ v .d →
+      pos 0 <ᶻ w .d →
+      pos 0 ≤ᶻ z .d →
+      AtMost Up v w →
+      AtMost Up w z →
+      AtMost Up v z
   at-most-trans v w z hv hw hz p q =
       O .cancel (w .d) (between v z) hw
       (subst Up (ray-path through-x through-y)
-      (O .add (times (z .d) (between v w)) (times (v .d) (between w z)) (O .scale (z .d) (between v w) hz p) (O .scale (v .d) (between w z) hv q)))
+      (O .add (times (z .d) (between v w)) (times (v .d) (between w z)) (O .scale (z .d) (between v w) hz p)
+      (O .scale (v .d) (between w z) hv q)))
     where
       through-x : z .d *ℤ (between v w) .dx +ℤ v .d *ℤ (between w z) .dx ≡ w .d *ℤ (between v z) .dx
       through-x =
@@ -87,5 +96,9 @@ module _ (Up : Ray → Type 0) (O : Upward Up) where
       swap-y = equal (P ∷ P ∷ []) (λ v w. (betweenᵖ w v) .dy ≐ ⊝ (betweenᵖ v w) .dy) refl v w
 
   -- what is greatest stays so in a system with more constraints
-  pub greatest-shrinks : (S S′ : List Constraint) (v : Point) → ((w : Point) → Feasible S′ w → Feasible S w) → Greatest Up S v → Greatest Up S′ v
+  pub greatest-shrinks :
+      (S S′ : List Constraint) (v : Point) →
+      ((w : Point) → Feasible S′ w → Feasible S w) →
+      Greatest Up S v →
+      Greatest Up S′ v
   greatest-shrinks S S′ v less g w h = g w (less w h)

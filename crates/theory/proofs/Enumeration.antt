@@ -1,4 +1,5 @@
--- The enumeration of `lp` finds what is characterised: the peak of a system among its allowed vertices, and the flattest ray among its lawful candidates.
+-- The enumeration of `lp` finds what is characterised: the peak of a system among its allowed vertices, and the flattest ray among its
+-- lawful candidates.
 use mathlib.Core.Path.{_≡_, refl, sym, _∙_, ap, subst}
 use mathlib.Core.List.{List, [], _∷_, List·Memᴰ, List·Memᴰ·head, List·Memᴰ·tail, List·Memᴰ·cases-cons, List·Memᴰ·not-nil}
 use mathlib.Core.Bool.{not}
@@ -18,7 +19,8 @@ use Rattle.lp.specs.Textbook.{Infeasible}
 use Rattle.lp.specs.Outcome.{keep, every, pick, vertices, keeps, allowed, better, candidates, lawful, cross, flatter, reduceRay}
 use Rattle.model.specs.Scan.{direction}
 use Rattle.theory.proofs.Solver.{equal, nn-by, P, R, crossᵖ, betweenᵖ}
-use Rattle.theory.proofs.Lists.{and-left, and-right, and-both, every-at, every-of, keep-member, keep-test, member-keep, Picked, picked}
+use Rattle.theory.proofs.Lists.{and-left, and-right, and-both, every-at, every-of, keep-member, keep-test, member-keep, Picked}
+use Rattle.theory.proofs.Lists.{picked}
 use Rattle.theory.proofs.Direction.{null-of-size, along-null, Upward, AtMost, ray-path, at-most-trans, at-most-both}
 use Rattle.theory.proofs.Lexicographic.{Up, above-up, not-above-up, up-null}
 use Rattle.theory.proofs.Cone.{Recedes, Quadrant, Forward, Candidate, Flattest}
@@ -47,7 +49,8 @@ module _ (S : List Constraint) where
   feasible-of v i = allowed-feasible v (vertex-proper S v (vertex-of v i)) (keep-test (allowed S) (vertices S) v i)
 
   pub feasible-listed : (v : Point) → Vertex S v → Feasible S v → List·Memᴰ v allowedVertices
-  feasible-listed v x f = member-keep (allowed S) (vertices S) v (vertex-listed S v x) (every-of (λ r. keeps r v) S (λ r i. f .kept r i .le))
+  feasible-listed v x f =
+      member-keep (allowed S) (vertices S) v (vertex-listed S v x) (every-of (λ r. keeps r v) S (λ r i. f .kept r i .le))
 
   pub none-allowed : Infeasible S → allowedVertices ≡ []
   none-allowed no-point = no-members allowedVertices (λ v i. no-point v (feasible-of v i))
@@ -64,19 +67,31 @@ module _ (S : List Constraint) where
 
     not-better-at-most : (v w : Point) → T (not (better fs w v)) → AtMost (Up fs) w v
     not-better-at-most v w t =
-        subst (Up fs) (ray-path (equal (P ∷ P ∷ []) (λ v w. ⊝ (betweenᵖ v w) .dx ≐ (betweenᵖ w v) .dx) refl v w) (equal (P ∷ P ∷ []) (λ v w. ⊝ (betweenᵖ v w) .dy ≐ (betweenᵖ w v) .dy) refl v w)) (not-above-up fs (between v w) t)
+        subst (Up fs) (ray-path (equal (P ∷ P ∷ []) (λ v w. ⊝ (betweenᵖ v w) .dx ≐ (betweenᵖ w v) .dx) refl v w)
+        (equal (P ∷ P ∷ []) (λ v w. ⊝ (betweenᵖ v w) .dy ≐ (betweenᵖ w v) .dy) refl v w)) (not-above-up fs (between v w) t)
 
-    pub peak-picked : (p : Point) → Peak (Up fs) S p → (v : Point) (vs : List Point) → allowedVertices ≡ v ∷ vs → pick (better fs) v vs ≡ p
+    pub peak-picked :
+        (p : Point) →
+        Peak (Up fs) S p →
+        (v : Point) (vs : List Point) →
+        allowedVertices ≡ v ∷ vs →
+        pick (better fs) v vs ≡ p
     peak-picked p peak v vs e =
-        lowest-unique q p (vertex-proper S q q-vertex) (vertex-proper S p (peak .vertex)) (vertex-lowest S q q-vertex) (vertex-lowest S p (peak .vertex))
+        lowest-unique q p (vertex-proper S q q-vertex) (vertex-proper S p (peak .vertex)) (vertex-lowest S q q-vertex)
+        (vertex-lowest S p (peak .vertex))
         (at-most-both (Up fs) O q p (peak .greatest q (feasible-of q q-listed)) (choice .first p p-listed))
       where
         q : Point
         q = pick (better fs) v vs
 
-        choice : Picked (better fs) (λ x. pos 0 <ᶻ x .d) (AtMost (Up fs)) (λ x h. at-most-self x) (λ x y z hx hy hz. at-most-trans (Up fs) O x y z (pos-nn hx) hy (pos-nn hz)) (λ x y hx hy t. above-up fs (between x y) t) (λ x y hx hy t. not-better-at-most x y t) v vs q
+        choice :
+            Picked (better fs) (λ x. pos 0 <ᶻ x .d) (AtMost (Up fs)) (λ x h. at-most-self x)
+            (λ x y z hx hy hz. at-most-trans (Up fs) O x y z (pos-nn hx) hy (pos-nn hz)) (λ x y hx hy t. above-up fs (between x y) t)
+            (λ x y hx hy t. not-better-at-most x y t) v vs q
         choice =
-            picked (better fs) (λ x. pos 0 <ᶻ x .d) (AtMost (Up fs)) (λ x h. at-most-self x) (λ x y z hx hy hz. at-most-trans (Up fs) O x y z (pos-nn hx) hy (pos-nn hz)) (λ x y hx hy t. above-up fs (between x y) t) (λ x y hx hy t. not-better-at-most x y t) v vs
+            picked (better fs) (λ x. pos 0 <ᶻ x .d) (AtMost (Up fs)) (λ x h. at-most-self x)
+            (λ x y z hx hy hz. at-most-trans (Up fs) O x y z (pos-nn hx) hy (pos-nn hz)) (λ x y hx hy t. above-up fs (between x y) t)
+            (λ x y hx hy t. not-better-at-most x y t) v vs
             (λ x i. vertex-proper S x (vertex-of x (subst (λ l. List·Memᴰ x l) (sym e) i)))
 
         q-listed : List·Memᴰ q allowedVertices
@@ -92,16 +107,27 @@ module _ (S : List Constraint) where
 
 listed-candidate : (S : List Constraint) (d : Ray) → List·Memᴰ d (candidates S) → Candidate S d
 listed-candidate [] d i = absurd (List·Memᴰ·not-nil i)
-listed-candidate (r ∷ S) d i = ⊎-elim (λ e. (r, List·Memᴰ·head refl, inl e)) (λ j. ⊎-elim (λ e. (r, List·Memᴰ·head refl, inr e)) (λ k. later (listed-candidate S d k)) (List·Memᴰ·cases-cons j)) (List·Memᴰ·cases-cons i)
+listed-candidate (r ∷ S) d i =
+    ⊎-elim (λ e. (r, List·Memᴰ·head refl, inl e))
+    (λ j. ⊎-elim (λ e. (r, List·Memᴰ·head refl, inr e)) (λ k. later (listed-candidate S d k)) (List·Memᴰ·cases-cons j))
+    (List·Memᴰ·cases-cons i)
   where
     later : Candidate S d → Candidate (r ∷ S) d
     later (s, j, e) = (s, List·Memᴰ·tail j, e)
 
-candidate-listed : (S : List Constraint) (d : Ray) (r : Constraint) → List·Memᴰ r S → (d ≡ direction r) ⊎ (d ≡ ray (negℤ (r .b)) (r .a)) → List·Memᴰ d (candidates S)
+candidate-listed :
+    (S : List Constraint) (d : Ray) (r : Constraint) →
+    List·Memᴰ r S →
+    (d ≡ direction r) ⊎ (d ≡ ray (negℤ (r .b)) (r .a)) →
+    List·Memᴰ d (candidates S)
 candidate-listed [] d r i e = absurd (List·Memᴰ·not-nil i)
 candidate-listed (s ∷ S) d r i e = go (List·Memᴰ·cases-cons i) e (λ j. candidate-listed S d r j e)
   where
-    go : (r ≡ s) ⊎ List·Memᴰ r S → (d ≡ direction r) ⊎ (d ≡ ray (negℤ (r .b)) (r .a)) → (List·Memᴰ r S → List·Memᴰ d (candidates S)) → List·Memᴰ d (candidates (s ∷ S))
+    go :
+        (r ≡ s) ⊎ List·Memᴰ r S →
+        (d ≡ direction r) ⊎ (d ≡ ray (negℤ (r .b)) (r .a)) →
+        (List·Memᴰ r S → List·Memᴰ d (candidates S)) →
+        List·Memᴰ d (candidates (s ∷ S))
     go (inl q) (inl p) f = List·Memᴰ·head (p ∙ ap direction q)
     go (inl q) (inr p) f = List·Memᴰ·tail (List·Memᴰ·head (p ∙ ap (λ z. ray (negℤ (z .b)) (z .a)) q))
     go (inr j) p f = List·Memᴰ·tail (List·Memᴰ·tail (f j))
@@ -119,15 +145,18 @@ module _ (S : List Constraint) (f : Functional) where
 
   pub lawful-of : (d : Ray) → Recedes S d → pos 0 <ᶻ along f d → T (lawful S f d)
   lawful-of d r g =
-      and-both (every (λ r. leZ (rise r d) (pos 0)) S) (ltZ (pos 0) (along f d)) (every-of (λ r. leZ (rise r d) (pos 0)) S (λ s i. r s i .le)) (g .lt)
+      and-both (every (λ r. leZ (rise r d) (pos 0)) S) (ltZ (pos 0) (along f d))
+      (every-of (λ r. leZ (rise r d) (pos 0)) S (λ s i. r s i .le)) (g .lt)
 
   pub no-lawful-rays : ((d : Ray) → Recedes S d → along f d ≤ᶻ pos 0) → lawfulRays ≡ []
   no-lawful-rays falls =
-      no-members lawfulRays (λ d i. clashℤ (lawful-gains d (keep-test (lawful S f) (candidates S) d i)) (falls d (lawful-recedes d (keep-test (lawful S f) (candidates S) d i))))
+      no-members lawfulRays (λ d i. clashℤ (lawful-gains d (keep-test (lawful S f) (candidates S) d i))
+      (falls d (lawful-recedes d (keep-test (lawful S f) (candidates S) d i))))
 
   pub flattest-listed : (d : Ray) → Flattest S f d → List·Memᴰ d lawfulRays
   flattest-listed d x =
-      member-keep (lawful S f) (candidates S) d (candidate-listed S d (x .candidate .0) (x .candidate .1) (x .candidate .2)) (lawful-of d (x .recedes) (x .gains))
+      member-keep (lawful S f) (candidates S) d (candidate-listed S d (x .candidate .0) (x .candidate .1) (x .candidate .2))
+      (lawful-of d (x .recedes) (x .gains))
 
   module _ (quadrant : Quadrant S) where
     -- a ray that gains is not 0
@@ -148,27 +177,39 @@ module _ (S : List Constraint) (f : Functional) where
     steeper-trans : (x y z : Ray) → Forward x → Forward y → Forward z → Steeper x y → Steeper y z → Steeper x z
     steeper-trans x y z hx hy hz p q =
         nn-cancel (hy .size)
-        (nn-by (R ∷ R ∷ R ∷ []) (λ x y z. (y .dx ⊕ y .dy) ⊗ crossᵖ z x ≐ crossᵖ z y ⊗ (x .dx ⊕ x .dy) ⊕ crossᵖ y x ⊗ (z .dx ⊕ z .dy)) refl x y z
+        (nn-by (R ∷ R ∷ R ∷ []) (λ x y z. (y .dx ⊕ y .dy) ⊗ crossᵖ z x ≐ crossᵖ z y ⊗ (x .dx ⊕ x .dy) ⊕ crossᵖ y x ⊗ (z .dx ⊕ z .dy)) refl
+        x y z
         (nn-add (nn-mul q (pos-nn (hx .size))) (nn-mul p (pos-nn (hz .size)))))
 
     not-flatter : (x y : Ray) → T (not (flatter y x)) → Steeper y x
     not-flatter x y t = nn-by (R ∷ R ∷ []) (λ x y. crossᵖ x y ≐ ⊝ crossᵖ y x) refl x y (neg-nn {z = cross y x} (ltZ-no t))
 
-    pub flattest-picked : (d : Ray) → Flattest S f d → (e : Ray) (es : List Ray) → lawfulRays ≡ e ∷ es → reduceRay (pick flatter e es) ≡ reduceRay d
+    pub flattest-picked :
+        (d : Ray) →
+        Flattest S f d →
+        (e : Ray) (es : List Ray) →
+        lawfulRays ≡ e ∷ es →
+        reduceRay (pick flatter e es) ≡ reduceRay d
     flattest-picked d x e es eq =
         same-slope q d (forward q q-listed) (x .forward) (choice .first d (subst (λ l. List·Memᴰ d l) eq (flattest-listed d x)))
-        (x .flattest q (lawful-recedes q (keep-test (lawful S f) (candidates S) q q-listed)) (listed-candidate S q (keep-member (lawful S f) (candidates S) q q-listed)) (lawful-gains q (keep-test (lawful S f) (candidates S) q q-listed)))
+        (x .flattest q (lawful-recedes q (keep-test (lawful S f) (candidates S) q q-listed))
+        (listed-candidate S q (keep-member (lawful S f) (candidates S) q q-listed))
+        (lawful-gains q (keep-test (lawful S f) (candidates S) q q-listed)))
       where
         q : Ray
         q = pick flatter e es
 
         forward : (y : Ray) → List·Memᴰ y lawfulRays → Forward y
         forward y i =
-            forward-of y (lawful-recedes y (keep-test (lawful S f) (candidates S) y i)) (lawful-gains y (keep-test (lawful S f) (candidates S) y i))
+            forward-of y (lawful-recedes y (keep-test (lawful S f) (candidates S) y i))
+            (lawful-gains y (keep-test (lawful S f) (candidates S) y i))
 
-        choice : Picked flatter Forward Steeper steeper-self steeper-trans (λ x y hx hy t. pos-nn (ltZ-yes t)) (λ x y hx hy t. not-flatter x y t) e es q
+        choice :
+            Picked flatter Forward Steeper steeper-self steeper-trans (λ x y hx hy t. pos-nn (ltZ-yes t))
+            (λ x y hx hy t. not-flatter x y t) e es q
         choice =
-            picked flatter Forward Steeper steeper-self steeper-trans (λ x y hx hy t. pos-nn (ltZ-yes t)) (λ x y hx hy t. not-flatter x y t) e es
+            picked flatter Forward Steeper steeper-self steeper-trans (λ x y hx hy t. pos-nn (ltZ-yes t))
+            (λ x y hx hy t. not-flatter x y t) e es
             (λ y i. forward y (subst (λ l. List·Memᴰ y l) (sym eq) i))
 
         q-listed : List·Memᴰ q lawfulRays

@@ -1,6 +1,7 @@
 -- A system with one constraint more, by its members alone, so that it does not matter at which end it grew.
 use mathlib.Core.Path.{_≡_, refl}
-use mathlib.Core.List.{List, [], _∷_, _++_, List·Memᴰ, List·Memᴰ·head, List·Memᴰ·append-cases, List·Memᴰ·eq-of-singleton, Memᴰ·append-left, Memᴰ·append-right}
+use mathlib.Core.List.{List, [], _∷_, _++_, List·Memᴰ, List·Memᴰ·head, List·Memᴰ·append-cases, List·Memᴰ·eq-of-singleton}
+use mathlib.Core.List.{Memᴰ·append-left, Memᴰ·append-right}
 use mathlib.Core.Logic.{_⊎_, inl, inr}
 use Rattle.lp.specs.declared.Constraint.{Constraint}
 use Rattle.lp.specs.declared.Point.{Point}
@@ -25,7 +26,13 @@ extended S h =
 
 module _ (S S′ : List Constraint) (h : Constraint) (ext : Extends S h S′) where
   -- what holds of the old constraints and of the new one holds of all
-  pub for-extended {ℓ} : (Q : Constraint → Type ℓ) → ((r : Constraint) → List·Memᴰ r S → Q r) → Q h → (r : Constraint) → List·Memᴰ r S′ → Q r
+  pub for-extended {ℓ} :
+      (Q : Constraint → Type ℓ) →
+      ((r : Constraint) → List·Memᴰ r S → Q r) →
+      Q h →
+      (r : Constraint) →
+      List·Memᴰ r S′ →
+      Q r
   for-extended Q f q r i = go (ext .only r i)
     where
       go : List·Memᴰ r S ⊎ (r ≡ h) → Q r

@@ -1,5 +1,5 @@
--- Certificates. A weighted sum of constraints in which a and b cancel and c falls below 0 excludes every point, whatever its size; and where the
--- tightest point P on the line of h, the meeting with k, breaks m, three determinants are the weights of such a sum.
+-- Certificates. A weighted sum of constraints in which a and b cancel and c falls below 0 excludes every point, whatever its size; and
+-- where the tightest point P on the line of h, the meeting with k, breaks m, three determinants are the weights of such a sum.
 use mathlib.Core.Path.{_≡_, refl, _∙_, ap}
 use mathlib.Core.List.{List, [], _∷_, List·Memᴰ, List·Memᴰ·head, List·Memᴰ·tail}
 use mathlib.Core.Bool.{Bool, true, false, _&&_}
@@ -41,15 +41,21 @@ pub record Sound (S : List Constraint) (w : Weighted) : Type 0 where
 
 module _ (S : List Constraint) (v : Point) (feasible : Feasible S v) where
   -- the weighted sum of slacks is not negative
-  weighted-slack : (l : List Weighted) → ((w : Weighted) → List·Memᴰ w l → Sound S w) → pos 0 ≤ᶻ total partC S l *ℤ v .d -ℤ (total partA S l *ℤ v .x +ℤ total partB S l *ℤ v .y)
+  weighted-slack :
+      (l : List Weighted) →
+      ((w : Weighted) → List·Memᴰ w l → Sound S w) →
+      pos 0 ≤ᶻ total partC S l *ℤ v .d -ℤ (total partA S l *ℤ v .x +ℤ total partB S l *ℤ v .y)
   weighted-slack [] sound =
       nn-by (P ∷ []) (λ v. con (pos 0) ⊗ v .d ⊖ (con (pos 0) ⊗ v .x ⊕ con (pos 0) ⊗ v .y) ≐ con (pos 0)) refl v (nn-nat 0)
   weighted-slack (w ∷ l) sound =
       nn-by (C ∷ P ∷ Z ∷ Z ∷ Z ∷ Z ∷ [])
-      (λ r v u a b c. (u ⊗ r .c ⊕ c) ⊗ v .d ⊖ ((u ⊗ r .a ⊕ a) ⊗ v .x ⊕ (u ⊗ r .b ⊕ b) ⊗ v .y) ≐ u ⊗ slackᵖ r v ⊕ (c ⊗ v .d ⊖ (a ⊗ v .x ⊕ b ⊗ v .y))) refl
+      (λ r v u a b c. (u ⊗ r .c ⊕ c) ⊗ v .d ⊖ ((u ⊗ r .a ⊕ a) ⊗ v .x ⊕ (u ⊗ r .b ⊕ b) ⊗ v .y)
+      ≐ u ⊗ slackᵖ r v ⊕ (c ⊗ v .d ⊖ (a ⊗ v .x ⊕ b ⊗ v .y))) refl
       (getD S (w .entry) (constraint (pos 0) (pos 0) (pos 0))) v (w .weight) (total partA S l) (total partB S l) (total partC S l)
       (nn-add
-      (nn-mul (pos-nn (here .positive)) (feasible .kept (getD S (w .entry) (constraint (pos 0) (pos 0) (pos 0))) (getD-member S (w .entry) (constraint (pos 0) (pos 0) (pos 0)) (here .entered))))
+      (nn-mul (pos-nn (here .positive))
+      (feasible .kept (getD S (w .entry) (constraint (pos 0) (pos 0) (pos 0)))
+      (getD-member S (w .entry) (constraint (pos 0) (pos 0) (pos 0)) (here .entered))))
       (weighted-slack l (λ u i. sound u (List·Memᴰ·tail i))))
     where
       here : Sound S w
@@ -65,7 +71,8 @@ pub record Refutes (S : List Constraint) (l : List Weighted) : Type 0 where
 pub refutation-excludes : (S : List Constraint) (l : List Weighted) → Refutes S l → Infeasible S
 refutation-excludes S l r v h =
     clash-by (P ∷ Z ∷ Z ∷ Z ∷ [])
-    (λ v a b c. c ⊗ v .d ⊖ (a ⊗ v .x ⊕ b ⊗ v .y) ⊕ a ⊗ v .x ⊕ b ⊗ v .y ⊕ ⊝ c ⊗ v .d) refl v (total partA S l) (total partB S l) (total partC S l)
+    (λ v a b c. c ⊗ v .d ⊖ (a ⊗ v .x ⊕ b ⊗ v .y) ⊕ a ⊗ v .x ⊕ b ⊗ v .y ⊕ ⊝ c ⊗ v .d) refl v (total partA S l) (total partB S l)
+    (total partC S l)
     (nn-add-pos
     (nn-add
     (nn-add (weighted-slack S v h l (r .sound)) (nn-zero (ap (λ z. z *ℤ v .x) (r .cancels-a) ∙ zero-*ℤ (v .x))))
@@ -77,12 +84,24 @@ is-zero z t = antisymmetric (leZ-yes (and-left (leZ z (pos 0)) (leZ (pos 0) z) t
 
 -- ---- three weights
 
-module _ (h k m : Constraint) (v : Point) (proper : pos 0 <ᶻ v .d) (breaks : slack h v <ᶻ pos 0) (keeps-k : Keeps k v) (keeps-m : Keeps m v) where
+module _ (h k m : Constraint) (v : Point) (proper : pos 0 <ᶻ v .d) (breaks : slack h v <ᶻ pos 0) (keeps-k : Keeps k v)
+    (keeps-m : Keeps m v) where
   -- what v says of the sum of slacks: all but h's part is positive
-  others : (l : Constraint) → pos 0 <ᶻ det k l → pos 0 ≤ᶻ det l m → slack m (meet k l) <ᶻ pos 0 → pos 0 <ᶻ det k l *ℤ slack m v +ℤ det l m *ℤ slack k v +ℤ negℤ (slack m (meet k l)) *ℤ v .d
-  others l crosses away broken = nn-add-pos (nn-add (nn-mul (pos-nn crosses) keeps-m) (nn-mul away keeps-k)) (pos-mul (neg-pos broken) proper)
+  others :
+      (l : Constraint) →
+      pos 0 <ᶻ det k l →
+      pos 0 ≤ᶻ det l m →
+      slack m (meet k l) <ᶻ pos 0 →
+      pos 0 <ᶻ det k l *ℤ slack m v +ℤ det l m *ℤ slack k v +ℤ negℤ (slack m (meet k l)) *ℤ v .d
+  others l crosses away broken =
+      nn-add-pos (nn-add (nn-mul (pos-nn crosses) keeps-m) (nn-mul away keeps-k)) (pos-mul (neg-pos broken) proper)
 
-  pub line-weight-positive : (side : Bool) → pos 0 <ᶻ det k (facing side h) → pos 0 ≤ᶻ det (facing side h) m → slack m (meet k (facing side h)) <ᶻ pos 0 → pos 0 <ᶻ lineWeight side k m
+  pub line-weight-positive :
+      (side : Bool) →
+      pos 0 <ᶻ det k (facing side h) →
+      pos 0 ≤ᶻ det (facing side h) m →
+      slack m (meet k (facing side h)) <ᶻ pos 0 →
+      pos 0 <ᶻ lineWeight side k m
   line-weight-positive true crosses away broken =
       pos-cancel (neg-pos breaks)
       (pos-by (C ∷ C ∷ C ∷ P ∷ [])
@@ -91,27 +110,38 @@ module _ (h k m : Constraint) (v : Point) (proper : pos 0 <ᶻ v .d) (breaks : s
   line-weight-positive false crosses away broken =
       pos-cancel (neg-pos breaks)
       (pos-by (C ∷ C ∷ C ∷ P ∷ [])
-      (λ h k m v. ⊝ slackᵖ h v ⊗ detᵖ k m ≐ detᵖ k (reversedᵖ h) ⊗ slackᵖ m v ⊕ detᵖ (reversedᵖ h) m ⊗ slackᵖ k v ⊕ ⊝ slackᵖ m (meetᵖ k (reversedᵖ h)) ⊗ v .d) refl h k m v
+      (λ h k m v. ⊝ slackᵖ h v ⊗ detᵖ k m
+      ≐ detᵖ k (reversedᵖ h) ⊗ slackᵖ m v ⊕ detᵖ (reversedᵖ h) m ⊗ slackᵖ k v ⊕ ⊝ slackᵖ m (meetᵖ k (reversedᵖ h)) ⊗ v .d) refl h k m v
       (others (reversed h) crosses away broken))
 
 -- with these weights a and b cancel, and c sums to the slack of m at the meeting point
-pub weights-cancel-a : (side : Bool) (h k m : Constraint) → lineWeight side k m *ℤ h .a +ℤ (det (facing side h) m *ℤ k .a +ℤ (det k (facing side h) *ℤ m .a +ℤ pos 0)) ≡ pos 0
+pub weights-cancel-a :
+    (side : Bool) (h k m : Constraint) →
+    lineWeight side k m *ℤ h .a +ℤ (det (facing side h) m *ℤ k .a +ℤ (det k (facing side h) *ℤ m .a +ℤ pos 0)) ≡ pos 0
 weights-cancel-a true =
     equal (C ∷ C ∷ C ∷ []) (λ h k m. detᵖ m k ⊗ h .a ⊕ (detᵖ h m ⊗ k .a ⊕ (detᵖ k h ⊗ m .a ⊕ con (pos 0))) ≐ con (pos 0)) refl
 weights-cancel-a false =
-    equal (C ∷ C ∷ C ∷ []) (λ h k m. detᵖ k m ⊗ h .a ⊕ (detᵖ (reversedᵖ h) m ⊗ k .a ⊕ (detᵖ k (reversedᵖ h) ⊗ m .a ⊕ con (pos 0))) ≐ con (pos 0)) refl
+    equal (C ∷ C ∷ C ∷ []) (λ h k m. detᵖ k m ⊗ h .a ⊕ (detᵖ (reversedᵖ h) m ⊗ k .a ⊕ (detᵖ k (reversedᵖ h) ⊗ m .a ⊕ con (pos 0)))
+    ≐ con (pos 0)) refl
 
-pub weights-cancel-b : (side : Bool) (h k m : Constraint) → lineWeight side k m *ℤ h .b +ℤ (det (facing side h) m *ℤ k .b +ℤ (det k (facing side h) *ℤ m .b +ℤ pos 0)) ≡ pos 0
+pub weights-cancel-b :
+    (side : Bool) (h k m : Constraint) →
+    lineWeight side k m *ℤ h .b +ℤ (det (facing side h) m *ℤ k .b +ℤ (det k (facing side h) *ℤ m .b +ℤ pos 0)) ≡ pos 0
 weights-cancel-b true =
     equal (C ∷ C ∷ C ∷ []) (λ h k m. detᵖ m k ⊗ h .b ⊕ (detᵖ h m ⊗ k .b ⊕ (detᵖ k h ⊗ m .b ⊕ con (pos 0))) ≐ con (pos 0)) refl
 weights-cancel-b false =
-    equal (C ∷ C ∷ C ∷ []) (λ h k m. detᵖ k m ⊗ h .b ⊕ (detᵖ (reversedᵖ h) m ⊗ k .b ⊕ (detᵖ k (reversedᵖ h) ⊗ m .b ⊕ con (pos 0))) ≐ con (pos 0)) refl
+    equal (C ∷ C ∷ C ∷ []) (λ h k m. detᵖ k m ⊗ h .b ⊕ (detᵖ (reversedᵖ h) m ⊗ k .b ⊕ (detᵖ k (reversedᵖ h) ⊗ m .b ⊕ con (pos 0)))
+    ≐ con (pos 0)) refl
 
-pub weights-sum-c : (side : Bool) (h k m : Constraint) → lineWeight side k m *ℤ h .c +ℤ (det (facing side h) m *ℤ k .c +ℤ (det k (facing side h) *ℤ m .c +ℤ pos 0)) ≡ slack m (meet k (facing side h))
+pub weights-sum-c :
+    (side : Bool) (h k m : Constraint) →
+    lineWeight side k m *ℤ h .c +ℤ (det (facing side h) m *ℤ k .c +ℤ (det k (facing side h) *ℤ m .c +ℤ pos 0))
+    ≡ slack m (meet k (facing side h))
 weights-sum-c true =
     equal (C ∷ C ∷ C ∷ []) (λ h k m. detᵖ m k ⊗ h .c ⊕ (detᵖ h m ⊗ k .c ⊕ (detᵖ k h ⊗ m .c ⊕ con (pos 0))) ≐ slackᵖ m (meetᵖ k h)) refl
 weights-sum-c false =
-    equal (C ∷ C ∷ C ∷ []) (λ h k m. detᵖ k m ⊗ h .c ⊕ (detᵖ (reversedᵖ h) m ⊗ k .c ⊕ (detᵖ k (reversedᵖ h) ⊗ m .c ⊕ con (pos 0))) ≐ slackᵖ m (meetᵖ k (reversedᵖ h))) refl
+    equal (C ∷ C ∷ C ∷ []) (λ h k m. detᵖ k m ⊗ h .c ⊕ (detᵖ (reversedᵖ h) m ⊗ k .c ⊕ (detᵖ k (reversedᵖ h) ⊗ m .c ⊕ con (pos 0)))
+    ≐ slackᵖ m (meetᵖ k (reversedᵖ h))) refl
 
 -- ---- the test of `lp` says so
 
@@ -139,19 +169,37 @@ module _ (S : List Constraint) (l : List Weighted) where
     entries = and-right shaped entered (and-left (shaped && entered) sized to-weights)
 
     -- weights are from 1 to document 01's greatest
-    pub certificate-weights : (w : Weighted) → List·Memᴰ w l → (pos 1 ≤ᶻ w .weight) × (w .weight ≤ᶻ greatestWeight)
-    certificate-weights w i = (leZ-yes (and-left (leZ (pos 1) (w .weight)) (leZ (w .weight) greatestWeight) both), leZ-yes (and-right (leZ (pos 1) (w .weight)) (leZ (w .weight) greatestWeight) both))
+    pub certificate-weights :
+        (w : Weighted) →
+        List·Memᴰ w l →
+        (pos 1 ≤ᶻ w .weight) × (w .weight ≤ᶻ greatestWeight)
+    certificate-weights w i = (
+      leZ-yes (and-left (leZ (pos 1) (w .weight)) (leZ (w .weight) greatestWeight) both),
+      leZ-yes
+          (and-right (leZ (pos 1) (w .weight)) (leZ (w .weight) greatestWeight) both),
+    )
       where
         both : T (leZ (pos 1) (w .weight) && leZ (w .weight) greatestWeight)
-        both = every-at (λ w. leZ (pos 1) (w .weight) && leZ (w .weight) greatestWeight) l (and-right (shaped && entered) sized to-weights) w i
+        both =
+            every-at (λ w. leZ (pos 1) (w .weight) && leZ (w .weight) greatestWeight) l (and-right (shaped && entered) sized to-weights) w
+            i
 
     pub certificate-refutes : Refutes S l
     certificate-refutes =
         record {
-          sound = λ w i. record { positive = <ℤ-≤ℤ-trans {b = pos 1} (ltZ-yes tt) (certificate-weights w i .0); entered = ltb→lt (w .entry) (length S) (every-at (λ w. ltb (w .entry) (length S)) l entries w i) };
+          sound =
+              λ w i. record {
+                positive = <ℤ-≤ℤ-trans {b = pos 1} (ltZ-yes tt) (certificate-weights w i .0);
+                entered = ltb→lt (w .entry)
+                    (length S) (every-at (λ w. ltb (w .entry) (length S)) l entries w i);
+              };
           cancels-a = is-zero (total partA S l) (and-right (shaped && entered && sized) (isZero (total partA S l)) to-a);
-          cancels-b = is-zero (total partB S l) (and-right (shaped && entered && sized && isZero (total partA S l)) (isZero (total partB S l)) to-b);
-          falls = ltZ-yes (and-right (shaped && entered && sized && isZero (total partA S l) && isZero (total partB S l)) (ltZ (total partC S l) (pos 0)) t);
+          cancels-b =
+              is-zero (total partB S l)
+              (and-right (shaped && entered && sized && isZero (total partA S l)) (isZero (total partB S l)) to-b);
+          falls =
+              ltZ-yes (and-right (shaped && entered && sized && isZero (total partA S l) && isZero (total partB S l))
+              (ltZ (total partC S l) (pos 0)) t);
         }
 
   -- a valid certificate excludes every point, whatever its size

@@ -8,7 +8,8 @@ use lib.IntN.{ℤ, pos, negℤ, _+ℤ_, _*ℤ_, +ℤ-idl, *ℤ-zero, zero-*ℤ, 
 use lib.Signed.{ltZ, ltZ-yes, ltZ-no, clashℤ}
 use Rattle.ints.specs.Order.{_≤ᶻ_, _<ᶻ_}
 use Rattle.ints.proofs.Ring.{_⊕_, _⊗_, ⊝_, _≐_}
-use Rattle.ints.proofs.Order.{Sign, minus, nought, plus, sign, pos-nn, pos-mul, pos-add-nn, nn-add-pos, pos-cancel, zero-cancel, antisymmetric, neg-pos, pos-neg, nn-zero, lt-le, le-of-eq}
+use Rattle.ints.proofs.Order.{Sign, minus, nought, plus, sign, pos-nn, pos-mul, pos-add-nn, nn-add-pos, pos-cancel, zero-cancel}
+use Rattle.ints.proofs.Order.{antisymmetric, neg-pos, pos-neg, nn-zero, lt-le, le-of-eq}
 use Rattle.lp.specs.declared.Functional.{Functional}
 use Rattle.lp.specs.declared.Ray.{Ray}
 use Rattle.lp.specs.Program.{along}
@@ -100,7 +101,14 @@ above-up [] d t = absurd t
 above-up (f ∷ fs) d t =
     go (ltZ (pos 0) (along f d)) (ltZ (along f d) (pos 0)) (λ u. ltZ-yes u) (λ u. ltZ-no u) (λ u. ltZ-no u) t (above-up fs d)
   where
-    go : (p n : Bool) → (T p → pos 0 <ᶻ along f d) → (T (not p) → along f d ≤ᶻ pos 0) → (T (not n) → pos 0 ≤ᶻ along f d) → T (signed p n (above fs d)) → (T (above fs d) → Up fs d) → Up (f ∷ fs) d
+    go :
+        (p n : Bool) →
+        (T p → pos 0 <ᶻ along f d) →
+        (T (not p) → along f d ≤ᶻ pos 0) →
+        (T (not n) → pos 0 ≤ᶻ along f d) →
+        T (signed p n (above fs d)) →
+        (T (above fs d) → Up fs d) →
+        Up (f ∷ fs) d
     go true n y z w u up = inl (y tt)
     go false true y z w u up = absurd u
     go false false y z w u up = inr (antisymmetric (z tt) (w tt), up u)
@@ -110,7 +118,14 @@ not-above-up [] d t = tt
 not-above-up (f ∷ fs) d t =
     go (ltZ (pos 0) (along f d)) (ltZ (along f d) (pos 0)) (λ u. ltZ-no u) (λ u. ltZ-yes u) (λ u. ltZ-no u) t (not-above-up fs d)
   where
-    go : (p n : Bool) → (T (not p) → along f d ≤ᶻ pos 0) → (T n → along f d <ᶻ pos 0) → (T (not n) → pos 0 ≤ᶻ along f d) → T (not (signed p n (above fs d))) → (T (not (above fs d)) → Up fs (opposite d)) → Up (f ∷ fs) (opposite d)
+    go :
+        (p n : Bool) →
+        (T (not p) → along f d ≤ᶻ pos 0) →
+        (T n → along f d <ᶻ pos 0) →
+        (T (not n) → pos 0 ≤ᶻ along f d) →
+        T (not (signed p n (above fs d))) →
+        (T (not (above fs d)) → Up fs (opposite d)) →
+        Up (f ∷ fs) (opposite d)
     go true n z y w u up = absurd u
     go false true z y w u up = inl (positive (along-opposite f d) (neg-pos (y tt)))
     go false false z y w u up = inr (along-opposite f d ∙ ap negℤ (antisymmetric (z tt) (w tt)), up u)

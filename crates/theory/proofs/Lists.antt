@@ -39,7 +39,13 @@ true-or-not false = inr tt
 
 module _ {A : Type 0} where
   -- to show something of every member, show it of the head and of the tail's
-  pub for-members {ℓ} : (Q : A → Type ℓ) (x : A) (l : List A) → Q x → ((y : A) → List·Memᴰ y l → Q y) → (y : A) → List·Memᴰ y (x ∷ l) → Q y
+  pub for-members {ℓ} :
+      (Q : A → Type ℓ) (x : A) (l : List A) →
+      Q x →
+      ((y : A) → List·Memᴰ y l → Q y) →
+      (y : A) →
+      List·Memᴰ y (x ∷ l) →
+      Q y
   for-members Q x l q f y i = go (List·Memᴰ·cases-cons i)
     where
       go : (y ≡ x) ⊎ List·Memᴰ y l → Q y
@@ -50,7 +56,14 @@ module _ {A : Type 0} where
   every-at test [] t = λ y i. absurd (List·Memᴰ·not-nil i)
   every-at test (x ∷ l) t = go (test x) refl t (every-at test l)
     where
-      go : (b : Bool) → test x ≡ b → T (elim b [ true ↦ every test l | false ↦ false ]) → (T (every test l) → (y : A) → List·Memᴰ y l → T (test y)) → (y : A) → List·Memᴰ y (x ∷ l) → T (test y)
+      go :
+          (b : Bool) →
+          test x ≡ b →
+          T (elim b [ true ↦ every test l | false ↦ false ]) →
+          (T (every test l) → (y : A) → List·Memᴰ y l → T (test y)) →
+          (y : A) →
+          List·Memᴰ y (x ∷ l) →
+          T (test y)
       go true e u f = for-members (λ y. T (test y)) x l (subst T (sym e) tt) (f u)
       go false e u f = absurd u
 
@@ -68,7 +81,11 @@ module _ {A : Type 0} where
   keep-member test [] y i = i
   keep-member test (x ∷ l) y i = go (test x) i (keep-member test l)
     where
-      go : (b : Bool) → List·Memᴰ y (elim b [ true ↦ x ∷ keep test l | false ↦ keep test l ]) → ((z : A) → List·Memᴰ z (keep test l) → List·Memᴰ z l) → List·Memᴰ y (x ∷ l)
+      go :
+          (b : Bool) →
+          List·Memᴰ y (elim b [ true ↦ x ∷ keep test l | false ↦ keep test l ]) →
+          ((z : A) → List·Memᴰ z (keep test l) → List·Memᴰ z l) →
+          List·Memᴰ y (x ∷ l)
       go true j f = for-members (λ z. List·Memᴰ z (x ∷ l)) x (keep test l) (List·Memᴰ·head refl) (λ z k. List·Memᴰ·tail (f z k)) y j
       go false j f = List·Memᴰ·tail (f y j)
 
@@ -76,15 +93,29 @@ module _ {A : Type 0} where
   keep-test test [] y i = absurd (List·Memᴰ·not-nil i)
   keep-test test (x ∷ l) y i = go (test x) refl i (keep-test test l)
     where
-      go : (b : Bool) → test x ≡ b → List·Memᴰ y (elim b [ true ↦ x ∷ keep test l | false ↦ keep test l ]) → ((z : A) → List·Memᴰ z (keep test l) → T (test z)) → T (test y)
+      go :
+          (b : Bool) →
+          test x ≡ b →
+          List·Memᴰ y (elim b [ true ↦ x ∷ keep test l | false ↦ keep test l ]) →
+          ((z : A) → List·Memᴰ z (keep test l) → T (test z)) →
+          T (test y)
       go true e j f = for-members (λ z. T (test z)) x (keep test l) (subst T (sym e) tt) f y j
       go false e j f = f y j
 
-  pub member-keep : (test : A → Bool) (l : List A) (y : A) → List·Memᴰ y l → T (test y) → List·Memᴰ y (keep test l)
+  pub member-keep :
+      (test : A → Bool) (l : List A) (y : A) →
+      List·Memᴰ y l →
+      T (test y) →
+      List·Memᴰ y (keep test l)
   member-keep test [] y i t = i
   member-keep test (x ∷ l) y i t = go (List·Memᴰ·cases-cons i) (test x) refl (λ j. member-keep test l y j t)
     where
-      go : (y ≡ x) ⊎ List·Memᴰ y l → (b : Bool) → test x ≡ b → (List·Memᴰ y l → List·Memᴰ y (keep test l)) → List·Memᴰ y (elim b [ true ↦ x ∷ keep test l | false ↦ keep test l ])
+      go :
+          (y ≡ x) ⊎ List·Memᴰ y l →
+          (b : Bool) →
+          test x ≡ b →
+          (List·Memᴰ y l → List·Memᴰ y (keep test l)) →
+          List·Memᴰ y (elim b [ true ↦ x ∷ keep test l | false ↦ keep test l ])
       go (inl p) true e f = List·Memᴰ·head p
       go (inr j) true e f = List·Memᴰ·tail (f j)
       go (inl p) false e f = absurd (subst T (ap test p ∙ e) t)
@@ -92,15 +123,27 @@ module _ {A : Type 0} where
 
   -- ---- the selection. AtMost is what the test decides: reflexive and transitive among the elements, which are all Good
 
-  module _ (better : A → A → Bool) (Good : A → Type 0) (AtMost : A → A → Type 0) (reflexive : (x : A) → Good x → AtMost x x) (transitive : (x y z : A) → Good x → Good y → Good z → AtMost x y → AtMost y z → AtMost x z) (yes-better : (x y : A) → Good x → Good y → T (better y x) → AtMost x y) (not-better : (x y : A) → Good x → Good y → T (not (better y x)) → AtMost y x) where
+  module _ (better : A → A → Bool) (Good : A → Type 0) (AtMost : A → A → Type 0) (reflexive : (x : A) → Good x → AtMost x x)
+      (transitive : (x y z : A) → Good x → Good y → Good z → AtMost x y → AtMost y z → AtMost x z)
+      (yes-better : (x y : A) → Good x → Good y → T (better y x) → AtMost x y)
+      (not-better : (x y : A) → Good x → Good y → T (not (better y x)) → AtMost y x) where
     pub record Picked (x : A) (l : List A) (p : A) : Type 0 where
       pub member : List·Memᴰ p (x ∷ l)
       pub first : (y : A) → List·Memᴰ y (x ∷ l) → AtMost y p
 
-    pub picked : (x : A) (l : List A) → ((y : A) → List·Memᴰ y (x ∷ l) → Good y) → Picked x l (pick better x l)
+    pub picked :
+        (x : A) (l : List A) →
+        ((y : A) → List·Memᴰ y (x ∷ l) → Good y) →
+        Picked x l (pick better x l)
     picked x [] good =
-        record { member = List·Memᴰ·head refl; first = for-members (λ y. AtMost y x) x [] (reflexive x (good x (List·Memᴰ·head refl))) (λ y i. absurd (List·Memᴰ·not-nil i)) }
-    picked x (y ∷ l) good = go (better y x) refl (picked y l (λ z i. good z (List·Memᴰ·tail i))) (picked x l (for-members Good x l good-x (λ z i. good z (List·Memᴰ·tail (List·Memᴰ·tail i)))))
+        record {
+          member = List·Memᴰ·head refl;
+          first = for-members (λ y. AtMost y x) x [] (reflexive x (good x (List·Memᴰ·head refl)))
+              (λ y i. absurd (List·Memᴰ·not-nil i));
+        }
+    picked x (y ∷ l) good =
+        go (better y x) refl (picked y l (λ z i. good z (List·Memᴰ·tail i)))
+        (picked x l (for-members Good x l good-x (λ z i. good z (List·Memᴰ·tail (List·Memᴰ·tail i)))))
       where
         good-x : Good x
         good-x = good x (List·Memᴰ·head refl)
@@ -111,20 +154,29 @@ module _ {A : Type 0} where
         good-p : (u : A) (p : A) → Good u → List·Memᴰ p (u ∷ l) → Good p
         good-p u p gu i = for-members Good u l gu (λ z j. good z (List·Memᴰ·tail (List·Memᴰ·tail j))) p i
 
-        go : (b : Bool) → better y x ≡ b → Picked y l (pick better y l) → Picked x l (pick better x l) → Picked x (y ∷ l) (pick better (elim b [ true ↦ y | false ↦ x ]) l)
+        go :
+            (b : Bool) →
+            better y x ≡ b →
+            Picked y l (pick better y l) →
+            Picked x l (pick better x l) →
+            Picked x (y ∷ l) (pick better (elim b [ true ↦ y | false ↦ x ]) l)
         go true e r s =
             record {
               member = List·Memᴰ·tail (r .member);
               first = for-members (λ z. AtMost z (pick better y l)) x (y ∷ l)
-                  (transitive x y (pick better y l) good-x good-y (good-p y (pick better y l) good-y (r .member)) (yes-better x y good-x good-y (subst T (sym e) tt)) (r .first y (List·Memᴰ·head refl)))
+                  (transitive x y (pick better y l) good-x good-y (good-p y (pick better y l) good-y (r .member))
+                  (yes-better x y good-x good-y (subst T (sym e) tt)) (r .first y (List·Memᴰ·head refl)))
                   (r .first);
             }
         go false e r s =
             record {
-              member = for-members (λ z. List·Memᴰ z (x ∷ y ∷ l)) x l (List·Memᴰ·head refl) (λ z i. List·Memᴰ·tail (List·Memᴰ·tail i)) (pick better x l) (s .member);
+              member =
+                  for-members (λ z. List·Memᴰ z (x ∷ y ∷ l)) x l (List·Memᴰ·head refl) (λ z i. List·Memᴰ·tail (List·Memᴰ·tail i))
+                  (pick better x l) (s .member);
               first = for-members (λ z. AtMost z (pick better x l)) x (y ∷ l) (s .first x (List·Memᴰ·head refl))
                   (for-members (λ z. AtMost z (pick better x l)) y l
-                  (transitive y x (pick better x l) good-y good-x (good-p x (pick better x l) good-x (s .member)) (not-better x y good-x good-y (subst (λ b. T (not b)) (sym e) tt)) (s .first x (List·Memᴰ·head refl)))
+                  (transitive y x (pick better x l) good-y good-x (good-p x (pick better x l) good-x (s .member))
+                  (not-better x y good-x good-y (subst (λ b. T (not b)) (sym e) tt)) (s .first x (List·Memᴰ·head refl)))
                   (λ z i. s .first z (List·Memᴰ·tail i)));
             }
 

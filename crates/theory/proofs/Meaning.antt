@@ -1,5 +1,5 @@
--- What an outcome means, apart from any algorithm: a peak, a flattest ray, or no point at all. It holds of one outcome only, it depends only on which
--- constraints are in the system, and the defined outcome has it.
+-- What an outcome means, apart from any algorithm: a peak, a flattest ray, or no point at all. It holds of one outcome only, it depends
+-- only on which constraints are in the system, and the defined outcome has it.
 use mathlib.Core.Path.{_≡_, refl, sym, _∙_, ap, ap₂, subst}
 use mathlib.Core.List.{List, [], _∷_, List·Memᴰ, List·Memᴰ·head, List·Memᴰ·tail, List·Memᴰ·cases-cons, List·Memᴰ·not-nil}
 use mathlib.Core.Bool.{Bool, true, false, _&&_}
@@ -67,7 +67,13 @@ Means t f S (outcome.Optimal v) = MeansOptimal t f S v
 
 module _ (t : Tie) (good : GoodTie t) (f : Functional) (S : List Constraint) where
   -- a system has one peak in an order
-  pub peak-unique : (fs : List Functional) → Upward (Up fs) → (v w : Point) → Peak (Up fs) S v → Peak (Up fs) S w → v ≡ w
+  pub peak-unique :
+      (fs : List Functional) →
+      Upward (Up fs) →
+      (v w : Point) →
+      Peak (Up fs) S v →
+      Peak (Up fs) S w →
+      v ≡ w
   peak-unique fs O v w p q =
       lowest-unique v w (p .feasible .proper) (q .feasible .proper) (vertex-lowest S v (p .vertex)) (vertex-lowest S w (q .vertex))
       (at-most-both (Up fs) O v w (q .greatest v (p .feasible)) (p .greatest w (q .feasible)))
@@ -75,7 +81,8 @@ module _ (t : Tie) (good : GoodTie t) (f : Functional) (S : List Constraint) whe
   -- and one flattest ray, up to a factor
   pub flattest-unique : (d e : Ray) → Flattest S f d → Flattest S f e → reduceRay d ≡ reduceRay e
   flattest-unique d e p q =
-      same-slope d e (p .forward) (q .forward) (p .flattest e (q .recedes) (q .candidate) (q .gains)) (q .flattest d (p .recedes) (p .candidate) (p .gains))
+      same-slope d e (p .forward) (q .forward) (p .flattest e (q .recedes) (q .candidate) (q .gains))
+      (q .flattest d (p .recedes) (p .candidate) (p .gains))
 
   pub meaning-unique : (o p : Outcome) → Means t f S o → Means t f S p → o ≡ p
   meaning-unique outcome.Infeasible outcome.Infeasible m n = refl
@@ -95,7 +102,8 @@ module _ (t : Tie) (good : GoodTie t) (f : Functional) (S : List Constraint) whe
 
 -- ---- it depends only on which constraints there are
 
-module _ (S S′ : List Constraint) (to : (r : Constraint) → List·Memᴰ r S → List·Memᴰ r S′) (from : (r : Constraint) → List·Memᴰ r S′ → List·Memᴰ r S) where
+module _ (S S′ : List Constraint) (to : (r : Constraint) → List·Memᴰ r S → List·Memᴰ r S′)
+    (from : (r : Constraint) → List·Memᴰ r S′ → List·Memᴰ r S) where
   feasible-to : (v : Point) → Feasible S v → Feasible S′ v
   feasible-to v h = record { proper = h .proper; kept = λ r i. h .kept r (from r i) }
 
@@ -110,7 +118,12 @@ module _ (S S′ : List Constraint) (to : (r : Constraint) → List·Memᴰ r S 
 
   peak-to : (fs : List Functional) (v : Point) → Peak (Up fs) S v → Peak (Up fs) S′ v
   peak-to fs v p =
-      record { feasible = feasible-to v (p .feasible); greatest = λ w h. p .greatest w (feasible-from w h); vertex = vertex-grows S S′ to v (p .vertex) }
+      record {
+        feasible = feasible-to v (p .feasible);
+        greatest = λ w h. p .greatest w (feasible-from w h);
+        vertex = vertex-grows S S′ to
+            v (p .vertex);
+      }
 
   candidate-to : (d : Ray) → Candidate S d → Candidate S′ d
   candidate-to d (r, i, e) = (r, to r i, e)
@@ -131,20 +144,33 @@ module _ (S S′ : List Constraint) (to : (r : Constraint) → List·Memᴰ r S 
   pub meaning-members : (t : Tie) (f : Functional) (o : Outcome) → Means t f S o → Means t f S′ o
   meaning-members t f outcome.Infeasible m = λ v h. m v (feasible-from v h)
   meaning-members t f (outcome.Unbounded s d) m =
-      record { start = peak-to (tieOrder t) s (m .start); along-ray = m .along-ray; flattest = flattest-to f (m .along-ray) (m .flattest); divided = m .divided }
+      record {
+        start = peak-to (tieOrder t) s (m .start);
+        along-ray = m .along-ray;
+        flattest = flattest-to f (m .along-ray) (m .flattest);
+        divided = m .divided;
+      }
   meaning-members t f (outcome.Optimal v) m =
       record { peak = peak-to (gainOrder f t) v (m .peak); no-gain = λ d r. m .no-gain d (recedes-from d r) }
 
 -- ---- the defined outcome has it
 
 module _ (t : Tie) (good : GoodTie t) (floors : Floors) (f : Functional) where
-  standing-means : (S : List Constraint) (s : Point) (cone : Cone) (b : Best) → Standing t f S s cone b → Means t f S (said f (Going s cone b))
+  standing-means :
+      (S : List Constraint) (s : Point) (cone : Cone) (b : Best) →
+      Standing t f S s cone b →
+      Means t f S (said f (Going s cone b))
   standing-means S s cone best.Open standing = go (standing .optimum)
     where
       go : BestStands t f S cone best.Open → Means t f S (said f (Going s cone best.Open))
       go (d, e) =
           subst (λ g. Means t f S (saidRay s g)) (sym e)
-          (record { start = standing .start; along-ray = d; flattest = gains-along S f cone (standing .quadrant) (standing .spans) d e; divided = refl })
+          (record {
+            start = standing .start;
+            along-ray = d;
+            flattest = gains-along S f cone (standing .quadrant) (standing .spans) d e;
+            divided = refl;
+          })
   standing-means S s cone (best.At v) standing =
       record { peak = standing .optimum .0; no-gain = gains-nowhere S f cone (standing .quadrant) (standing .spans) (standing .optimum .1) }
 
@@ -158,19 +184,32 @@ module _ (t : Tie) (good : GoodTie t) (floors : Floors) (f : Functional) where
 
   pub outcome-means : (rules : List Constraint) → Means t f (system floors rules) (defined.outcome t floors f rules)
   outcome-means rules =
-      subst (Means t f (system floors rules)) (state-says t good floors f rules (walk t floors f rules .state) (walk-stands rules .stands)) (state-means rules (walk t floors f rules .state) (walk-stands rules .stands))
+      subst (Means t f (system floors rules))
+      (state-says t good floors f rules (walk t floors f rules .state) (walk-stands rules .stands))
+      (state-means rules (walk t floors f rules .state) (walk-stands rules .stands))
 
   -- ---- so order and repetition do not matter
 
-  pub system-members : (l m : List Constraint) → ((r : Constraint) → List·Memᴰ r l → List·Memᴰ r m) → (r : Constraint) → List·Memᴰ r (system floors l) → List·Memᴰ r (system floors m)
+  pub system-members :
+      (l m : List Constraint) →
+      ((r : Constraint) → List·Memᴰ r l → List·Memᴰ r m) →
+      (r : Constraint) →
+      List·Memᴰ r (system floors l) →
+      List·Memᴰ r (system floors m)
   system-members l m to =
       for-members (λ r. List·Memᴰ r (system floors m)) (floorX floors) (floorY floors ∷ l) (List·Memᴰ·head refl)
-      (for-members (λ r. List·Memᴰ r (system floors m)) (floorY floors) l (List·Memᴰ·tail (List·Memᴰ·head refl)) (λ r i. List·Memᴰ·tail (List·Memᴰ·tail (to r i))))
+      (for-members (λ r. List·Memᴰ r (system floors m)) (floorY floors) l (List·Memᴰ·tail (List·Memᴰ·head refl))
+      (λ r i. List·Memᴰ·tail (List·Memᴰ·tail (to r i))))
 
-  pub outcome-by-members : (l m : List Constraint) → ((r : Constraint) → List·Memᴰ r l → List·Memᴰ r m) → ((r : Constraint) → List·Memᴰ r m → List·Memᴰ r l) → defined.outcome t floors f l ≡ defined.outcome t floors f m
+  pub outcome-by-members :
+      (l m : List Constraint) →
+      ((r : Constraint) → List·Memᴰ r l → List·Memᴰ r m) →
+      ((r : Constraint) → List·Memᴰ r m → List·Memᴰ r l) →
+      defined.outcome t floors f l ≡ defined.outcome t floors f m
   outcome-by-members l m to from =
       meaning-unique t good f (system floors m) (defined.outcome t floors f l) (defined.outcome t floors f m)
-      (meaning-members (system floors l) (system floors m) (system-members l m to) (system-members m l from) t f (defined.outcome t floors f l) (outcome-means l))
+      (meaning-members (system floors l) (system floors m) (system-members l m to) (system-members m l from) t f
+      (defined.outcome t floors f l) (outcome-means l))
       (outcome-means m)
 
 -- what is counted is there, and what is there is counted
@@ -195,7 +234,12 @@ counted-member r (s ∷ l) h = go (sameConstraint r s) refl h (counted-member r 
   where
     equal-at : T (sameConstraint r s) → r ≡ s
     equal-at t =
-        constraint-path (same-equal (r .a) (s .a) (and-left (same (r .a) (s .a)) (same (r .b) (s .b)) (and-left (same (r .a) (s .a) && same (r .b) (s .b)) (same (r .c) (s .c)) t))) (same-equal (r .b) (s .b) (and-right (same (r .a) (s .a)) (same (r .b) (s .b)) (and-left (same (r .a) (s .a) && same (r .b) (s .b)) (same (r .c) (s .c)) t))) (same-equal (r .c) (s .c) (and-right (same (r .a) (s .a) && same (r .b) (s .b)) (same (r .c) (s .c)) t))
+        constraint-path (same-equal (r .a) (s .a)
+        (and-left (same (r .a) (s .a)) (same (r .b) (s .b)) (and-left (same (r .a) (s .a) && same (r .b) (s .b)) (same (r .c) (s .c)) t)))
+        (same-equal (r .b) (s .b)
+        (and-right (same (r .a) (s .a)) (same (r .b) (s .b))
+        (and-left (same (r .a) (s .a) && same (r .b) (s .b)) (same (r .c) (s .c)) t)))
+        (same-equal (r .c) (s .c) (and-right (same (r .a) (s .a) && same (r .b) (s .b)) (same (r .c) (s .c)) t))
 
     zero-plus : (m : ℕ) → 0 < 0 + m → 0 < m
     zero-plus m h = omega arith
@@ -206,7 +250,8 @@ counted-member r (s ∷ l) h = go (sameConstraint r s) refl h (counted-member r 
 
 member-counted : (r : Constraint) (l : List Constraint) → List·Memᴰ r l → 0 < count r l
 member-counted r [] i = absurd (List·Memᴰ·not-nil i)
-member-counted r (s ∷ l) i = ⊎-elim here (λ j. more (one-if (sameConstraint r s)) (count r l) (member-counted r l j)) (List·Memᴰ·cases-cons i)
+member-counted r (s ∷ l) i =
+    ⊎-elim here (λ j. more (one-if (sameConstraint r s)) (count r l) (member-counted r l j)) (List·Memᴰ·cases-cons i)
   where
     more : (m n : ℕ) → 0 < n → 0 < m + n
     more m n h = omega arith
@@ -216,9 +261,19 @@ member-counted r (s ∷ l) i = ⊎-elim here (λ j. more (one-if (sameConstraint
     first false t = absurd t
 
     here : r ≡ s → 0 < one-if (sameConstraint r s) + count r l
-    here e = first (sameConstraint r s) (subst (λ x. T (sameConstraint r x)) e (and-both (same (r .a) (r .a) && same (r .b) (r .b)) (same (r .c) (r .c)) (and-both (same (r .a) (r .a)) (same (r .b) (r .b)) (same-self (r .a)) (same-self (r .b))) (same-self (r .c))))
+    here e =
+        first (sameConstraint r s)
+        (subst (λ x. T (sameConstraint r x)) e
+        (and-both (same (r .a) (r .a) && same (r .b) (r .b)) (same (r .c) (r .c))
+        (and-both (same (r .a) (r .a)) (same (r .b) (r .b)) (same-self (r .a)) (same-self (r .b))) (same-self (r .c))))
 
 -- two systems with the same floors and, for each (a, b, c), the same count of it, have the same outcome, point and ray
-pub outcome-order-free : (t : Tie) → GoodTie t → (floors : Floors) (f : Functional) (l m : List Constraint) → AlikeInRules l m → defined.outcome t floors f l ≡ defined.outcome t floors f m
+pub outcome-order-free :
+    (t : Tie) →
+    GoodTie t →
+    (floors : Floors) (f : Functional) (l m : List Constraint) →
+    AlikeInRules l m →
+    defined.outcome t floors f l ≡ defined.outcome t floors f m
 outcome-order-free t good floors f l m alike =
-    outcome-by-members t good floors f l m (λ r i. counted-member r m (subst (λ n. 0 < n) (alike r) (member-counted r l i))) (λ r i. counted-member r l (subst (λ n. 0 < n) (sym (alike r)) (member-counted r m i)))
+    outcome-by-members t good floors f l m (λ r i. counted-member r m (subst (λ n. 0 < n) (alike r) (member-counted r l i)))
+    (λ r i. counted-member r l (subst (λ n. 0 < n) (sym (alike r)) (member-counted r m i)))

@@ -26,10 +26,14 @@ use Rattle.theory.proofs.Ties.{GoodTie}
 use Rattle.theory.proofs.Standing.{Standing}
 use Rattle.theory.proofs.Walk.{Stands, state-says, stands-step, feasible-by-state}
 
-ended-stays : (t : Tie) (f : Functional) (S : List Constraint) (n : ℕ) (rest : List Constraint) (w : Walk) (p : ℕ) (c : Certificate) → w .state ≡ Ended p c → walkFrom t f S n rest w .state ≡ Ended p c
+ended-stays :
+    (t : Tie) (f : Functional) (S : List Constraint) (n : ℕ) (rest : List Constraint) (w : Walk) (p : ℕ) (c : Certificate) →
+    w .state ≡ Ended p c →
+    walkFrom t f S n rest w .state ≡ Ended p c
 ended-stays t f S n [] w p c e = e
 ended-stays t f S n (h ∷ rest) w p c e =
-    ended-stays t f (S ++ (h ∷ [])) (suc n) rest (step t f S n h w) p c (ap (λ x. stepped t f S n h (w .moves) (w .opened) (w .restarts) x .state) e)
+    ended-stays t f (S ++ (h ∷ [])) (suc n) rest (step t f S n h w) p c
+    (ap (λ x. stepped t f S n h (w .moves) (w .opened) (w .restarts) x .state) e)
 
 module _ (t : Tie) (good : GoodTie t) (floors : Floors) (f : Functional) where
   abbrev infeasible : List Constraint → Bool
@@ -40,17 +44,30 @@ module _ (t : Tie) (good : GoodTie t) (floors : Floors) (f : Functional) where
   place-here done [] e = ap (λ b. elim b [ true ↦ length done | false ↦ 0 ]) e
   place-here done (h ∷ rest) e = ap (λ b. elim b [ true ↦ length done | false ↦ placeFrom t floors f (done ++ (h ∷ [])) rest ]) e
 
-  going-feasible : (done : List Constraint) (s : Point) (cone : Cone) (b : Best) → Standing t f (system floors done) s cone b → infeasible done ≡ false
+  going-feasible :
+      (done : List Constraint) (s : Point) (cone : Cone) (b : Best) →
+      Standing t f (system floors done) s cone b →
+      infeasible done ≡ false
   going-feasible done s cone b standing =
-      sym (ap isInfeasible (state-says t good floors f done (Going s cone b) standing)) ∙ feasible-by-state t good floors f (system floors done) s cone b (standing .optimum)
+      sym (ap isInfeasible (state-says t good floors f done (Going s cone b) standing))
+      ∙ feasible-by-state t good floors f (system floors done) s cone b (standing .optimum)
 
-  pub walk-place : (done rest : List Constraint) (w : Walk) (s : Point) (cone : Cone) (b : Best) → w .state ≡ Going s cone b → Stands t good floors f done (w .state) → placeOf (walkFrom t f (system floors done) (length (system floors done)) rest w .state) ≡ placeFrom t floors f done rest
+  pub walk-place :
+      (done rest : List Constraint) (w : Walk) (s : Point) (cone : Cone) (b : Best) →
+      w .state ≡ Going s cone b →
+      Stands t good floors f done (w .state) →
+      placeOf (walkFrom t f (system floors done) (length (system floors done)) rest w .state) ≡ placeFrom t floors f done rest
   walk-place done [] w s cone b e stands =
-      ap placeOf e ∙ sym (ap (λ b. elim b [ true ↦ length done | false ↦ 0 ]) (going-feasible done s cone b (subst (Stands t good floors f done) e stands)))
+      ap placeOf e ∙ sym (ap (λ b. elim b [ true ↦ length done | false ↦ 0 ])
+      (going-feasible done s cone b (subst (Stands t good floors f done) e stands)))
   walk-place done (h ∷ rest) w s cone b e stands =
-      subst (λ n. placeOf (walkFrom t f (system floors (done ++ (h ∷ []))) n rest w₁ .state) ≡ placeFrom t floors f (done ++ (h ∷ [])) rest) count
-      (go (elim (keeps h s) [ true ↦ Moved s | false ↦ restart t (system floors done) (length (system floors done)) h ]) (ap (λ x. stepped t f (system floors done) (length (system floors done)) h (w .moves) (w .opened) (w .restarts) x .state) e) (λ s′ cone′ b′ e′. walk-place (done ++ (h ∷ [])) rest w₁ s′ cone′ b′ e′ stands₁))
-      ∙ sym (ap (λ b. elim b [ true ↦ length done | false ↦ placeFrom t floors f (done ++ (h ∷ [])) rest ]) (going-feasible done s cone b (subst (Stands t good floors f done) e stands)))
+      subst (λ n. placeOf (walkFrom t f (system floors (done ++ (h ∷ []))) n rest w₁ .state)
+      ≡ placeFrom t floors f (done ++ (h ∷ [])) rest) count
+      (go (elim (keeps h s) [ true ↦ Moved s | false ↦ restart t (system floors done) (length (system floors done)) h ])
+      (ap (λ x. stepped t f (system floors done) (length (system floors done)) h (w .moves) (w .opened) (w .restarts) x .state) e)
+      (λ s′ cone′ b′ e′. walk-place (done ++ (h ∷ [])) rest w₁ s′ cone′ b′ e′ stands₁))
+      ∙ sym (ap (λ b. elim b [ true ↦ length done | false ↦ placeFrom t floors f (done ++ (h ∷ [])) rest ])
+      (going-feasible done s cone b (subst (Stands t good floors f done) e stands)))
     where
       w₁ : Walk
       w₁ = step t f (system floors done) (length (system floors done)) h w
@@ -65,11 +82,23 @@ module _ (t : Tie) (good : GoodTie t) (floors : Floors) (f : Functional) where
       here = omega (arith, length-append done (h ∷ []))
 
       Settles : State → Restart → Type 0
-      Settles x r = x ≡ settled t f (system floors done) (length (system floors done)) h cone b (w .moves) (w .opened) (recounted (w .restarts) h s) r .state
+      Settles x r =
+          x ≡ settled t f (system floors done) (length (system floors done)) h cone b (w .moves) (w .opened) (recounted (w .restarts) h
+          s) r .state
 
-      go : (r : Restart) → Settles (w₁ .state) r → ((s′ : Point) (cone′ : Cone) (b′ : Best) → w₁ .state ≡ Going s′ cone′ b′ → placeOf (walkFrom t f (system floors (done ++ (h ∷ []))) (length (system floors (done ++ (h ∷ [])))) rest w₁ .state) ≡ placeFrom t floors f (done ++ (h ∷ [])) rest) → placeOf (walkFrom t f (system floors (done ++ (h ∷ []))) (length (system floors (done ++ (h ∷ [])))) rest w₁ .state) ≡ placeFrom t floors f (done ++ (h ∷ [])) rest
+      go :
+          (r : Restart) →
+          Settles (w₁ .state) r →
+          ((s′ : Point) (cone′ : Cone) (b′ : Best) → w₁ .state ≡ Going s′ cone′ b′ →
+          placeOf (walkFrom t f (system floors (done ++ (h ∷ []))) (length (system floors (done ++ (h ∷ [])))) rest w₁ .state)
+          ≡ placeFrom t floors f (done ++ (h ∷ [])) rest) →
+          placeOf (walkFrom t f (system floors (done ++ (h ∷ []))) (length (system floors (done ++ (h ∷ [])))) rest w₁ .state)
+          ≡ placeFrom t floors f (done ++ (h ∷ [])) rest
       go (Moved s′) q ih = ih s′ (narrow h cone) (improved (gainOrder f t) f (system floors done) h (narrow h cone) b) q
       go (Failed c) q ih =
-          ap placeOf (ended-stays t f (system floors (done ++ (h ∷ []))) (length (system floors (done ++ (h ∷ [])))) rest w₁ (length (system floors done) - 1) c q)
+          ap placeOf (ended-stays t f (system floors (done ++ (h ∷ []))) (length (system floors (done ++ (h ∷ [])))) rest w₁
+          (length (system floors done) - 1) c q)
           ∙ here
-          ∙ sym (place-here (done ++ (h ∷ [])) rest (sym (ap isInfeasible (state-says t good floors f (done ++ (h ∷ [])) (w₁ .state) stands₁)) ∙ ap (λ x. isInfeasible (said f x)) q))
+          ∙ sym (place-here (done ++ (h ∷ [])) rest
+          (sym (ap isInfeasible (state-says t good floors f (done ++ (h ∷ [])) (w₁ .state) stands₁))
+          ∙ ap (λ x. isInfeasible (said f x)) q))

@@ -36,7 +36,8 @@ module _ (k : ℤ) (w v : Point) (m : Multiple k w v) where
 
   pub multiple-slack : (r : Constraint) → k *ℤ slack r w ≡ slack r v
   multiple-slack r =
-      equal (Z ∷ C ∷ P ∷ []) (λ k r w. k ⊗ slackᵖ r w ≐ r .c ⊗ (k ⊗ w .d) ⊖ (r .a ⊗ (k ⊗ w .x) ⊕ r .b ⊗ (k ⊗ w .y))) refl k r w ∙ ap (slack r) whole
+      equal (Z ∷ C ∷ P ∷ []) (λ k r w. k ⊗ slackᵖ r w ≐ r .c ⊗ (k ⊗ w .d) ⊖ (r .a ⊗ (k ⊗ w .x) ⊕ r .b ⊗ (k ⊗ w .y))) refl k r w
+      ∙ ap (slack r) whole
 
   pub keeps-lowest : (r : Constraint) → Keeps r v → Keeps r w
   keeps-lowest r h = nn-cancel (m .positive) (subst (λ z. pos 0 ≤ᶻ z) (sym (multiple-slack r)) h)
@@ -46,11 +47,13 @@ module _ (k : ℤ) (w v : Point) (m : Multiple k w v) where
     where
       on-dx : k *ℤ (between z w) .dx ≡ (between z v) .dx
       on-dx =
-          equal (Z ∷ P ∷ P ∷ []) (λ k z w. k ⊗ (betweenᵖ z w) .dx ≐ k ⊗ w .x ⊗ z .d ⊖ z .x ⊗ (k ⊗ w .d)) refl k z w ∙ ap (λ u. (between z u) .dx) whole
+          equal (Z ∷ P ∷ P ∷ []) (λ k z w. k ⊗ (betweenᵖ z w) .dx ≐ k ⊗ w .x ⊗ z .d ⊖ z .x ⊗ (k ⊗ w .d)) refl k z w
+          ∙ ap (λ u. (between z u) .dx) whole
 
       on-dy : k *ℤ (between z w) .dy ≡ (between z v) .dy
       on-dy =
-          equal (Z ∷ P ∷ P ∷ []) (λ k z w. k ⊗ (betweenᵖ z w) .dy ≐ k ⊗ w .y ⊗ z .d ⊖ z .y ⊗ (k ⊗ w .d)) refl k z w ∙ ap (λ u. (between z u) .dy) whole
+          equal (Z ∷ P ∷ P ∷ []) (λ k z w. k ⊗ (betweenᵖ z w) .dy ≐ k ⊗ w .y ⊗ z .d ⊖ z .y ⊗ (k ⊗ w .d)) refl k z w
+          ∙ ap (λ u. (between z u) .dy) whole
 
 module _ (v : Point) (h : pos 0 <ᶻ v .d) where
   pub reduced-multiple : Multiple (pos (gcd3 (v .x) (v .y) (v .d))) (reduce v) v
@@ -72,7 +75,14 @@ pub reduced-lowest : (v : Point) → pos 0 <ᶻ v .d → LowestTerms (reduce v)
 reduced-lowest v h = reduce-reduced (v .x) (v .y) (v .d) h
 
 -- the same fractions in lowest terms are the same point
-pub lowest-unique : (v w : Point) → pos 0 <ᶻ v .d → pos 0 <ᶻ w .d → LowestTerms v → LowestTerms w → Null (between v w) → v ≡ w
+pub lowest-unique :
+    (v w : Point) →
+    pos 0 <ᶻ v .d →
+    pos 0 <ᶻ w .d →
+    LowestTerms v →
+    LowestTerms w →
+    Null (between v w) →
+    v ≡ w
 lowest-unique v w hv hw lv lw n = point-path (same .first) (same .second) (same .third)
   where
     cross-equal : (s t : ℤ) → t -ℤ s ≡ pos 0 → s ≡ t

@@ -1,4 +1,5 @@
--- The start point when a constraint breaks it: it moves to the tightest point on that constraint's line, or a certificate shows that no point is left.
+-- The start point when a constraint breaks it: it moves to the tightest point on that constraint's line, or a certificate shows that no
+-- point is left.
 use mathlib.Core.Path.{_≡_, refl, sym, _∙_, ap, subst}
 use mathlib.Core.List.{List, [], _∷_, _++_, List·Memᴰ}
 use mathlib.Core.Bool.{Bool, true, false, not, _&&_}
@@ -41,7 +42,8 @@ abbrev pub Restarted : Tie → List Constraint → Restart → Type 0
 Restarted t S (Moved s) = Peak (Up (tieOrder t)) S s
 Restarted t S (Failed c) = Certified S c
 
-module _ (t : Tie) (good : GoodTie t) (S : List Constraint) (h : Constraint) (s : Point) (peak : Peak (Up (tieOrder t)) S s) (breaks : slack h s <ᶻ pos 0) (falls : Falls (Up (tieOrder t)) (S ++ (h ∷ []))) where
+module _ (t : Tie) (good : GoodTie t) (S : List Constraint) (h : Constraint) (s : Point) (peak : Peak (Up (tieOrder t)) S s)
+    (breaks : slack h s <ᶻ pos 0) (falls : Falls (Up (tieOrder t)) (S ++ (h ∷ []))) where
   abbrev S′ : List Constraint
   S′ = S ++ (h ∷ [])
 
@@ -75,8 +77,10 @@ module _ (t : Tie) (good : GoodTie t) (S : List Constraint) (h : Constraint) (s 
     moved : ((m : Constraint) → List·Memᴰ m S → Keeps m p) → Peak (Up (tieOrder t)) S′ (reduce p)
     moved kept =
         lowest-peak S S′ h ext (Up (tieOrder t)) O side k (tight .member) (tight .crosses) kept
-        (step-on (Up (tieOrder t)) O S h s (pos-nn proper) (peak .feasible .kept) (peak .greatest) breaks side k (walked-up S S′ h ext (tieOrder t) O) tight)
-        (λ w f. step-below (Up (tieOrder t)) O S h s (pos-nn proper) (peak .feasible .kept) (peak .greatest) breaks side k (walked-up S S′ h ext (tieOrder t) O) tight w (feasible-shrinks S S′ h ext w f) (feasible-keeps-new S S′ h ext w f))
+        (step-on (Up (tieOrder t)) O S h s (pos-nn proper) (peak .feasible .kept) (peak .greatest) breaks side k
+        (walked-up S S′ h ext (tieOrder t) O) tight)
+        (λ w f. step-below (Up (tieOrder t)) O S h s (pos-nn proper) (peak .feasible .kept) (peak .greatest) breaks side k
+        (walked-up S S′ h ext (tieOrder t) O) tight w (feasible-shrinks S S′ h ext w f) (feasible-keeps-new S S′ h ext w f))
 
     -- the tightest point keeps what is met along the line, so what it breaks is not
     not-met : (m : Constraint) → List·Memᴰ m S → slack m p <ᶻ pos 0 → pos 0 ≤ᶻ det (facing side h) m
@@ -89,13 +93,20 @@ module _ (t : Tie) (good : GoodTie t) (S : List Constraint) (h : Constraint) (s 
     checked-sound : (b : Broken) → Outcome-of-check S p S b → Restarted t S′ (checked side (length S) h j k p b)
     checked-sound broken.Nowhere kept = moved kept
     checked-sound (broken.At i m) (at-m, b) =
-        conflict-certified S h side j k i m at-k at-m s proper breaks (peak .feasible .kept k (tight .member)) (peak .feasible .kept m (at-member S i m at-m)) (tight .crosses) (not-met m (at-member S i m at-m) b) b
+        conflict-certified S h side j k i m at-k at-m s proper breaks (peak .feasible .kept k (tight .member))
+        (peak .feasible .kept m (at-member S i m at-m)) (tight .crosses) (not-met m (at-member S i m at-m) b) b
 
   pub restart-sound : Restarted t S′ (restart t S (length S) h)
   restart-sound = go (isZero (h .a) && isZero (h .b)) (λ u. u) (λ u. u)
     where
-      resettle : T (not (isZero (h .a) && isZero (h .b))) → (f : Found) → Outcome-of-scan S (facing side h) f → Restarted t S′ (resettled S side (length S) h f)
-      resettle n found.Nothing away = absurd (T-not (isZero (h .a) && isZero (h .b)) n (and-both (isZero (h .a)) (isZero (h .b)) (zero-test a-zero) (zero-test (null .no-dx))))
+      resettle :
+          T (not (isZero (h .a) && isZero (h .b))) →
+          (f : Found) →
+          Outcome-of-scan S (facing side h) f →
+          Restarted t S′ (resettled S side (length S) h f)
+      resettle n found.Nothing away =
+          absurd (T-not (isZero (h .a) && isZero (h .b)) n
+          (and-both (isZero (h .a)) (isZero (h .b)) (zero-test a-zero) (zero-test (null .no-dx))))
         where
           null : Null (direction h)
           null = no-line S S′ h ext (tieOrder t) O falls away
@@ -106,10 +117,21 @@ module _ (t : Tie) (good : GoodTie t) (S : List Constraint) (h : Constraint) (s 
           zero-test : {z : ℤ} → z ≡ pos 0 → T (isZero z)
           zero-test e = subst (λ z. T (isZero z)) (sym e) tt
       resettle n (found.At j k q) (tight, e, a) =
-          subst (λ z. Restarted t S′ (checked side (length S) h j k z (firstBroken z 0 S))) (sym e) (checked-sound j k tight a (firstBroken (meet k (facing side h)) 0 S) (check-finds S (meet k (facing side h))))
+          subst (λ z. Restarted t S′ (checked side (length S) h j k z (firstBroken z 0 S))) (sym e)
+          (checked-sound j k tight a (firstBroken (meet k (facing side h)) 0 S) (check-finds S (meet k (facing side h))))
 
-      go : (b : Bool) → (T b → T (isZero (h .a) && isZero (h .b))) → (T (not b) → T (not (isZero (h .a) && isZero (h .b)))) → Restarted t S′ (elim b [ true ↦ Failed (alone (length S)) | false ↦ resettled S side (length S) h (tightest (facing side h) 0 S found.Nothing) ])
+      go :
+          (b : Bool) →
+          (T b → T (isZero (h .a) && isZero (h .b))) →
+          (T (not b) → T (not (isZero (h .a) && isZero (h .b)))) →
+          Restarted t S′ (elim b [
+            | true ↦ Failed (alone (length S))
+            | false ↦ resettled S side (length S) h
+                (tightest (facing side h) 0 S found.Nothing)
+          ])
       go true y n =
-          alone-certified S h (is-zero (h .a) (and-left (isZero (h .a)) (isZero (h .b)) (y tt))) (is-zero (h .b) (and-right (isZero (h .a)) (isZero (h .b)) (y tt)))
-          (negative (is-zero (h .a) (and-left (isZero (h .a)) (isZero (h .b)) (y tt))) (is-zero (h .b) (and-right (isZero (h .a)) (isZero (h .b)) (y tt))))
+          alone-certified S h (is-zero (h .a) (and-left (isZero (h .a)) (isZero (h .b)) (y tt)))
+          (is-zero (h .b) (and-right (isZero (h .a)) (isZero (h .b)) (y tt)))
+          (negative (is-zero (h .a) (and-left (isZero (h .a)) (isZero (h .b)) (y tt)))
+          (is-zero (h .b) (and-right (isZero (h .a)) (isZero (h .b)) (y tt))))
       go false y n = resettle (n tt) (tightest (facing side h) 0 S found.Nothing) (scan-finds S (facing side h))

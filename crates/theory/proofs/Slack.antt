@@ -1,5 +1,5 @@
--- Slack as an amount: its sign says whether a rule is kept, it is zero exactly on the rule's line, and it is in lowest terms. At a best pair none is below
--- zero. A rule multiplied by a positive whole number has its slack multiplied.
+-- Slack as an amount: its sign says whether a rule is kept, it is zero exactly on the rule's line, and it is in lowest terms. At a best
+-- pair none is below zero. A rule multiplied by a positive whole number has its slack multiplied.
 use mathlib.Core.Path.{_≡_, refl, sym, _∙_, ap, subst}
 use mathlib.Core.List.{List, List·Memᴰ, List·Memᴰ·tail}
 use mathlib.Core.Logic.{_⊎_, ⊎-elim, _↔_}
@@ -113,7 +113,11 @@ module _ (r : Constraint) (v : Point) (h : pos 0 <ᶻ v .d) where
   slack-reduced = lowest-reduced (slack r v) (v .d) h
 
   -- k times the rule has k times the slack
-  pub slack-multiple : (k : ℤ) → pos 0 <ᶻ k → slackOf (constraint (k *ℤ r .a) (k *ℤ r .b) (k *ℤ r .c)) v .numerator *ℤ slackOf r v .denominator ≡ k *ℤ slackOf r v .numerator *ℤ slackOf (constraint (k *ℤ r .a) (k *ℤ r .b) (k *ℤ r .c)) v .denominator
+  pub slack-multiple :
+      (k : ℤ) →
+      pos 0 <ᶻ k →
+      slackOf (constraint (k *ℤ r .a) (k *ℤ r .b) (k *ℤ r .c)) v .numerator *ℤ slackOf r v .denominator
+      ≡ k *ℤ slackOf r v .numerator *ℤ slackOf (constraint (k *ℤ r .a) (k *ℤ r .b) (k *ℤ r .c)) v .denominator
   slack-multiple k p =
       mul-cancel h
       (ring 3 (λ d n e. d ⊗ (n ⊗ e) ≐ (n ⊗ d) ⊗ e) refl (v .d) (more .numerator) (here .denominator)
@@ -132,11 +136,14 @@ module _ (r : Constraint) (v : Point) (h : pos 0 <ᶻ v .d) where
       here = slackOf r v
 
       grown : slack multiple v ≡ k *ℤ slack r v
-      grown = ring 7 (λ k a b c x y d. (k ⊗ c) ⊗ d ⊖ ((k ⊗ a) ⊗ x ⊕ (k ⊗ b) ⊗ y) ≐ k ⊗ (c ⊗ d ⊖ (a ⊗ x ⊕ b ⊗ y))) refl k (r .a) (r .b) (r .c) (v .x) (v .y) (v .d)
+      grown =
+          ring 7 (λ k a b c x y d. (k ⊗ c) ⊗ d ⊖ ((k ⊗ a) ⊗ x ⊕ (k ⊗ b) ⊗ y) ≐ k ⊗ (c ⊗ d ⊖ (a ⊗ x ⊕ b ⊗ y))) refl k (r .a) (r .b) (r .c)
+          (v .x) (v .y) (v .d)
 
 -- ---- a best pair
 
-module _ (t : Tie) (good : GoodTie t) (floors : Floors) (f : Functional) (rules : List Constraint) (v : Point) (e : defined.outcome t floors f rules ≡ outcome.Optimal v) where
+module _ (t : Tie) (good : GoodTie t) (floors : Floors) (f : Functional) (rules : List Constraint) (v : Point)
+    (e : defined.outcome t floors f rules ≡ outcome.Optimal v) where
   pub best-slacks : (r : Constraint) → List·Memᴰ r rules → pos 0 ≤ᶻ slackOf r v .numerator
   best-slacks r i =
       slack-kept r v (optimum-best t good floors f rules v e .feasible .proper) .1

@@ -18,15 +18,24 @@ use Rattle.theory.proofs.Cone.{Forward}
 not-both-zero : (d : Ray) → Forward d → d .dx ≡ pos 0 → d .dy ≡ pos 0 → ⊥
 not-both-zero d h a b = clashℤ (h .size) (le-of-eq (ap₂ (λ s t. s +ℤ t) a b))
 
-pub same-slope : (d e : Ray) → Forward d → Forward e → pos 0 ≤ᶻ cross d e → pos 0 ≤ᶻ cross e d → reduceRay d ≡ reduceRay e
+pub same-slope :
+    (d e : Ray) →
+    Forward d →
+    Forward e →
+    pos 0 ≤ᶻ cross d e →
+    pos 0 ≤ᶻ cross e d →
+    reduceRay d ≡ reduceRay e
 same-slope d e p q not-steeper not-flatter = ray-path (agree .first) (agree .second)
   where
     level : cross d e ≡ pos 0
     level =
         antisymmetric (nn-neg (nn-by (R ∷ R ∷ []) (λ d e. ⊝ crossᵖ d e ≐ crossᵖ e d) refl d e not-flatter)) not-steeper
 
-    agree : SamePair (quotZ (d .dx) (pos (gcd2 (d .dx) (d .dy)))) (quotZ (d .dy) (pos (gcd2 (d .dx) (d .dy)))) (quotZ (e .dx) (pos (gcd2 (e .dx) (e .dy)))) (quotZ (e .dy) (pos (gcd2 (e .dx) (e .dy))))
+    agree :
+        SamePair (quotZ (d .dx) (pos (gcd2 (d .dx) (d .dy)))) (quotZ (d .dy) (pos (gcd2 (d .dx) (d .dy))))
+        (quotZ (e .dx) (pos (gcd2 (e .dx) (e .dy)))) (quotZ (e .dy) (pos (gcd2 (e .dx) (e .dy))))
     agree =
         reduce2-same (d .dx) (d .dy) (e .dx) (e .dy) (p .nn-dx) (p .nn-dy) (q .nn-dx) (q .nn-dy)
-        (equal (R ∷ R ∷ []) (λ d e. d .dx ⊗ e .dy ≐ e .dx ⊗ d .dy ⊕ crossᵖ d e) refl d e ∙ ap (λ z. e .dx *ℤ d .dy +ℤ z) level ∙ +ℤ-idr (e .dx *ℤ d .dy))
+        (equal (R ∷ R ∷ []) (λ d e. d .dx ⊗ e .dy ≐ e .dx ⊗ d .dy ⊕ crossᵖ d e) refl d e ∙ ap (λ z. e .dx *ℤ d .dy +ℤ z) level
+        ∙ +ℤ-idr (e .dx *ℤ d .dy))
         (gcd2-pos (d .dx) (d .dy) (not-both-zero d p)) (gcd2-pos (e .dx) (e .dy) (not-both-zero e q))

@@ -1,5 +1,5 @@
--- The ring solver of `ints` over the data of a linear program: identities are written with constraints, points, rays and functionals for variables,
--- `equal (C ∷ C ∷ P ∷ []) (λ r s v. left ≐ right) refl r s v`, and `nn-by`, `pos-by`, `clash-by` carry signs along them.
+-- The ring solver of `ints` over the data of a linear program: identities are written with constraints, points, rays and functionals for
+-- variables, `equal (C ∷ C ∷ P ∷ []) (λ r s v. left ≐ right) refl r s v`, and `nn-by`, `pos-by`, `clash-by` carry signs along them.
 use mathlib.Core.Path.{_≡_, sym, subst}
 use mathlib.Core.List.{List, [], _∷_}
 use Prim.Native.Nat.{ℕ, zero, suc}
@@ -130,12 +130,16 @@ module _ (ks : List Kind) (f : Fun ks Sides) where
       for-all ks (λ ρ. eval ρ (sides .left) ≡ eval ρ (sides .right)) (λ ρ. ring-sound ρ (sides .left) (sides .right) e) []
 
   -- the left side is not negative since the right one is not
-  pub nn-by : normal (sides .left) ≡ normal (sides .right) → ForAll ks (λ ρ. pos 0 ≤ᶻ eval ρ (sides .right) → pos 0 ≤ᶻ eval ρ (sides .left)) []
+  pub nn-by :
+      normal (sides .left) ≡ normal (sides .right) →
+      ForAll ks (λ ρ. pos 0 ≤ᶻ eval ρ (sides .right) → pos 0 ≤ᶻ eval ρ (sides .left)) []
   nn-by e =
       for-all ks (λ ρ. pos 0 ≤ᶻ eval ρ (sides .right) → pos 0 ≤ᶻ eval ρ (sides .left))
       (λ ρ h. subst (λ z. pos 0 ≤ᶻ z) (sym (ring-sound ρ (sides .left) (sides .right) e)) h) []
 
-  pub pos-by : normal (sides .left) ≡ normal (sides .right) → ForAll ks (λ ρ. pos 0 <ᶻ eval ρ (sides .right) → pos 0 <ᶻ eval ρ (sides .left)) []
+  pub pos-by :
+      normal (sides .left) ≡ normal (sides .right) →
+      ForAll ks (λ ρ. pos 0 <ᶻ eval ρ (sides .right) → pos 0 <ᶻ eval ρ (sides .left)) []
   pos-by e =
       for-all ks (λ ρ. pos 0 <ᶻ eval ρ (sides .right) → pos 0 <ᶻ eval ρ (sides .left))
       (λ ρ h. subst (λ z. pos 0 <ᶻ z) (sym (ring-sound ρ (sides .left) (sides .right) e)) h) []

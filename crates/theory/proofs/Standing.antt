@@ -1,5 +1,6 @@
--- What the walk holds after each prefix, while feasible points are left: the start point is the peak of the tie's order, the cone spans the rays, and the
--- optimum is the peak of the gains' order, or some ray gains. One more constraint keeps that so, or yields a certificate.
+-- What the walk holds after each prefix, while feasible points are left: the start point is the peak of the tie's order, the cone spans
+-- the rays, and the optimum is the peak of the gains' order, or some ray gains. One more constraint keeps that so, or yields a
+-- certificate.
 use mathlib.Core.Path.{_≡_, refl, subst}
 use mathlib.Core.List.{List, [], _∷_, _++_}
 use mathlib.Core.Bool.{Bool, true, false, not}
@@ -45,10 +46,23 @@ pub record Standing (t : Tie) (f : Functional) (S : List Constraint) (s : Point)
   pub optimum : BestStands t f S cone b
 
 -- what the gaining ray says, at each of its two values
-pub gains-along : (S : List Constraint) (f : Functional) (cone : Cone) → Quadrant S → Spans S cone → (d : Ray) → gaining f cone ≡ gain.Along d → Flattest S f d
+pub gains-along :
+    (S : List Constraint) (f : Functional) (cone : Cone) →
+    Quadrant S →
+    Spans S cone →
+    (d : Ray) →
+    gaining f cone ≡ gain.Along d →
+    Flattest S f d
 gains-along S f cone q s d e = subst (Gains S f) e (gaining-gains S f q cone s)
 
-pub gains-nowhere : (S : List Constraint) (f : Functional) (cone : Cone) → Quadrant S → Spans S cone → gaining f cone ≡ gain.Nowhere → (d : Ray) → Recedes S d → along f d ≤ᶻ pos 0
+pub gains-nowhere :
+    (S : List Constraint) (f : Functional) (cone : Cone) →
+    Quadrant S →
+    Spans S cone →
+    gaining f cone ≡ gain.Nowhere →
+    (d : Ray) →
+    Recedes S d →
+    along f d ≤ᶻ pos 0
 gains-nowhere S f cone q s e = subst (Gains S f) e (gaining-gains S f q cone s)
 
 -- ---- a ray as a point with denominator 0
@@ -68,12 +82,14 @@ module _ (S : List Constraint) (f : Functional) (t : Tie) (d : Ray) where
   far-greatest : pos 0 <ᶻ along f d → Greatest (Up (gainOrder f t)) S far
   far-greatest g w h =
       inl
-      (pos-by (F ∷ P ∷ R ∷ []) (λ f w d. f .p ⊗ (d .dx ⊗ w .d ⊖ w .x ⊗ con (pos 0)) ⊕ f .q ⊗ (d .dy ⊗ w .d ⊖ w .y ⊗ con (pos 0)) ≐ w .d ⊗ alongᵖ f d) refl f w d
+      (pos-by (F ∷ P ∷ R ∷ []) (λ f w d. f .p ⊗ (d .dx ⊗ w .d ⊖ w .x ⊗ con (pos 0)) ⊕ f .q ⊗ (d .dy ⊗ w .d ⊖ w .y ⊗ con (pos 0))
+      ≐ w .d ⊗ alongᵖ f d) refl f w d
       (pos-mul (h .proper) g))
 
 -- ---- one more constraint
 
-module _ (t : Tie) (good : GoodTie t) (f : Functional) (S : List Constraint) (h : Constraint) (s : Point) (cone : Cone) (b : Best) (standing : Standing t f S s cone b) where
+module _ (t : Tie) (good : GoodTie t) (f : Functional) (S : List Constraint) (h : Constraint) (s : Point) (cone : Cone) (b : Best)
+    (standing : Standing t f S s cone b) where
   abbrev S′ : List Constraint
   S′ = S ++ (h ∷ [])
 
@@ -103,16 +119,26 @@ module _ (t : Tie) (good : GoodTie t) (f : Functional) (S : List Constraint) (h 
   pub start-step : Restarted t S′ (elim (keeps h s) [ true ↦ Moved s | false ↦ restart t S (length S) h ])
   start-step = go (keeps h s) (λ u. leZ-yes u) (λ u. leZ-no u)
     where
-      go : (k : Bool) → (T k → Keeps h s) → (T (not k) → slack h s <ᶻ pos 0) → Restarted t S′ (elim k [ true ↦ Moved s | false ↦ restart t S (length S) h ])
+      go :
+          (k : Bool) →
+          (T k → Keeps h s) →
+          (T (not k) → slack h s <ᶻ pos 0) →
+          Restarted t S′ (elim k [ true ↦ Moved s | false ↦ restart t S (length S) h ])
       go true y n = peak-stays S S′ h ext (Up (tieOrder t)) s (standing .start) (y tt)
       go false y n = restart-sound t good S h s (standing .start) (n tt) tie-falls′
 
   -- with a feasible point of the longer system at hand, the optimum follows
   module _ (s′ : Point) (start′ : Peak (Up (tieOrder t)) S′ s′) where
     -- from unbounded to optimal: the old gaining ray is cut off by h
-    closing : (d : Ray) → gaining f cone ≡ gain.Along d → gaining f cone′ ≡ gain.Nowhere → Peak (Up (gainOrder f t)) S′ (tightestPoint (gainOrder f t) S h)
+    closing :
+        (d : Ray) →
+        gaining f cone ≡ gain.Along d →
+        gaining f cone′ ≡ gain.Nowhere →
+        Peak (Up (gainOrder f t)) S′ (tightestPoint (gainOrder f t) S h)
     closing d e e′ =
-        peak-moves S S′ h ext (gainOrder f t) (gain-upward t good f) (far S f t d) (nn-nat 0) (λ r i. far-keeps S f t d r (flat .recedes r i)) (far-greatest S f t d (flat .gains)) (far-breaks S f t d h cut) (gain-falls′ e′) s′ (start′ .feasible)
+        peak-moves S S′ h ext (gainOrder f t) (gain-upward t good f) (far S f t d) (nn-nat 0)
+        (λ r i. far-keeps S f t d r (flat .recedes r i)) (far-greatest S f t d (flat .gains)) (far-breaks S f t d h cut) (gain-falls′ e′)
+        s′ (start′ .feasible)
       where
         flat : Flattest S f d
         flat = gains-along S f cone (standing .quadrant) (standing .spans) d e
@@ -122,10 +148,16 @@ module _ (t : Tie) (good : GoodTie t) (f : Functional) (S : List Constraint) (h 
           where
             go : (rise h d ≤ᶻ pos 0) ⊎ (pos 0 <ᶻ rise h d) → pos 0 <ᶻ rise h d
             go (inl z) =
-                clashℤ (flat .gains) (gains-nowhere S′ f cone′ quadrant′ spans′ e′ d (for-extended S S′ h ext (λ r. rise r d ≤ᶻ pos 0) (flat .recedes) z))
+                clashℤ (flat .gains) (gains-nowhere S′ f cone′ quadrant′ spans′ e′ d
+                (for-extended S S′ h ext (λ r. rise r d ≤ᶻ pos 0) (flat .recedes) z))
             go (inr p) = p
 
-    open-step : (d : Ray) → gaining f cone ≡ gain.Along d → (g : Gain) → gaining f cone′ ≡ g → BestStands t f S′ cone′ (reopened (gainOrder f t) S h g)
+    open-step :
+        (d : Ray) →
+        gaining f cone ≡ gain.Along d →
+        (g : Gain) →
+        gaining f cone′ ≡ g →
+        BestStands t f S′ cone′ (reopened (gainOrder f t) S h g)
     open-step d e (gain.Along d′) e′ = (d′, e′)
     open-step d e gain.Nowhere e′ = (closing d e e′, e′)
 
@@ -138,16 +170,25 @@ module _ (t : Tie) (good : GoodTie t) (f : Functional) (S : List Constraint) (h 
         flat = gains-along S′ f cone′ quadrant′ spans′ d e′
     still-nowhere e gain.Nowhere e′ = e′
 
-    bounded-step : (v : Point) → Peak (Up (gainOrder f t)) S v → gaining f cone ≡ gain.Nowhere → BestStands t f S′ cone′ (elim (keeps h v) [ true ↦ best.At v | false ↦ best.At (tightestPoint (gainOrder f t) S h) ])
+    bounded-step :
+        (v : Point) →
+        Peak (Up (gainOrder f t)) S v →
+        gaining f cone ≡ gain.Nowhere →
+        BestStands t f S′ cone′ (elim (keeps h v) [ true ↦ best.At v | false ↦ best.At (tightestPoint (gainOrder f t) S h) ])
     bounded-step v peak e = go (keeps h v) (λ u. leZ-yes u) (λ u. leZ-no u)
       where
         nowhere : gaining f cone′ ≡ gain.Nowhere
         nowhere = still-nowhere e (gaining f cone′) refl
 
-        go : (k : Bool) → (T k → Keeps h v) → (T (not k) → slack h v <ᶻ pos 0) → BestStands t f S′ cone′ (elim k [ true ↦ best.At v | false ↦ best.At (tightestPoint (gainOrder f t) S h) ])
+        go :
+            (k : Bool) →
+            (T k → Keeps h v) →
+            (T (not k) → slack h v <ᶻ pos 0) →
+            BestStands t f S′ cone′ (elim k [ true ↦ best.At v | false ↦ best.At (tightestPoint (gainOrder f t) S h) ])
         go true y n = (peak-stays S S′ h ext (Up (gainOrder f t)) v peak (y tt), nowhere)
         go false y n = (
-          peak-moves S S′ h ext (gainOrder f t) (gain-upward t good f) v (pos-nn (peak .feasible .proper)) (peak .feasible .kept) (peak .greatest) (n tt) (gain-falls′ nowhere) s′ (start′ .feasible),
+          peak-moves S S′ h ext (gainOrder f t) (gain-upward t good f) v (pos-nn (peak .feasible .proper)) (peak .feasible .kept)
+              (peak .greatest) (n tt) (gain-falls′ nowhere) s′ (start′ .feasible),
           nowhere,
         )
 

@@ -1,5 +1,6 @@
--- The step of the incremental method (the lemma on the optimal vertex of source documents 001 and 002): v is the greatest point of S and breaks h,
--- so the greatest point of S and h is the tightest point on the line of h. v may be a ray, which is how an unbounded system becomes bounded.
+-- The step of the incremental method (the lemma on the optimal vertex of source documents 001 and 002): v is the greatest point of S and
+-- breaks h, so the greatest point of S and h is the tightest point on the line of h. v may be a ray, which is how an unbounded system
+-- becomes bounded.
 use mathlib.Core.Path.{_≡_}
 use mathlib.Core.List.{List, List·Memᴰ}
 use mathlib.Core.Logic.{_⊎_, inl, inr}
@@ -23,7 +24,9 @@ pub record Tight (S : List Constraint) (l k : Constraint) : Type 0 where
   pub crosses : pos 0 <ᶻ det k l
   pub tightest : (m : Constraint) → List·Memᴰ m S → pos 0 <ᶻ det m l → Keeps m (meet k l)
 
-module _ (Up : Ray → Type 0) (O : Upward Up) (S : List Constraint) (h : Constraint) (v : Point) (v-proper : pos 0 ≤ᶻ v .d) (v-keeps : (r : Constraint) → List·Memᴰ r S → Keeps r v) (v-greatest : Greatest Up S v) (v-breaks : slack h v <ᶻ pos 0) (side : Bool) (k : Constraint) (up : Up (direction (facing side h))) (tight : Tight S (facing side h) k) where
+module _ (Up : Ray → Type 0) (O : Upward Up) (S : List Constraint) (h : Constraint) (v : Point) (v-proper : pos 0 ≤ᶻ v .d)
+    (v-keeps : (r : Constraint) → List·Memᴰ r S → Keeps r v) (v-greatest : Greatest Up S v) (v-breaks : slack h v <ᶻ pos 0) (side : Bool)
+    (k : Constraint) (up : Up (direction (facing side h))) (tight : Tight S (facing side h) k) where
   abbrev l : Constraint
   l = facing side h
 

@@ -1,4 +1,5 @@
--- The theorems that docs/PROMISES.md cites, for every tie that serves, every floors, objective and list of constraints, over integers of any size.
+-- The theorems that docs/PROMISES.md cites, for every tie that serves, every floors, objective and list of constraints, over integers of
+-- any size.
 use mathlib.Core.Path.{_≡_, refl, sym, _∙_, ap, ap₂, subst}
 use mathlib.Core.List.{List, [], _∷_, _++_, append-nil, append-assoc, Memᴰ·append-left}
 use mathlib.Core.Bool.{Bool, true, false, true≢false}
@@ -78,7 +79,12 @@ module _ (t : Tie) (good : GoodTie t) (floors : Floors) (f : Functional) where
     S = system floors rules
 
     -- what the defined outcome is, with what it means
-    by-outcome : {Q : Type 0} → (planned rules ≡ outcome.Infeasible → Infeasible S → Q) → ((s : Point) (d : Ray) → planned rules ≡ outcome.Unbounded s d → Unbounded S f → Q) → ((v : Point) → planned rules ≡ outcome.Optimal v → Bounded S f → Q) → Q
+    by-outcome :
+        {Q : Type 0} →
+        (planned rules ≡ outcome.Infeasible → Infeasible S → Q) →
+        ((s : Point) (d : Ray) → planned rules ≡ outcome.Unbounded s d → Unbounded S f → Q) →
+        ((v : Point) → planned rules ≡ outcome.Optimal v → Bounded S f → Q) →
+        Q
     by-outcome {Q} i u b = go (planned rules) refl (outcome-means t good floors f rules)
       where
         go : (o : Outcome) → planned rules ≡ o → Means t f S o → Q
@@ -89,19 +95,22 @@ module _ (t : Tie) (good : GoodTie t) (floors : Floors) (f : Functional) where
     pub infeasible-exactly : (planned rules ≡ outcome.Infeasible) ↔ Infeasible S
     infeasible-exactly = (
       (λ e. subst (Means t f S) e (outcome-means t good floors f rules)),
-      (λ none. by-outcome (λ e m. e) (λ s d e m. absurd (none (m .possible .0) (m .possible .1))) (λ v e m. absurd (none (m .possible .0) (m .possible .1)))),
+      (λ none. by-outcome (λ e m. e) (λ s d e m. absurd (none (m .possible .0) (m .possible .1)))
+          (λ v e m. absurd (none (m .possible .0) (m .possible .1)))),
     )
 
     pub unbounded-exactly : ((s : Point) × (d : Ray) × (planned rules ≡ outcome.Unbounded s d)) ↔ Unbounded S f
     unbounded-exactly = (
       (λ x. means-unbounded S (x .0) (x .1) (subst (Means t f S) (x .2) (outcome-means t good floors f rules))),
-      (λ u. by-outcome (λ e none. absurd (none (u .possible .0) (u .possible .1))) (λ s d e m. (s, d, e)) (λ v e m. absurd (top-or-not S f (u .no-top) (m .top)))),
+      (λ u. by-outcome (λ e none. absurd (none (u .possible .0) (u .possible .1))) (λ s d e m. (s, d, e))
+          (λ v e m. absurd (top-or-not S f (u .no-top) (m .top)))),
     )
 
     pub optimal-exactly : ((v : Point) × (planned rules ≡ outcome.Optimal v)) ↔ Bounded S f
     optimal-exactly = (
       (λ x. means-bounded S (x .0) (subst (Means t f S) (x .1) (outcome-means t good floors f rules))),
-      (λ b. by-outcome (λ e none. absurd (none (b .possible .0) (b .possible .1))) (λ s d e m. absurd (top-or-not S f (m .no-top) (b .top))) (λ v e m. (v, e))),
+      (λ b. by-outcome (λ e none. absurd (none (b .possible .0) (b .possible .1)))
+          (λ s d e m. absurd (top-or-not S f (m .no-top) (b .top))) (λ v e m. (v, e))),
     )
 
     -- gains that do not lack a top have one
@@ -115,7 +124,11 @@ module _ (t : Tie) (good : GoodTie t) (floors : Floors) (f : Functional) where
     pub record BestPoint (v : Point) : Type 0 where
       pub feasible : Feasible S v
       pub no-more : (w : Point) → Feasible S w → gain f w *ℤ v .d ≤ᶻ gain f v *ℤ w .d
-      pub tie-first : (w : Point) → Feasible S w → gain f w *ℤ v .d ≡ gain f v *ℤ w .d → AtMost (Up (tieOrder t)) w v
+      pub tie-first :
+          (w : Point) →
+          Feasible S w →
+          gain f w *ℤ v .d ≡ gain f v *ℤ w .d →
+          AtMost (Up (tieOrder t)) w v
       pub reduced : LowestTerms v
 
     pub optimum-best : (v : Point) → planned rules ≡ outcome.Optimal v → BestPoint v
@@ -133,7 +146,8 @@ module _ (t : Tie) (good : GoodTie t) (floors : Floors) (f : Functional) where
         tied : (w : Point) → gain f w *ℤ v .d ≡ gain f v *ℤ w .d → Up (gainOrder f t) (between w v) → AtMost (Up (tieOrder t)) w v
         tied w q (inl more) =
             clashℤ more
-            (le-of-eq (equal (F ∷ P ∷ P ∷ []) (λ f v w. alongᵖ f (betweenᵖ w v) ≐ gainᵖ f v ⊗ w .d ⊖ gainᵖ f w ⊗ v .d) refl f v w ∙ ap (λ z. gain f v *ℤ w .d -ℤ z) q ∙ +ℤ-invr (gain f v *ℤ w .d)))
+            (le-of-eq (equal (F ∷ P ∷ P ∷ []) (λ f v w. alongᵖ f (betweenᵖ w v) ≐ gainᵖ f v ⊗ w .d ⊖ gainᵖ f w ⊗ v .d) refl f v w
+            ∙ ap (λ z. gain f v *ℤ w .d -ℤ z) q ∙ +ℤ-invr (gain f v *ℤ w .d)))
         tied w q (inr h) = h .1
 
     -- the start point is feasible and first by the tie, and reduced
@@ -142,7 +156,8 @@ module _ (t : Tie) (good : GoodTie t) (floors : Floors) (f : Functional) where
       pub first : (w : Point) → Feasible S w → AtMost (Up (tieOrder t)) w s
       pub reduced : LowestTerms s
 
-    -- the ray is lawful, it is one of document 01's candidates divided by its greatest common divisor, and no lawful candidate has a smaller slope
+    -- the ray is lawful, it is one of document 01's candidates divided by its greatest common divisor, and no lawful candidate has a
+    -- smaller slope
     pub record FlattestRay (d : Ray) : Type 0 where
       pub lawful-ray : T (lawful S f d)
       pub from-candidate : (e : Ray) × Candidate S e × T (lawful S f e) × (d ≡ reduceRay e)
@@ -162,7 +177,11 @@ module _ (t : Tie) (good : GoodTie t) (floors : Floors) (f : Functional) where
         (record {
           lawful-ray = lawful-of S f low (λ r i. recedes r (flat .recedes r i)) gains;
           from-candidate = (ρ, flat .candidate, lawful-of S f ρ (flat .recedes) (flat .gains), refl);
-          flattest = λ e c l. nn-cancel g-positive (nn-by (Z ∷ R ∷ R ∷ []) (λ g d e. g ⊗ crossᵖ d e ≐ g ⊗ d .dx ⊗ e .dy ⊖ g ⊗ d .dy ⊗ e .dx) refl g low e (subst (λ z. pos 0 ≤ᶻ z .dx *ℤ e .dy -ℤ z .dy *ℤ e .dx) (sym whole) (flat .flattest e (lawful-recedes S f e l) c (lawful-gains S f e l))));
+          flattest =
+              λ e c l. nn-cancel g-positive
+              (nn-by (Z ∷ R ∷ R ∷ []) (λ g d e. g ⊗ crossᵖ d e ≐ g ⊗ d .dx ⊗ e .dy ⊖ g ⊗ d .dy ⊗ e .dx) refl g low e
+              (subst (λ z. pos 0 ≤ᶻ z .dx *ℤ e .dy -ℤ z .dy *ℤ e .dx) (sym whole)
+              (flat .flattest e (lawful-recedes S f e l) c (lawful-gains S f e l))));
           divided = reduce2-reduced (ρ .dx) (ρ .dy) g-pos;
         })
       where
@@ -192,28 +211,42 @@ module _ (t : Tie) (good : GoodTie t) (floors : Floors) (f : Functional) where
 
         recedes : (r : Constraint) → rise r ρ ≤ᶻ pos 0 → rise r low ≤ᶻ pos 0
         recedes r h =
-            nn-neg (nn-cancel g-positive (nn-by (Z ∷ C ∷ R ∷ []) (λ g r d. g ⊗ ⊝ riseᵖ r d ≐ ⊝ (r .a ⊗ (g ⊗ d .dx) ⊕ r .b ⊗ (g ⊗ d .dy))) refl g r low (neg-nn (subst (λ z. rise r z ≤ᶻ pos 0) (sym whole) h))))
+            nn-neg (nn-cancel g-positive
+            (nn-by (Z ∷ C ∷ R ∷ []) (λ g r d. g ⊗ ⊝ riseᵖ r d ≐ ⊝ (r .a ⊗ (g ⊗ d .dx) ⊕ r .b ⊗ (g ⊗ d .dy))) refl g r low
+            (neg-nn (subst (λ z. rise r z ≤ᶻ pos 0) (sym whole) h))))
 
         gains : pos 0 <ᶻ along f low
         gains =
-            pos-cancel g-positive (pos-by (Z ∷ F ∷ R ∷ []) (λ g f d. g ⊗ alongᵖ f d ≐ f .p ⊗ (g ⊗ d .dx) ⊕ f .q ⊗ (g ⊗ d .dy)) refl g f low (subst (λ z. pos 0 <ᶻ along f z) (sym whole) (flat .gains)))
+            pos-cancel g-positive (pos-by (Z ∷ F ∷ R ∷ []) (λ g f d. g ⊗ alongᵖ f d ≐ f .p ⊗ (g ⊗ d .dx) ⊕ f .q ⊗ (g ⊗ d .dy)) refl g f
+            low (subst (λ z. pos 0 <ᶻ along f z) (sym whole) (flat .gains)))
 
   -- ---- 3. the place, and its certificate
 
   -- before the place no prefix is infeasible
-  before-place : (done mid rest : List Constraint) → length done + length mid < placeFrom t floors f done (mid ++ rest) → isInfeasible (planned (done ++ mid)) ≡ false
-  before-place done [] rest h = subst (λ l. isInfeasible (planned l) ≡ false) (sym (append-nil done)) (go (isInfeasible (planned done)) refl rest h)
+  before-place :
+      (done mid rest : List Constraint) →
+      length done + length mid < placeFrom t floors f done (mid ++ rest) →
+      isInfeasible (planned (done ++ mid)) ≡ false
+  before-place done [] rest h =
+      subst (λ l. isInfeasible (planned l) ≡ false) (sym (append-nil done)) (go (isInfeasible (planned done)) refl rest h)
     where
       not-here : length done + 0 < length done → ⊥
       not-here k = omega arith
 
-      go : (b : Bool) → isInfeasible (planned done) ≡ b → (rest : List Constraint) → length done + 0 < placeFrom t floors f done rest → isInfeasible (planned done) ≡ false
+      go :
+          (b : Bool) →
+          isInfeasible (planned done) ≡ b →
+          (rest : List Constraint) →
+          length done + 0 < placeFrom t floors f done rest →
+          isInfeasible (planned done) ≡ false
       go false e rest k = e
       go true e [] k = absurd (not-here (subst (λ n. length done + 0 < n) (ap (λ b. elim b [ true ↦ length done | false ↦ 0 ]) e) k))
       go true e (x ∷ rest) k =
-          absurd (not-here (subst (λ n. length done + 0 < n) (ap (λ b. elim b [ true ↦ length done | false ↦ placeFrom t floors f (done ++ (x ∷ [])) rest ]) e) k))
+          absurd (not-here (subst (λ n. length done + 0 < n)
+          (ap (λ b. elim b [ true ↦ length done | false ↦ placeFrom t floors f (done ++ (x ∷ [])) rest ]) e) k))
   before-place done (x ∷ mid) rest h =
-      subst (λ l. isInfeasible (planned l) ≡ false) (append-assoc done (x ∷ []) mid) (before-place (done ++ (x ∷ [])) mid rest (go (isInfeasible (planned done)) refl h))
+      subst (λ l. isInfeasible (planned l) ≡ false) (append-assoc done (x ∷ []) mid)
+      (before-place (done ++ (x ∷ [])) mid rest (go (isInfeasible (planned done)) refl h))
     where
       later : length done + suc (length mid) < length done → ⊥
       later k = omega arith
@@ -221,11 +254,18 @@ module _ (t : Tie) (good : GoodTie t) (floors : Floors) (f : Functional) where
       shift : (n : ℕ) → length done + suc (length mid) < n → length (done ++ (x ∷ [])) + length mid < n
       shift n k = omega (arith, length-append done (x ∷ []))
 
-      go : (b : Bool) → isInfeasible (planned done) ≡ b → length done + suc (length mid) < placeFrom t floors f done (x ∷ (mid ++ rest)) → length (done ++ (x ∷ [])) + length mid < placeFrom t floors f (done ++ (x ∷ [])) (mid ++ rest)
+      go :
+          (b : Bool) →
+          isInfeasible (planned done) ≡ b →
+          length done + suc (length mid) < placeFrom t floors f done (x ∷ (mid ++ rest)) →
+          length (done ++ (x ∷ [])) + length mid < placeFrom t floors f (done ++ (x ∷ [])) (mid ++ rest)
       go true e k =
-          absurd (later (subst (λ n. length done + suc (length mid) < n) (ap (λ b. elim b [ true ↦ length done | false ↦ placeFrom t floors f (done ++ (x ∷ [])) (mid ++ rest) ]) e) k))
+          absurd (later (subst (λ n. length done + suc (length mid) < n)
+          (ap (λ b. elim b [ true ↦ length done | false ↦ placeFrom t floors f (done ++ (x ∷ [])) (mid ++ rest) ]) e) k))
       go false e k =
-          shift (placeFrom t floors f (done ++ (x ∷ [])) (mid ++ rest)) (subst (λ n. length done + suc (length mid) < n) (ap (λ b. elim b [ true ↦ length done | false ↦ placeFrom t floors f (done ++ (x ∷ [])) (mid ++ rest) ]) e) k)
+          shift (placeFrom t floors f (done ++ (x ∷ [])) (mid ++ rest))
+          (subst (λ n. length done + suc (length mid) < n)
+          (ap (λ b. elim b [ true ↦ length done | false ↦ placeFrom t floors f (done ++ (x ∷ [])) (mid ++ rest) ]) e) k)
 
   possible-of : (l : List Constraint) → isInfeasible (planned l) ≡ false → Possible (system floors l)
   possible-of l e =
@@ -239,7 +279,10 @@ module _ (t : Tie) (good : GoodTie t) (floors : Floors) (f : Functional) where
     pub witness : Certificate
     pub certified : Certified (system floors (take k rules)) witness
 
-  pub place-least : (rules : List Constraint) → Infeasible (system floors rules) → Placed rules (place t floors f rules)
+  pub place-least :
+      (rules : List Constraint) →
+      Infeasible (system floors rules) →
+      Placed rules (place t floors f rules)
   place-least rules none = go (walk t floors f rules .state) refl (walk-stands t good floors f rules .stands)
     where
       at-place : placeOf (walk t floors f rules .state) ≡ place t floors f rules
@@ -248,7 +291,9 @@ module _ (t : Tie) (good : GoodTie t) (floors : Floors) (f : Functional) where
       least : (j : ℕ) → j < place t floors f rules → j ≤ length rules → Possible (system floors (take j rules))
       least j h w =
           possible-of (take j rules)
-          (before-place [] (take j rules) (drop j rules) (subst (λ l. 0 + length (take j rules) < placeFrom t floors f [] l) (sym (take-append-drop j rules)) (shorter (length (take j rules)) (length-take j rules))))
+          (before-place [] (take j rules) (drop j rules)
+          (subst (λ l. 0 + length (take j rules) < placeFrom t floors f [] l) (sym (take-append-drop j rules))
+          (shorter (length (take j rules)) (length-take j rules))))
         where
           shorter : (n : ℕ) → n ≡ min j (length rules) → 0 + n < place t floors f rules
           shorter n e = omega arith
@@ -288,7 +333,10 @@ module _ (t : Tie) (good : GoodTie t) (floors : Floors) (f : Functional) where
   open-at-most rules = open-from [] rules
 
   -- after an infeasible prefix every longer one is infeasible
-  pub infeasible-persists : (done rest : List Constraint) → Infeasible (system floors done) → Infeasible (system floors (done ++ rest))
+  pub infeasible-persists :
+      (done rest : List Constraint) →
+      Infeasible (system floors done) →
+      Infeasible (system floors (done ++ rest))
   infeasible-persists done rest none v h =
       none v
       (record {
@@ -310,7 +358,9 @@ module _ (t : Tie) (good : GoodTie t) (floors : Floors) (f : Functional) where
         outcome-defined = state-says t good floors f rules (walk t floors f rules .state) (walk-stands t good floors f rules .stands);
         place-defined = walk-place t good floors f [] rules (begin floors f) _ _ _ refl (standing-at-first floors t good f);
         moves-defined = none (walk t floors f rules .moves) (movesFrom t floors f [] rules) (walk-stands t good floors f rules .moved);
-        open-defined = cancel (one-if (isUnbounded (planned []))) (walk t floors f rules .opened) (begin floors f .opened) (openFrom t floors f [] rules) opening (walk-stands t good floors f rules .opening);
+        open-defined =
+            cancel (one-if (isUnbounded (planned []))) (walk t floors f rules .opened) (begin floors f .opened)
+            (openFrom t floors f [] rules) opening (walk-stands t good floors f rules .opening);
       }
     where
       none : (m n : ℕ) → m ≡ 0 + n → m ≡ n
@@ -331,7 +381,9 @@ module _ (t : Tie) (good : GoodTie t) (floors : Floors) (f : Functional) where
       opening : begin floors f .opened ≡ one-if (isUnbounded (planned []))
       opening =
           first (one-if (isOpen corner-best))
-          ∙ ap one-if (sym (open-by-state t good floors f (system floors []) corner axes corner-best (standing-at-first floors t good f .optimum)) ∙ ap isUnbounded (state-says t good floors f [] (Going corner axes corner-best) (standing-at-first floors t good f)))
+          ∙ ap one-if (sym (open-by-state t good floors f (system floors []) corner axes corner-best
+          (standing-at-first floors t good f .optimum))
+          ∙ ap isUnbounded (state-says t good floors f [] (Going corner axes corner-best) (standing-at-first floors t good f)))
 
       cancel : (a m b n : ℕ) → b ≡ a → a + m ≡ b + n → m ≡ n
       cancel a m b n e q = omega arith

@@ -1,5 +1,5 @@
--- Ties that serve: the two functionals are independent, and the tie falls along every direction of the quadrant. Document 01's tie is such, and so is the
--- smaller total of request 107, whose determinant has the other sign.
+-- Ties that serve: the two functionals are independent, and the tie falls along every direction of the quadrant. Document 01's tie is
+-- such, and so is the smaller total of request 107, whose determinant has the other sign.
 use mathlib.Core.Path.{_≡_, refl, sym, _∙_, ap, ap₂, subst}
 use mathlib.Core.List.{[], _∷_}
 use mathlib.Core.Logic.{_⊎_, inl, inr}
@@ -8,7 +8,8 @@ use lib.Signed.{clashℤ, ltZ-yes}
 use Rattle.ints.specs.Order.{_≤ᶻ_, _<ᶻ_}
 use Rattle.ints.proofs.Laws.{neg-mul}
 use Rattle.ints.proofs.Ring.{_⊕_, _⊖_, _⊗_, ⊝_, _≐_, con}
-use Rattle.ints.proofs.Order.{Sign, minus, nought, plus, sign, pos-nat, pos-add-nn, nn-add-pos, nn-zero, neg-pos, pos-neg, le-or-lt, le-of-eq, zero-cancel}
+use Rattle.ints.proofs.Order.{Sign, minus, nought, plus, sign, pos-nat, pos-add-nn, nn-add-pos, nn-zero, neg-pos, pos-neg, le-or-lt}
+use Rattle.ints.proofs.Order.{le-of-eq, zero-cancel}
 use Rattle.lp.specs.declared.Functional.{Functional}
 use Rattle.lp.specs.declared.Ray.{Ray}
 use Rattle.lp.specs.declared.Tie.{Tie}
@@ -21,7 +22,12 @@ use Rattle.theory.proofs.Lexicographic.{Up, lexicographic, along-opposi
 
 pub record GoodTie (t : Tie) : Type 0 where
   pub independent : t .first .p *ℤ t .second .q -ℤ t .second .p *ℤ t .first .q ≡ pos 0 → ⊥
-  pub falls : (d : Ray) → pos 0 ≤ᶻ d .dx → pos 0 ≤ᶻ d .dy → (Null d → ⊥) → (along (t .first) d <ᶻ pos 0) ⊎ ((along (t .first) d ≡ pos 0) × (along (t .second) d <ᶻ pos 0))
+  pub falls :
+      (d : Ray) →
+      pos 0 ≤ᶻ d .dx →
+      pos 0 ≤ᶻ d .dy →
+      (Null d → ⊥) →
+      (along (t .first) d <ᶻ pos 0) ⊎ ((along (t .first) d ≡ pos 0) × (along (t .second) d <ᶻ pos 0))
 
 -- a factor other than 0 is cancelled
 no-factor : (k z : ℤ) → (k ≡ pos 0 → ⊥) → k *ℤ z ≡ pos 0 → z ≡ pos 0
@@ -36,8 +42,14 @@ module _ (t : Tie) (good : GoodTie t) where
   tie-level : (d : Ray) → along (t .first) d ≡ pos 0 → along (t .second) d ≡ pos 0 → Null d
   tie-level d p q =
       record {
-        no-dx = no-factor determinant (d .dx) (good .independent) (equal (F ∷ F ∷ R ∷ []) (λ f g d. (f .p ⊗ g .q ⊖ g .p ⊗ f .q) ⊗ d .dx ≐ alongᵖ f d ⊗ g .q ⊖ alongᵖ g d ⊗ f .q) refl (t .first) (t .second) d ∙ both (t .second .q) (t .first .q));
-        no-dy = no-factor determinant (d .dy) (good .independent) (equal (F ∷ F ∷ R ∷ []) (λ f g d. (f .p ⊗ g .q ⊖ g .p ⊗ f .q) ⊗ d .dy ≐ alongᵖ f d ⊗ ⊝ g .p ⊖ alongᵖ g d ⊗ ⊝ f .p) refl (t .first) (t .second) d ∙ both (negℤ (t .second .p)) (negℤ (t .first .p)));
+        no-dx =
+            no-factor determinant (d .dx) (good .independent)
+            (equal (F ∷ F ∷ R ∷ []) (λ f g d. (f .p ⊗ g .q ⊖ g .p ⊗ f .q) ⊗ d .dx
+            ≐ alongᵖ f d ⊗ g .q ⊖ alongᵖ g d ⊗ f .q) refl (t .first) (t .second) d ∙ both (t .second .q) (t .first .q));
+        no-dy =
+            no-factor determinant (d .dy) (good .independent)
+            (equal (F ∷ F ∷ R ∷ []) (λ f g d. (f .p ⊗ g .q ⊖ g .p ⊗ f .q) ⊗ d .dy
+            ≐ alongᵖ f d ⊗ ⊝ g .p ⊖ alongᵖ g d ⊗ ⊝ f .p) refl (t .first) (t .second) d ∙ both (negℤ (t .second .p)) (negℤ (t .first .p)));
       }
     where
       determinant : ℤ
@@ -70,11 +82,20 @@ module _ (t : Tie) (good : GoodTie t) where
 
       go : (d .dx +ℤ d .dy ≤ᶻ pos 0) ⊎ (pos 0 <ᶻ d .dx +ℤ d .dy) → Up (tieOrder t) (opposite d)
       go (inl z) =
-          inr (level-up (t .first) d (along-null (t .first) d (null z)), inr (level-up (t .second) d (along-null (t .second) d (null z)), tt))
+          inr (
+            level-up (t .first) d (along-null (t .first) d (null z)),
+            inr
+                (level-up (t .second) d (along-null (t .second) d (null z)), tt),
+          )
       go (inr s) =
           down (good .falls d hx hy (λ n. clashℤ s (le-of-eq (ap₂ (λ x y. x +ℤ y) (n .no-dx) (n .no-dy)))))
 
-  pub gain-falls : (f : Functional) (d : Ray) → pos 0 ≤ᶻ d .dx → pos 0 ≤ᶻ d .dy → along f d ≤ᶻ pos 0 → Up (gainOrder f t) (opposite d)
+  pub gain-falls :
+      (f : Functional) (d : Ray) →
+      pos 0 ≤ᶻ d .dx →
+      pos 0 ≤ᶻ d .dy →
+      along f d ≤ᶻ pos 0 →
+      Up (gainOrder f t) (opposite d)
   gain-falls f d hx hy h = go (sign (along f d))
     where
       go : Sign (along f d) → Up (gainOrder f t) (opposite d)
@@ -112,7 +133,10 @@ tie-good =
     least-y : (d : Ray) → along (tie .second) d ≡ negℤ (d .dy)
     least-y = equal (R ∷ []) (λ d. con (pos 0) ⊗ d .dx ⊕ con (negsuc 0) ⊗ d .dy ≐ ⊝ d .dy) refl
 
-    go : (d : Ray) → (pos 0 <ᶻ d .dx) ⊎ ((d .dx ≡ pos 0) × (pos 0 <ᶻ d .dy)) → (along (tie .first) d <ᶻ pos 0) ⊎ ((along (tie .first) d ≡ pos 0) × (along (tie .second) d <ᶻ pos 0))
+    go :
+        (d : Ray) →
+        (pos 0 <ᶻ d .dx) ⊎ ((d .dx ≡ pos 0) × (pos 0 <ᶻ d .dy)) →
+        (along (tie .first) d <ᶻ pos 0) ⊎ ((along (tie .first) d ≡ pos 0) × (along (tie .second) d <ᶻ pos 0))
     go d (inl p) = inl (below (tie .first) d (d .dx) (least-x d) p)
     go d (inr (e, p)) = inr (least-x d ∙ ap negℤ e, below (tie .second) d (d .dy) (least-y d) p)
 
@@ -130,6 +154,11 @@ least-total-then-x-good =
     least-total : (d : Ray) → along (leastTotalThenX .first) d ≡ negℤ (d .dx +ℤ d .dy)
     least-total = equal (R ∷ []) (λ d. con (negsuc 0) ⊗ d .dx ⊕ con (negsuc 0) ⊗ d .dy ≐ ⊝ (d .dx ⊕ d .dy)) refl
 
-    go : (d : Ray) → pos 0 ≤ᶻ d .dy → (pos 0 <ᶻ d .dx) ⊎ ((d .dx ≡ pos 0) × (pos 0 <ᶻ d .dy)) → (along (leastTotalThenX .first) d <ᶻ pos 0) ⊎ ((along (leastTotalThenX .first) d ≡ pos 0) × (along (leastTotalThenX .second) d <ᶻ pos 0))
+    go :
+        (d : Ray) →
+        pos 0 ≤ᶻ d .dy →
+        (pos 0 <ᶻ d .dx) ⊎ ((d .dx ≡ pos 0) × (pos 0 <ᶻ d .dy)) →
+        (along (leastTotalThenX .first) d <ᶻ pos 0)
+        ⊎ ((along (leastTotalThenX .first) d ≡ pos 0) × (along (leastTotalThenX .second) d <ᶻ pos 0))
     go d hy (inl p) = inl (below (leastTotalThenX .first) d (d .dx +ℤ d .dy) (least-total d) (pos-add-nn p hy))
     go d hy (inr (e, p)) = inl (below (leastTotalThenX .first) d (d .dx +ℤ d .dy) (least-total d) (nn-add-pos (nn-zero e) p))

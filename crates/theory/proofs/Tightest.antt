@@ -42,7 +42,12 @@ module _ (l : Constraint) (Seen : Constraint → Type 0) (i : ℕ) (x : Constrai
   on-own-line : (m : Constraint) → m ≡ x → Keeps m (meet x l)
   on-own-line m e = nn-zero (subst (λ y. slack y (meet x l) ≡ pos 0) (sym e) (meet-on-first x l))
 
-  first-found : (b : Bool) → (T b → pos 0 <ᶻ det x l) → (T (not b) → det x l ≤ᶻ pos 0) → Scanned l Seen found.Nothing → Scanned l Seen′ (elim b [ true ↦ found.At i x (meet x l) | false ↦ found.Nothing ])
+  first-found :
+      (b : Bool) →
+      (T b → pos 0 <ᶻ det x l) →
+      (T (not b) → det x l ≤ᶻ pos 0) →
+      Scanned l Seen found.Nothing →
+      Scanned l Seen′ (elim b [ true ↦ found.At i x (meet x l) | false ↦ found.Nothing ])
   first-found true y n f =
       record { seen = inr refl; point = refl; crosses = y tt; nearest = λ m. ⊎-elim (λ s c. clashℤ c (f m s)) (λ e c. on-own-line m e) }
   first-found false y n f = λ m. ⊎-elim (f m) (λ e. subst (λ z. det z l ≤ᶻ pos 0) (sym e) (n tt))
@@ -54,7 +59,9 @@ module _ (l : Constraint) (Seen : Constraint → Type 0) (i : ℕ) (x : Constrai
           seen = inl (near .seen);
           point = near .point;
           crosses = near .crosses;
-          nearest = λ m. ⊎-elim (near .nearest m) (λ e c. subst (λ z. Keeps m z) (near .point) (subst (λ z. Keeps z p) (sym e) (kept (subst (λ z. pos 0 <ᶻ det z l) e c))));
+          nearest =
+              λ m. ⊎-elim (near .nearest m)
+              (λ e c. subst (λ z. Keeps m z) (near .point) (subst (λ z. Keeps z p) (sym e) (kept (subst (λ z. pos 0 <ᶻ det z l) e c))));
         }
 
     now-nearest : pos 0 <ᶻ det x l → slack x p <ᶻ pos 0 → Nearest l Seen′ x (meet x l)
@@ -63,10 +70,18 @@ module _ (l : Constraint) (Seen : Constraint → Type 0) (i : ℕ) (x : Constrai
           seen = inr refl;
           point = refl;
           crosses = c;
-          nearest = λ m. ⊎-elim (λ s d. nearer-keeps m k x l (near .crosses) c d (near .nearest m s d) (subst (λ z. slack x z <ᶻ pos 0) (near .point) b)) (λ e d. on-own-line m e);
+          nearest =
+              λ m. ⊎-elim (λ s d. nearer-keeps m k x l (near .crosses) c d (near .nearest m s d)
+              (subst (λ z. slack x z <ᶻ pos 0) (near .point) b)) (λ e d. on-own-line m e);
         }
 
-    next-found : (b c : Bool) → (T b → pos 0 <ᶻ det x l) → (T (not b) → det x l ≤ᶻ pos 0) → (T c → Keeps x p) → (T (not c) → slack x p <ᶻ pos 0) → Scanned l Seen′ (elim b [ true ↦ elim c [ true ↦ found.At j k p | false ↦ found.At i x (meet x l) ] | false ↦ found.At j k p ])
+    next-found :
+        (b c : Bool) →
+        (T b → pos 0 <ᶻ det x l) →
+        (T (not b) → det x l ≤ᶻ pos 0) →
+        (T c → Keeps x p) →
+        (T (not c) → slack x p <ᶻ pos 0) →
+        Scanned l Seen′ (elim b [ true ↦ elim c [ true ↦ found.At j k p | false ↦ found.At i x (meet x l) ] | false ↦ found.At j k p ])
     next-found true true yb nb yc nc = still-nearest (λ d. yc tt)
     next-found true false yb nb yc nc = now-nearest (yb tt) (nc tt)
     next-found false c yb nb yc nc = still-nearest (λ d. clashℤ d (nb tt))
@@ -77,12 +92,21 @@ module _ (l : Constraint) (Seen : Constraint → Type 0) (i : ℕ) (x : Constrai
       next-found j k p s (ltZ (pos 0) (det x l)) (keeps x p) (λ t. ltZ-yes t) (λ t. ltZ-no t) (λ t. leZ-yes t) (λ t. leZ-no t)
 
 -- what was seen may be said in another way
-rescan : (l : Constraint) (Seen Seen′ : Constraint → Type 0) → ((m : Constraint) → Seen m → Seen′ m) → ((m : Constraint) → Seen′ m → Seen m) → (f : Found) → Scanned l Seen f → Scanned l Seen′ f
+rescan :
+    (l : Constraint) (Seen Seen′ : Constraint → Type 0) →
+    ((m : Constraint) → Seen m → Seen′ m) →
+    ((m : Constraint) → Seen′ m → Seen m) →
+    (f : Found) →
+    Scanned l Seen f →
+    Scanned l Seen′ f
 rescan l Seen Seen′ to from found.Nothing s = λ m i. s m (from m i)
 rescan l Seen Seen′ to from (found.At j k p) s =
     record { seen = to k (s .seen); point = s .point; crosses = s .crosses; nearest = λ m i. s .nearest m (from m i) }
 
-pub tightest-scanned : (l : Constraint) (Seen : Constraint → Type 0) (i : ℕ) (rest : List Constraint) (f : Found) → Scanned l Seen f → Scanned l (λ m. Seen m ⊎ List·Memᴰ m rest) (tightest l i rest f)
+pub tightest-scanned :
+    (l : Constraint) (Seen : Constraint → Type 0) (i : ℕ) (rest : List Constraint) (f : Found) →
+    Scanned l Seen f →
+    Scanned l (λ m. Seen m ⊎ List·Memᴰ m rest) (tightest l i rest f)
 tightest-scanned l Seen i [] f s =
     rescan l Seen (λ m. Seen m ⊎ List·Memᴰ m []) (λ m x. inl x) (λ m. ⊎-elim (λ x. x) (λ j. absurd (List·Memᴰ·not-nil j))) f s
 tightest-scanned l Seen i (x ∷ rest) f s =
@@ -103,7 +127,12 @@ abbrev Indexed : List Constraint → Found → Type 0
 Indexed S found.Nothing = Unit {0}
 Indexed S (found.At j k p) = At S j k
 
-tighter-indexed : (S : List Constraint) (l : Constraint) (i : ℕ) (x : Constraint) → At S i x → (f : Found) → Indexed S f → Indexed S (tighter l i x f)
+tighter-indexed :
+    (S : List Constraint) (l : Constraint) (i : ℕ) (x : Constraint) →
+    At S i x →
+    (f : Found) →
+    Indexed S f →
+    Indexed S (tighter l i x f)
 tighter-indexed S l i x a found.Nothing s = go (ltZ (pos 0) (det x l))
   where
     go : (b : Bool) → Indexed S (elim b [ true ↦ found.At i x (meet x l) | false ↦ found.Nothing ])
@@ -111,7 +140,9 @@ tighter-indexed S l i x a found.Nothing s = go (ltZ (pos 0) (det x l))
     go false = tt
 tighter-indexed S l i x a (found.At j k p) s = go (ltZ (pos 0) (det x l)) (keeps x p)
   where
-    go : (b c : Bool) → Indexed S (elim b [ true ↦ elim c [ true ↦ found.At j k p | false ↦ found.At i x (meet x l) ] | false ↦ found.At j k p ])
+    go :
+        (b c : Bool) →
+        Indexed S (elim b [ true ↦ elim c [ true ↦ found.At j k p | false ↦ found.At i x (meet x l) ] | false ↦ found.At j k p ])
     go true true = s
     go true false = a
     go false c = s
@@ -138,14 +169,21 @@ suffix-all S n x a = subst (λ k. At S k x) none a
     none : n ≡ n + 0
     none = omega arith
 
-tightest-indexed : (S : List Constraint) (l : Constraint) (i : ℕ) (rest : List Constraint) → Suffix S i rest → (f : Found) → Indexed S f → Indexed S (tightest l i rest f)
+tightest-indexed :
+    (S : List Constraint) (l : Constraint) (i : ℕ) (rest : List Constraint) →
+    Suffix S i rest →
+    (f : Found) →
+    Indexed S f →
+    Indexed S (tightest l i rest f)
 tightest-indexed S l i [] suffix f s = s
 tightest-indexed S l i (x ∷ rest) suffix f s =
-    tightest-indexed S l (suc i) rest (suffix-tail S i x rest suffix) (tighter l i x f) (tighter-indexed S l i x (suffix-head S i x rest suffix) f s)
+    tightest-indexed S l (suc i) rest (suffix-tail S i x rest suffix) (tighter l i x f)
+    (tighter-indexed S l i x (suffix-head S i x rest suffix) f s)
 
 pub scan-finds : (S : List Constraint) (l : Constraint) → Outcome-of-scan S l (tightest l 0 S found.Nothing)
 scan-finds S l =
-    go (tightest l 0 S found.Nothing) (tightest-scanned l (λ m. ⊥) 0 S found.Nothing (λ m e. absurd e)) (tightest-indexed S l 0 S (suffix-all S) found.Nothing tt)
+    go (tightest l 0 S found.Nothing) (tightest-scanned l (λ m. ⊥) 0 S found.Nothing (λ m e. absurd e))
+    (tightest-indexed S l 0 S (suffix-all S) found.Nothing tt)
   where
     go : (f : Found) → Scanned l (λ m. ⊥ ⊎ List·Memᴰ m S) f → Indexed S f → Outcome-of-scan S l f
     go found.Nothing s a = λ m i. s m (inr i)
@@ -161,16 +199,26 @@ abbrev pub Outcome-of-check : List Constraint → Point → List Constraint → 
 Outcome-of-check S v rest broken.Nowhere = (m : Constraint) → List·Memᴰ m rest → Keeps m v
 Outcome-of-check S v rest (broken.At i m) = At S i m × (slack m v <ᶻ pos 0)
 
-check-from : (S : List Constraint) (v : Point) (i : ℕ) (rest : List Constraint) → Suffix S i rest → Outcome-of-check S v rest (firstBroken v i rest)
+check-from :
+    (S : List Constraint) (v : Point) (i : ℕ) (rest : List Constraint) →
+    Suffix S i rest →
+    Outcome-of-check S v rest (firstBroken v i rest)
 check-from S v i [] suffix = λ m j. absurd (List·Memᴰ·not-nil j)
 check-from S v i (x ∷ rest) suffix =
-    go (keeps x v) (λ t. leZ-yes t) (λ t. leZ-no t) (firstBroken v (suc i) rest) (check-from S v (suc i) rest (suffix-tail S i x rest suffix))
+    go (keeps x v) (λ t. leZ-yes t) (λ t. leZ-no t) (firstBroken v (suc i) rest)
+    (check-from S v (suc i) rest (suffix-tail S i x rest suffix))
   where
     passed : Keeps x v → (b : Broken) → Outcome-of-check S v rest b → Outcome-of-check S v (x ∷ rest) b
     passed k broken.Nowhere f = for-members (λ m. Keeps m v) x rest k f
     passed k (broken.At n m) f = f
 
-    go : (c : Bool) → (T c → Keeps x v) → (T (not c) → slack x v <ᶻ pos 0) → (b : Broken) → Outcome-of-check S v rest b → Outcome-of-check S v (x ∷ rest) (elim c [ true ↦ b | false ↦ broken.At i x ])
+    go :
+        (c : Bool) →
+        (T c → Keeps x v) →
+        (T (not c) → slack x v <ᶻ pos 0) →
+        (b : Broken) →
+        Outcome-of-check S v rest b →
+        Outcome-of-check S v (x ∷ rest) (elim c [ true ↦ b | false ↦ broken.At i x ])
     go true y n b f = passed (y tt) b f
     go false y n b f = (suffix-head S i x rest suffix, n tt)
 

@@ -30,16 +30,19 @@ module _ (v w : Point) where
 
   x-first : pos 0 ≤ᶻ along (tie .first) d → v .x *ℤ w .d ≤ᶻ w .x *ℤ v .d
   x-first h =
-      nn-sub (nn-by (P ∷ P ∷ []) (λ v w. w .x ⊗ v .d ⊖ v .x ⊗ w .d ≐ con (negsuc 0) ⊗ (betweenᵖ w v) .dx ⊕ con (pos 0) ⊗ (betweenᵖ w v) .dy) refl v w h)
+      nn-sub (nn-by (P ∷ P ∷ [])
+      (λ v w. w .x ⊗ v .d ⊖ v .x ⊗ w .d ≐ con (negsuc 0) ⊗ (betweenᵖ w v) .dx ⊕ con (pos 0) ⊗ (betweenᵖ w v) .dy) refl v w h)
 
   y-next : pos 0 ≤ᶻ along (tie .second) d → v .y *ℤ w .d ≤ᶻ w .y *ℤ v .d
   y-next h =
-      nn-sub (nn-by (P ∷ P ∷ []) (λ v w. w .y ⊗ v .d ⊖ v .y ⊗ w .d ≐ con (pos 0) ⊗ (betweenᵖ w v) .dx ⊕ con (negsuc 0) ⊗ (betweenᵖ w v) .dy) refl v w h)
+      nn-sub (nn-by (P ∷ P ∷ [])
+      (λ v w. w .y ⊗ v .d ⊖ v .y ⊗ w .d ≐ con (pos 0) ⊗ (betweenᵖ w v) .dx ⊕ con (negsuc 0) ⊗ (betweenᵖ w v) .dy) refl v w h)
 
   -- where x is the same, the tie's first half is level
   level : v .x *ℤ w .d ≡ w .x *ℤ v .d → along (tie .first) d ≡ pos 0
   level e =
-      equal (P ∷ P ∷ []) (λ v w. con (negsuc 0) ⊗ (betweenᵖ w v) .dx ⊕ con (pos 0) ⊗ (betweenᵖ w v) .dy ≐ w .x ⊗ v .d ⊖ v .x ⊗ w .d) refl v w
+      equal (P ∷ P ∷ []) (λ v w. con (negsuc 0) ⊗ (betweenᵖ w v) .dx ⊕ con (pos 0) ⊗ (betweenᵖ w v) .dy ≐ w .x ⊗ v .d ⊖ v .x ⊗ w .d) refl
+      v w
       ∙ ap (λ z. w .x *ℤ v .d -ℤ z) e
       ∙ +ℤ-invr (w .x *ℤ v .d)
 
@@ -52,13 +55,18 @@ module _ (v w : Point) where
 
 -- ---- lawful directions
 
-pub lawful-in-words : (floors : Floors) (rules : List Constraint) (f : Functional) (d : Ray) →
+pub lawful-in-words :
+    (floors : Floors) (rules : List Constraint) (f : Functional) (d : Ray) →
     T (lawful (system floors rules) f d) →
     LawfulDirection rules f d
 lawful-in-words floors rules f d t =
     record {
-      dx-not-negative = nn-by (R ∷ []) (λ d. d .dx ≐ ⊝ (con (negsuc 0) ⊗ d .dx ⊕ con (pos 0) ⊗ d .dy)) refl d (neg-nn (recedes _ (List·Memᴰ·head refl)));
-      dy-not-negative = nn-by (R ∷ []) (λ d. d .dy ≐ ⊝ (con (pos 0) ⊗ d .dx ⊕ con (negsuc 0) ⊗ d .dy)) refl d (neg-nn (recedes _ (List·Memᴰ·tail (List·Memᴰ·head refl))));
+      dx-not-negative =
+          nn-by (R ∷ []) (λ d. d .dx ≐ ⊝ (con (negsuc 0) ⊗ d .dx ⊕ con (pos 0) ⊗ d .dy)) refl d
+          (neg-nn (recedes _ (List·Memᴰ·head refl)));
+      dy-not-negative =
+          nn-by (R ∷ []) (λ d. d .dy ≐ ⊝ (con (pos 0) ⊗ d .dx ⊕ con (negsuc 0) ⊗ d .dy)) refl d
+          (neg-nn (recedes _ (List·Memᴰ·tail (List·Memᴰ·head refl))));
       never-leaves = λ r i. recedes r (List·Memᴰ·tail (List·Memᴰ·tail i));
       gains = lawful-gains (system floors rules) f d t;
     }

@@ -1,7 +1,7 @@
 -- `engine::amount` meets its contract: how far a point is from a constraint's line, in lowest terms.
 use borrow.Author.Needs.{needs}
 use Rattle.engine.proofs.Sizes.{kept-distance}
-use Rattle.engine.proofs.Tests.{amount-tests, amount-in, amount-out}
+use Rattle.engine.proofs.Amounts.{amount-tests, amount-in, amount-out}
 use Rattle.engine.proofs.amount.Statement.{statement}
 use Rattle.engine.proofs.amount.Tie as tie
 
@@ -15,7 +15,9 @@ returns : tie.Need-returns
 returns c =
     let a = c .before .before .before .before .before .before .args in
     let z = c .before .before .slack in
-    amount-in (a .r) (a .v) (c .before .before .before .before .before .rule-in-range .ensures) (c .before .before .before .before .point-in-range .ensures) (c .before .before .before .if1 .taken) (z .ok) (z .ensures) (c .lowest .ensures)
+    amount-in (a .r) (a .v) (c .before .before .before .before .before .rule-in-range .ensures)
+    (c .before .before .before .before .point-in-range .ensures) (c .before .before .before .if1 .taken) (z .ok) (z .ensures)
+    (c .lowest .ensures)
 
 returns-2 : tie.Need-returns-2
 returns-2 c =

@@ -10,7 +10,8 @@ opposite-requires c κs = within-read (weaken tt (c .before .pre .b-small)) tt
 
 returns : tie.Need-returns
 returns c =
-    ray-same (opposite-read (weaken tt (c .before .before .before .pre .b-small)) (c .before .opposite .ok) (c .before .opposite .ensures)) (within-unread (c .before .before .before .pre .a-small) tt)
+    ray-same (opposite-read (weaken tt (c .before .before .before .pre .b-small)) (c .before .opposite .ok)
+    (c .before .opposite .ensures)) (within-unread (c .before .before .before .pre .a-small) tt)
 
 pub backward-spec : {M : Type 1} → statement M
 backward-spec = tie.close (tie.spec opposite-requires returns)

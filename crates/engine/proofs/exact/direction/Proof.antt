@@ -10,7 +10,8 @@ opposite-requires c κs = within-read (weaken tt (c .before .pre .a-small)) tt
 
 returns : tie.Need-returns
 returns c =
-    ray-same (within-unread (c .before .before .before .pre .b-small) tt) (opposite-read (weaken tt (c .before .before .before .pre .a-small)) (c .before .opposite .ok) (c .before .opposite .ensures))
+    ray-same (within-unread (c .before .before .before .pre .b-small) tt)
+    (opposite-read (weaken tt (c .before .before .before .pre .a-small)) (c .before .opposite .ok) (c .before .opposite .ensures))
 
 pub direction-spec : {M : Type 1} → statement M
 direction-spec = tie.close (tie.spec opposite-requires returns)

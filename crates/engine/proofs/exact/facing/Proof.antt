@@ -19,8 +19,10 @@ returns-2 c =
     let a = c .before .before .before .before .opposite in
     let b = c .before .before .opposite2 in
     let k = c .opposite3 in
-    constraint-same (opposite-read (weaken tt (s .a-small)) (a .ok) (a .ensures)) (opposite-read (weaken tt (s .b-small)) (b .ok) (b .ensures)) (opposite-read (s .c-small) (k .ok) (k .ensures))
-    ∙ ap (λ t. facing t (c .before .before .before .before .before .before .before .args .h)) (sym (c .before .before .before .before .before .before .if1 .left))
+    constraint-same (opposite-read (weaken tt (s .a-small)) (a .ok) (a .ensures))
+    (opposite-read (weaken tt (s .b-small)) (b .ok) (b .ensures)) (opposite-read (s .c-small) (k .ok) (k .ensures))
+    ∙ ap (λ t. facing t (c .before .before .before .before .before .before .before .args .h)) (sym
+    (c .before .before .before .before .before .before .if1 .left))
 
 pub facing-spec : {M : Type 1} → statement M
 facing-spec =

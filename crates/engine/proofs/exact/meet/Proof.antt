@@ -17,11 +17,13 @@ difference-requires-3 c κs =
 
 returns : tie.Need-returns
 returns c =
-    let h = c .before .before .before .before .before .before .before .before .before .before .before .before .before .before .before .pre in
+    let half = c .before .before .before .before .before .before .before in
+    let h = half .before .before .before .before .before .before .before .before .pre in
     let x = c .before .before .before .before .before .before .before .before .before .before .difference in
     let y = c .before .before .before .before .before .difference2 in
     let d = c .difference3 in
-    point-same (difference-read (x-factors h) (x .ok) (x .ensures)) (difference-read (y-factors h) (y .ok) (y .ensures)) (difference-read (det-factors h) (d .ok) (d .ensures))
+    point-same (difference-read (x-factors h) (x .ok) (x .ensures)) (difference-read (y-factors h) (y .ok) (y .ensures))
+    (difference-read (det-factors h) (d .ok) (d .ensures))
 
 pub meet-spec : {M : Type 1} → statement M
 meet-spec =

@@ -14,7 +14,8 @@ returns : tie.Need-returns
 returns c =
     let h = c .before .before .before .pre in
     ap (held 0 (c .before .before .before .args .line))
-    (point-same (within-unread (h .b-small) tt) (opposite-read (weaken tt (h .a-small)) (c .before .opposite .ok) (c .before .opposite .ensures)) refl)
+    (point-same (within-unread (h .b-small) tt)
+    (opposite-read (weaken tt (h .a-small)) (c .before .opposite .ok) (c .before .opposite .ensures)) refl)
 
 pub at-infinity-spec : {M : Type 1} → statement M
 at-infinity-spec = tie.close (tie.spec opposite-requires returns)

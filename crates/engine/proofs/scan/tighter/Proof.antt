@@ -1,6 +1,9 @@
 -- `engine::scan::tighter` meets its contract: entry m, at index i, is met along the line, and before the point held so far.
 use borrow.Author.Needs.{needs}
-use mathlib.Core.Path.{sym, _∙_}
+use mathlib.Core.Path.{sym, _∙_, ap}
+use lib.IntN.{pos}
+use lib.Signed.{ltZ}
+use Rattle.fraction.proofs.Quotients.{unread}
 use Rattle.engine.specs.Held.{tightened}
 use Rattle.engine.proofs.scan.tighter.Statement.{statement}
 use Rattle.engine.proofs.scan.tighter.Tie as tie
@@ -12,7 +15,7 @@ returns-2 : tie.Need-returns-2
 returns-2 c =
     rw (
       sym (c .before .before .before .before .keeps .ensures) ∙ c .before .before .before .if1 .left,
-      sym (c .before .before .crosses .ensures) ∙ c .before .if2 .taken,
+      sym (ap (ltZ (pos 0)) (unread (c .before .before .det .ok) ∙ c .before .before .det .ensures)) ∙ c .before .if2 .taken,
       c .meet .ensures,
       tightened,
     )
@@ -21,7 +24,7 @@ returns-3 : tie.Need-returns-3
 returns-3 c =
     rw (
       sym (c .before .before .before .keeps .ensures) ∙ c .before .before .if1 .left,
-      sym (c .before .crosses .ensures) ∙ c .if2 .left,
+      sym (ap (ltZ (pos 0)) (unread (c .before .det .ok) ∙ c .before .det .ensures)) ∙ c .if2 .left,
       tightened,
     )
 

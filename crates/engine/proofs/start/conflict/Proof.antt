@@ -31,7 +31,8 @@ returns c =
     let a = c .before .before .before .before .args in
     let e = c .before .before .before .facing .ensures in
     certificate-same (a .n) (a .j) (a .i) (unread (c .before .before .line-weight .ok) ∙ c .before .before .line-weight .ensures)
-    (unread (c .before .det .ok) ∙ c .before .det .ensures ∙ ap (λ l. det l (a .m)) e) (unread (c .det2 .ok) ∙ c .det2 .ensures ∙ ap (det (a .k)) e)
+    (unread (c .before .det .ok) ∙ c .before .det .ensures ∙ ap (λ l. det l (a .m)) e)
+    (unread (c .det2 .ok) ∙ c .det2 .ensures ∙ ap (det (a .k)) e)
 
 pub conflict-spec : {M : Type 1} → statement M
 conflict-spec =

@@ -28,7 +28,9 @@ conflict-requires c κs =
     record {
       h-small = c .before .before .before .before .before .before .before .pre .h-small;
       k-small = found-parts (c .before .before .before .before .before .before .before .pre .found-small) (f .1) .0;
-      m-small = broken-small (c .before .before .before .before .before .before .before .pre .entries) (f .0 .1 .1 .0) (c .before .before .before .first-broken .ensures) (c .before .i .given .1);
+      m-small =
+          broken-small (c .before .before .before .before .before .before .before .pre .entries) (f .0 .1 .1 .0)
+          (c .before .before .before .first-broken .ensures) (c .before .i .given .1);
     }
 
 returns : tie.Need-returns

@@ -31,7 +31,8 @@ tightest-requires c κs =
 resettled-requires : tie.Need-resettled-requires
 resettled-requires c κs =
     let h = c .before .before .before .before .before .before .pre in
-    let line = subst SmallConstraint (sym (c .before .facing .ensures)) (facing-small (c .before .before .tie-upward .result) (h .h-small)) in
+    let line = subst SmallConstraint (sym (c .before .facing .ensures))
+    (facing-small (c .before .before .tie-upward .result) (h .h-small)) in
     record {
       entries = h .entries;
       h-small = h .h-small;
@@ -43,7 +44,8 @@ returns-2 c =
     let a = c .before .before .before .before .before .before .before .args in
     restarted (a .tie) (entries (now (a .entries)) 0 (a .n)) (a .n) (a .h)
     (sym (c .before .before .before .before .before .before .is-level .ensures) ∙ c .before .before .before .before .before .if1 .left)
-    (c .before .before .before .before .direction .ensures) (c .before .before .before .tie-upward .ensures) (c .before .before .facing .ensures) (c .before .tightest .ensures) (c .resettled .ensures)
+    (c .before .before .before .before .direction .ensures) (c .before .before .before .tie-upward .ensures)
+    (c .before .before .facing .ensures) (c .before .tightest .ensures) (c .resettled .ensures)
 
 pub restart-spec : {M : Type 1} → statement M
 restart-spec =

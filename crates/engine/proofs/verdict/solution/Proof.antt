@@ -1,5 +1,4 @@
 -- `engine::verdict::solution` meets its contract.
-use borrow.Author.Needs.{needs}
 use Rattle.engine.proofs.Steps.{state-parts}
 use Rattle.engine.proofs.Solutions.{solution-ended, solution-going}
 use Rattle.engine.proofs.verdict.solution.Statement.{statement}

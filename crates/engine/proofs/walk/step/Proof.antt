@@ -43,16 +43,22 @@ narrow-requires c κs =
     let s = c .before .before .before .before .before .before .before .before .before .before .before in
     record {
       constraint = s .pre .moving .restarting .h-small;
-      rays = state-parts (s .pre .state-small) (c .before .before .before .before .before .before .before .before .before .state .given .1) .1;
+      rays =
+          state-parts (s .pre .state-small)
+          (c .before .before .before .before .before .before .before .before .before .state .given .1) .1;
     }
 
 improved-requires : tie.Need-improved-requires
 improved-requires c κs =
     let h = c .before .before .before .before .before .before .before .before .before .before .before .before .pre in
-    let s = state-parts (h .state-small) (c .before .before .before .before .before .before .before .before .before .before .state .given .1) in
+    let s = state-parts (h .state-small)
+    (c .before .before .before .before .before .before .before .before .before .before .state .given .1) in
     record {
       moving = h .moving;
-      rays = subst SmallCone (sym (c .narrow .ensures)) (narrow-small (h .moving .restarting .h-small) (c .before .before .before .before .before .before .before .before .before .before .state .given .0 .1 .0) (s .1));
+      rays =
+          subst SmallCone (sym (c .narrow .ensures))
+          (narrow-small (h .moving .restarting .h-small)
+          (c .before .before .before .before .before .before .before .before .before .before .state .given .0 .1 .0) (s .1));
       best = s .2;
     }
 
@@ -64,17 +70,21 @@ returns-2 c =
     let s = c .before .before .before .before .before .before .before .before .before .before .before .before .before .before in
     step-moved (s .args .tie) (s .args .objective) (entries (now (s .args .entries)) 0 (s .args .n)) (s .args .n) (s .args .h)
     (s .args .walk) (c .before .before .before .before .before .before .before .before .before .before .before .before .state .given .1)
-    (c .before .before .before .before .before .before .before .before .keeps .ensures) (c .before .before .before .before .before .before .start .ensures)
+    (c .before .before .before .before .before .before .before .before .keeps .ensures)
+    (c .before .before .before .before .before .before .start .ensures)
     (c .before .before .before .before .before .before .before .before .before .before .breaks .ensures)
-    (c .before .before .before .before .before .before .before .before .before .counted .ensures) (c .before .before .before .before .before .before .before .counted2 .ensures) (c .before .before .before .before .p .given .1)
+    (c .before .before .before .before .before .before .before .before .before .counted .ensures)
+    (c .before .before .before .before .before .before .before .counted2 .ensures) (c .before .before .before .before .p .given .1)
     (c .before .before .narrow .ensures) (c .before .improved .ensures) (c .going .ensures)
 
 returns-3 : tie.Need-returns-3
 returns-3 c =
     let s = c .before .before .before .before .before .before .before .before .before .before .before in
     step-failed (s .args .tie) (s .args .objective) (entries (now (s .args .entries)) 0 (s .args .n)) (s .args .n) (s .args .h)
-    (s .args .walk) (c .before .before .before .before .before .before .before .before .before .state .given .1) (c .before .before .before .before .before .keeps .ensures) (c .before .before .before .start .ensures)
-    (c .before .before .before .before .before .before .before .breaks .ensures) (c .before .before .before .before .before .before .counted .ensures) (c .before .before .before .before .counted2 .ensures)
+    (s .args .walk) (c .before .before .before .before .before .before .before .before .before .state .given .1)
+    (c .before .before .before .before .before .keeps .ensures) (c .before .before .before .start .ensures)
+    (c .before .before .before .before .before .before .before .breaks .ensures)
+    (c .before .before .before .before .before .before .counted .ensures) (c .before .before .before .before .counted2 .ensures)
     (c .before .c .given .1)
 
 pub step-spec : {M : Type 1} → statement M

@@ -24,17 +24,21 @@ entry-requires c κs = walked-room (c .before .before .before .pre) (c .before .
 step-requires : tie.Need-step-requires Inv-loop μ-loop
 step-requires c κs =
     let h = c .before .before .before .before .before .before .before .pre in
-    stepping h (c .before .before .before .before .before .loop .inv) (c .before .before .before .before .loop-test .taken) (c .before .before .before .entry .ensures) (c .before .before .rule-in-range .ensures) (c .before .if1 .taken) (c .tie .ensures)
+    stepping h (c .before .before .before .before .before .loop .inv) (c .before .before .before .before .loop-test .taken)
+    (c .before .before .before .entry .ensures) (c .before .before .rule-in-range .ensures) (c .before .if1 .taken) (c .tie .ensures)
 
 loop-again : tie.Need-loop-again Inv-loop μ-loop
 loop-again c =
     let h = c .before .before .before .before .before .before .before .before .pre in
-    walked-step h (c .before .before .before .before .before .before .loop .inv) (c .before .before .before .before .before .loop-test .taken) (c .before .before .before .before .entry .ensures) (c .before .before .before .rule-in-range .ensures) (c .before .before .if1 .taken) (c .before .tie .ensures) (c .step .ensures)
+    walked-step h (c .before .before .before .before .before .before .loop .inv)
+    (c .before .before .before .before .before .loop-test .taken) (c .before .before .before .before .entry .ensures)
+    (c .before .before .before .rule-in-range .ensures) (c .before .before .if1 .taken) (c .before .tie .ensures) (c .step .ensures)
 
 returns : tie.Need-returns Inv-loop μ-loop
 returns c =
     let h = c .before .before .before .before .before .before .pre in
-    walked-stop h (c .before .before .before .before .loop .inv) (c .before .before .before .loop-test .taken) (c .before .before .entry .ensures) (c .before .rule-in-range .ensures) (c .if1 .left)
+    walked-stop h (c .before .before .before .before .loop .inv) (c .before .before .before .loop-test .taken)
+    (c .before .before .entry .ensures) (c .before .rule-in-range .ensures) (c .if1 .left)
 
 solution-requires : tie.Need-solution-requires Inv-loop μ-loop
 solution-requires c κs = answering (c .before .before .before .pre) (c .before .loop .inv)
