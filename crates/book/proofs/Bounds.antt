@@ -1,5 +1,5 @@
--- What holds of every accepted book: its chain has no more entries than the header counts, each of them a record after the header, none twice, no label twice,
--- and its numbers are within document 01's ranges.
+-- What holds of every accepted book: its chain has no more entries than the header counts, each of them a record after the header, none
+-- twice, no label twice, and its numbers are within document 01's ranges.
 use Prim.Native.Nat.{ℕ, zero, suc, _+_, _-_, _≤_, _<_}
 use mathlib.Core.Path.{_≡_, refl, sym, ap, _∙_, subst⁻¹}
 use mathlib.Core.Bool.{Bool, true, false, cond}
@@ -111,7 +111,12 @@ floors-small false m n =
 -- ---- each record of the chain
 
 -- a fact of every place of a list and of one more is a fact of every place of the longer list
-pub each-snoc : (P : ℕ → Type 0) (l : List ℕ) (i : ℕ) → ((k : ℕ) → k < length l → P (getD l k 0)) → P i → (k : ℕ) → k < length (l ++ (i ∷ [])) → P (getD (l ++ (i ∷ [])) k 0)
+pub each-snoc : (P : ℕ → Type 0) (l : List ℕ) (i : ℕ) →
+    ((k : ℕ) → k < length l → P (getD l k 0)) →
+    P i →
+    (k : ℕ) →
+    k < length (l ++ (i ∷ [])) →
+    P (getD (l ++ (i ∷ [])) k 0)
 each-snoc P l i f p k h = go (decLt k (length l))
   where
     go : Dec (k < length l) → P (getD (l ++ (i ∷ [])) k 0)
@@ -121,22 +126,44 @@ each-snoc P l i f p k h = go (decLt k (length l))
         subst⁻¹ P (getD-at l i [] 0 k e) p
 
 module _ (L : Layout) (s : List ℕ) where
-  walked-within : {done : List ℕ} {at : ℕ} → Walked L s done at → (k : ℕ) → k < length done → (1 ≤ getD done k 0) × (getD done k 0 ≤ countOf L s)
+  walked-within : {done : List ℕ} {at : ℕ} →
+      Walked L s done at →
+      (k : ℕ) →
+      k < length done →
+      (1 ≤ getD done k 0) × (getD done k 0 ≤ countOf L s)
   walked-within (header a b c d f) = λ k h. absurd (let z : ⊥ = omega arith in z)
   walked-within (visit {done = done} w i e z h m ka kb kc q) =
       each-snoc (λ j. (1 ≤ j) × (j ≤ countOf L s)) done i (walked-within w) (omega arith, h)
 
-  walked-sound : {done : List ℕ} {at : ℕ} → Walked L s done at → (k : ℕ) → k < length done → SoundRule (ruleOf L (recordAt L s (getD done k 0)))
+  walked-sound : {done : List ℕ} {at : ℕ} →
+      Walked L s done at →
+      (k : ℕ) →
+      k < length done →
+      SoundRule (ruleOf L (recordAt L s (getD done k 0)))
   walked-sound (header a b c d f) = λ k h. absurd (let z : ⊥ = omega arith in z)
   walked-sound (visit {done = done} w i e z h m ka kb kc q) =
       each-snoc (λ j. SoundRule (ruleOf L (recordAt L s j))) done i (walked-sound w) (sound-rule L (recordAt L s i) ka kb kc)
 
-  walked-distinct : {done : List ℕ} {at : ℕ} → Walked L s done at → (k : ℕ) → k < length done → (j : ℕ) → j < k → getD done j 0 ≡ getD done k 0 → ⊥
+  walked-distinct : {done : List ℕ} {at : ℕ} →
+      Walked L s done at →
+      (k : ℕ) →
+      k < length done →
+      (j : ℕ) →
+      j < k →
+      getD done j 0 ≡ getD done k 0 →
+      ⊥
   walked-distinct (header a b c d f) = λ k l j g p. let z : ⊥ = omega arith in z
   walked-distinct (visit {done = done} w i e z h m ka kb kc q) =
       apart-snoc (λ n. n) done i (not-there (λ n. n) done i (rw (map-same done) m)) (walked-distinct w)
 
-  pub walked-labels : {done : List ℕ} {at : ℕ} → Walked L s done at → (k : ℕ) → k < length done → (j : ℕ) → j < k → labelAt L s (getD done j 0) ≡ labelAt L s (getD done k 0) → ⊥
+  pub walked-labels : {done : List ℕ} {at : ℕ} →
+      Walked L s done at →
+      (k : ℕ) →
+      k < length done →
+      (j : ℕ) →
+      j < k →
+      labelAt L s (getD done j 0) ≡ labelAt L s (getD done k 0) →
+      ⊥
   walked-labels (header a b c d f) = λ k l j g p. let z : ⊥ = omega arith in z
   walked-labels (visit {done = done} w i e z h m ka kb kc q) =
       apart-snoc (labelAt L s) done i (not-there (labelAt L s) done (labelAt L s i) q) (walked-labels w)
@@ -194,7 +221,11 @@ module _ (L : Layout) (s : List ℕ) where
     index-distinct j k g h p = walked-distinct (meant .walked) k (omega (arith, counted)) j g (rw listed at p)
 
     -- no label stands twice on the chain
-    pub label-distinct : (j k : ℕ) → j < k → k < length es → labelAt L s (getD (recordsOf es) j 0) ≡ labelAt L s (getD (recordsOf es) k 0) → ⊥
+    pub label-distinct : (j k : ℕ) →
+        j < k →
+        k < length es →
+        labelAt L s (getD (recordsOf es) j 0) ≡ labelAt L s (getD (recordsOf es) k 0) →
+        ⊥
     label-distinct j k g h p = walked-labels (meant .walked) k (omega (arith, counted)) j g (rw listed at p)
 
     pub entry-sound : (k : ℕ) → k < length es → SoundRule (ruleOf L (recordAt L s (getD (recordsOf es) k 0)))

@@ -1,5 +1,5 @@
--- Both directions of reading: what `readOf` says is what document 01's table says. A refusal's cause applies and none before it does; an accepted
--- book's chain ends with no cause on the way; and where a cause applies first, the book is refused with its number and record.
+-- Both directions of reading: what `readOf` says is what document 01's table says. A refusal's cause applies and none before it does; an
+-- accepted book's chain ends with no cause on the way; and where a cause applies first, the book is refused with its number and record.
 use Prim.Native.Nat.{ℕ, zero, suc, _+_, _-_, _*_, _/_, _≤_, _<_}
 use mathlib.Core.Path.{_≡_, refl, sym, ap, _∙_, subst, ap₂}
 use mathlib.Core.Bool.{Bool, true, false, cond}
@@ -49,31 +49,63 @@ module _ (L : Layout) (s : List ℕ) where
   unfolding headerFault
   header-good e = go (badLength L s) (badVersion L s) (badCount L s) (badObjective L s) (badTail L s) refl refl refl refl refl e
     where
-      go : (a b c d f : Bool) → badLength L s ≡ a → badVersion L s ≡ b → badCount L s ≡ c → badObjective L s ≡ d → badTail L s ≡ f → first a b c d f ≡ 0 → Walked L s [] 0
+      go : (a b c d f : Bool) →
+          badLength L s ≡ a →
+          badVersion L s ≡ b →
+          badCount L s ≡ c →
+          badObjective L s ≡ d →
+          badTail L s ≡ f →
+          first a b c d f ≡ 0 →
+          Walked L s [] 0
       go true b c d f pa pb pc pd pf e = absurd (let z : ⊥ = omega arith in z)
       go false true c d f pa pb pc pd pf e = absurd (let z : ⊥ = omega arith in z)
       go false false true d f pa pb pc pd pf e = absurd (let z : ⊥ = omega arith in z)
       go false false false true f pa pb pc pd pf e = absurd (let z : ⊥ = omega arith in z)
       go false false false false true pa pb pc pd pf e = absurd (let z : ⊥ = omega arith in z)
       go false false false false false pa pb pc pd pf e =
-          header (refutes (length-test L s) pa) (refutes (version-test L s) pb) (refutes (count-test L s) pc) (refutes (objective-test L s) pd) (refutes (tail-test L s) pf)
+          header (refutes (length-test L s) pa) (refutes (version-test L s) pb) (refutes (count-test L s) pc)
+          (refutes (objective-test L s) pd) (refutes (tail-test L s) pf)
 
   header-bad : (headerFault L s ≡ 0 → ⊥) → Applies L s (headerFault L s) 0
   unfolding headerFault
   header-bad h = go (badLength L s) (badVersion L s) (badCount L s) (badObjective L s) (badTail L s) refl refl refl refl refl h
     where
-      go : (a b c d f : Bool) → badLength L s ≡ a → badVersion L s ≡ b → badCount L s ≡ c → badObjective L s ≡ d → badTail L s ≡ f → (first a b c d f ≡ 0 → ⊥) → Applies L s (first a b c d f) 0
+      go : (a b c d f : Bool) →
+          badLength L s ≡ a →
+          badVersion L s ≡ b →
+          badCount L s ≡ c →
+          badObjective L s ≡ d →
+          badTail L s ≡ f →
+          (first a b c d f ≡ 0 → ⊥) →
+          Applies L s (first a b c d f) 0
       go true b c d f pa pb pc pd pf h = cause-1 (length-test L s .holds pa)
       go false true c d f pa pb pc pd pf h = cause-2 (refutes (length-test L s) pa) (version-test L s .holds pb)
-      go false false true d f pa pb pc pd pf h = cause-3 (refutes (length-test L s) pa) (refutes (version-test L s) pb) (count-test L s .holds pc)
-      go false false false true f pa pb pc pd pf h = cause-4 (refutes (length-test L s) pa) (refutes (version-test L s) pb) (refutes (count-test L s) pc) (objective-test L s .holds pd)
-      go false false false false true pa pb pc pd pf h = cause-5 (refutes (length-test L s) pa) (refutes (version-test L s) pb) (refutes (count-test L s) pc) (refutes (objective-test L s) pd) (tail-test L s .holds pf)
+      go false false true d f pa pb pc pd pf h =
+          cause-3 (refutes (length-test L s) pa) (refutes (version-test L s) pb) (count-test L s .holds pc)
+      go false false false true f pa pb pc pd pf h =
+          cause-4 (refutes (length-test L s) pa) (refutes (version-test L s) pb) (refutes (count-test L s) pc)
+          (objective-test L s .holds pd)
+      go false false false false true pa pb pc pd pf h =
+          cause-5 (refutes (length-test L s) pa) (refutes (version-test L s) pb) (refutes (count-test L s) pc)
+          (refutes (objective-test L s) pd) (tail-test L s .holds pf)
       go false false false false false pa pb pc pd pf h = absurd (h refl)
 
-  header-clear : (WrongLength L s → ⊥) → (WrongVersion L s → ⊥) → (WrongCount L s → ⊥) → (WrongObjective L s → ⊥) → (WrongTail L s → ⊥) → headerFault L s ≡ 0
+  header-clear : (WrongLength L s → ⊥) →
+      (WrongVersion L s → ⊥) →
+      (WrongCount L s → ⊥) →
+      (WrongObjective L s → ⊥) →
+      (WrongTail L s → ⊥) →
+      headerFault L s ≡ 0
   unfolding headerFault
   header-clear a b c d f =
-      rw (refuted (length-test L s) a, refuted (version-test L s) b, refuted (count-test L s) c, refuted (objective-test L s) d, refuted (tail-test L s) f)
+      rw (
+        refuted (length-test L s) a,
+        refuted (version-test L s) b,
+        refuted (count-test L s) c,
+        refuted (objective-test L s) d,
+        refuted
+            (tail-test L s) f,
+      )
 
   header-1 : WrongLength L s → headerFault L s ≡ 1
   unfolding headerFault
@@ -89,11 +121,25 @@ module _ (L : Layout) (s : List ℕ) where
 
   header-4 : (WrongLength L s → ⊥) → (WrongVersion L s → ⊥) → (WrongCount L s → ⊥) → WrongObjective L s → headerFault L s ≡ 4
   unfolding headerFault
-  header-4 a b c d = rw (refuted (length-test L s) a, refuted (version-test L s) b, refuted (count-test L s) c, objective-test L s .tests d)
+  header-4 a b c d =
+      rw (refuted (length-test L s) a, refuted (version-test L s) b, refuted (count-test L s) c, objective-test L s .tests d)
 
-  header-5 : (WrongLength L s → ⊥) → (WrongVersion L s → ⊥) → (WrongCount L s → ⊥) → (WrongObjective L s → ⊥) → WrongTail L s → headerFault L s ≡ 5
+  header-5 : (WrongLength L s → ⊥) →
+      (WrongVersion L s → ⊥) →
+      (WrongCount L s → ⊥) →
+      (WrongObjective L s → ⊥) →
+      WrongTail L s →
+      headerFault L s ≡ 5
   unfolding headerFault
-  header-5 a b c d f = rw (refuted (length-test L s) a, refuted (version-test L s) b, refuted (count-test L s) c, refuted (objective-test L s) d, tail-test L s .tests f)
+  header-5 a b c d f =
+      rw (
+        refuted (length-test L s) a,
+        refuted (version-test L s) b,
+        refuted (count-test L s) c,
+        refuted
+            (objective-test L s) d,
+        tail-test L s .tests f,
+      )
 
   -- a header with the right length and count has its count below the greatest number of records
   count-below : (WrongLength L s → ⊥) → (WrongCount L s → ⊥) → countOf L s < L .records
@@ -112,7 +158,12 @@ module _ (L : Layout) (s : List ℕ) where
     unfolding decodedOf decodedWith
     rule-good e = go (badKind (eqb (padOf L r) 0) (ruleOf L r)) (badSlope (ruleOf L r)) (badBound (ruleOf L r)) refl refl refl e
       where
-        go : (a b c : Bool) → badKind (eqb (padOf L r) 0) (ruleOf L r) ≡ a → badSlope (ruleOf L r) ≡ b → badBound (ruleOf L r) ≡ c → numberOf (cond a Kind (cond b Slope (cond c Bound (Sound (ruleOf L r) (linkOf L r))))) ≡ 0 → (WrongKind L r → ⊥) × (WrongSlope L r → ⊥) × (WrongBound L r → ⊥)
+        go : (a b c : Bool) →
+            badKind (eqb (padOf L r) 0) (ruleOf L r) ≡ a →
+            badSlope (ruleOf L r) ≡ b →
+            badBound (ruleOf L r) ≡ c →
+            numberOf (cond a Kind (cond b Slope (cond c Bound (Sound (ruleOf L r) (linkOf L r))))) ≡ 0 →
+            (WrongKind L r → ⊥) × (WrongSlope L r → ⊥) × (WrongBound L r → ⊥)
         go true b c pa pb pc e = absurd (let z : ⊥ = omega arith in z)
         go false true c pa pb pc e = absurd (let z : ⊥ = omega arith in z)
         go false false true pa pb pc e = absurd (let z : ⊥ = omega arith in z)
@@ -134,14 +185,22 @@ module _ (L : Layout) (s : List ℕ) where
     unfolding decodedOf decodedWith
     rule-10 a b c = rw (refuted (kind-test L r) a, refuted (slope-test L r) b, bound-test L r .tests c)
 
-  rule-bad : (i : ℕ) → Reached L s i → (numberOf (decodedOf L (recordAt L s i)) ≡ 0 → ⊥) → Applies L s (numberOf (decodedOf L (recordAt L s i))) i
+  rule-bad : (i : ℕ) →
+      Reached L s i →
+      (numberOf (decodedOf L (recordAt L s i)) ≡ 0 → ⊥) →
+      Applies L s (numberOf (decodedOf L (recordAt L s i))) i
   unfolding decodedOf decodedWith
   rule-bad i w h = go (badKind (eqb (padOf L r) 0) (ruleOf L r)) (badSlope (ruleOf L r)) (badBound (ruleOf L r)) refl refl refl h
     where
       r : List ℕ
       r = recordAt L s i
 
-      go : (a b c : Bool) → badKind (eqb (padOf L r) 0) (ruleOf L r) ≡ a → badSlope (ruleOf L r) ≡ b → badBound (ruleOf L r) ≡ c → (numberOf (cond a Kind (cond b Slope (cond c Bound (Sound (ruleOf L r) (linkOf L r))))) ≡ 0 → ⊥) → Applies L s (numberOf (cond a Kind (cond b Slope (cond c Bound (Sound (ruleOf L r) (linkOf L r)))))) i
+      go : (a b c : Bool) →
+          badKind (eqb (padOf L r) 0) (ruleOf L r) ≡ a →
+          badSlope (ruleOf L r) ≡ b →
+          badBound (ruleOf L r) ≡ c →
+          (numberOf (cond a Kind (cond b Slope (cond c Bound (Sound (ruleOf L r) (linkOf L r))))) ≡ 0 → ⊥) →
+          Applies L s (numberOf (cond a Kind (cond b Slope (cond c Bound (Sound (ruleOf L r) (linkOf L r)))))) i
       go true b c pa pb pc h = cause-8 w (kind-test L r .holds pa)
       go false true c pa pb pc h = cause-9 w (refutes (kind-test L r) pa) (slope-test L r .holds pb)
       go false false true pa pb pc h = cause-10 w (refutes (kind-test L r) pa) (refutes (slope-test L r) pb) (bound-test L r .holds pc)
@@ -164,7 +223,10 @@ module _ (L : Layout) (s : List ℕ) where
   walked-length w = omega (arith, walked-marks w .1 .counted)
 
   -- what the walk comes to, from where it was walked to
-  walk-meets : (links : ℕ) (done : List ℕ) (at : ℕ) → Walked L s done at → countOf L s < length done + links → Meets L s (walk L s links done at .reading)
+  walk-meets : (links : ℕ) (done : List ℕ) (at : ℕ) →
+      Walked L s done at →
+      countOf L s < length done + links →
+      Meets L s (walk L s links done at .reading)
   walk-meets zero done at w h = absurd (let z : ⊥ = omega (arith, walked-length w) in z)
   walk-meets (suc links) done at w h =
       by-test (eqb i 0) ends
@@ -174,7 +236,10 @@ module _ (L : Layout) (s : List ℕ) where
       (λ f. by-test (memb (labelAt L s i) (map (labelAt L s) done)) (repeated z b m f)
       (λ q.
       let good = rule-good (recordAt L s i) (eqb-true (numberOf (decodedOf L (recordAt L s i))) 0 f) in
-      subst (λ (e : Ending). Meets L s (e .reading)) (sym (walk-on L s links done at i refl (eqb-false i 0 z) (ltb-false (countOf L s) i b) m (eqb-true (numberOf (decodedOf L (recordAt L s i))) 0 f) q))
+      subst (λ (e : Ending). Meets L s (e .reading))
+      (sym
+      (walk-on L s links done at i refl (eqb-false i 0 z) (ltb-false (countOf L s) i b) m
+      (eqb-true (numberOf (decodedOf L (recordAt L s i))) 0 f) q))
       (walk-meets links (done ++ (i ∷ [])) i
       (visit w i refl (eqb-false i 0 z) (ltb-false (countOf L s) i b) m (good .0) (good .1) (good .2) q)
       (omega (arith, length-append done (i ∷ []))))))
@@ -190,22 +255,59 @@ module _ (L : Layout) (s : List ℕ) where
 
       over : eqb i 0 ≡ false → ltb (countOf L s) i ≡ true → Meets L s (walk L s (suc links) done at .reading)
       over z b =
-          subst (λ (e : Ending). Meets L s (e .reading)) (sym (walk-over L s links done at i refl (eqb-false i 0 z) (ltb-true (countOf L s) i b))) (cause-6 w (ltb-true (countOf L s) i b))
+          subst (λ (e : Ending). Meets L s (e .reading))
+          (sym (walk-over L s links done at i refl (eqb-false i 0 z) (ltb-true (countOf L s) i b)))
+          (cause-6 w (ltb-true (countOf L s) i b))
 
       again : eqb i 0 ≡ false → ltb (countOf L s) i ≡ false → memb i done ≡ true → Meets L s (walk L s (suc links) done at .reading)
       again z b m =
-          subst (λ (e : Ending). Meets L s (e .reading)) (sym (walk-again L s links done at i refl (eqb-false i 0 z) (ltb-false (countOf L s) i b) m)) (cause-7 w (eqb-false i 0 z) (ltb-false (countOf L s) i b) m)
+          subst (λ (e : Ending). Meets L s (e .reading))
+          (sym (walk-again L s links done at i refl (eqb-false i 0 z) (ltb-false (countOf L s) i b) m))
+          (cause-7 w (eqb-false i 0 z) (ltb-false (countOf L s) i b) m)
 
-      repeated : eqb i 0 ≡ false → ltb (countOf L s) i ≡ false → memb i done ≡ false → eqb (numberOf (decodedOf L (recordAt L s i))) 0 ≡ true → memb (labelAt L s i) (map (labelAt L s) done) ≡ true → Meets L s (walk L s (suc links) done at .reading)
+      repeated : eqb i 0 ≡ false →
+          ltb (countOf L s) i ≡ false →
+          memb i done ≡ false →
+          eqb (numberOf (decodedOf L (recordAt L s i))) 0 ≡ true →
+          memb (labelAt L s i) (map (labelAt L s) done) ≡ true →
+          Meets L s (walk L s (suc links) done at .reading)
       repeated z b m f q =
           let good = rule-good (recordAt L s i) (eqb-true (numberOf (decodedOf L (recordAt L s i))) 0 f) in
-          subst (λ (e : Ending). Meets L s (e .reading)) (sym (walk-repeat L s links done at i refl (eqb-false i 0 z) (ltb-false (countOf L s) i b) m (eqb-true (numberOf (decodedOf L (recordAt L s i))) 0 f) q))
-          (cause-12 (record { done = done; at = at; walked = w; link = refl; some = eqb-false i 0 z; within = ltb-false (countOf L s) i b; new = m }) (good .0) (good .1) (good .2) q)
+          subst (λ (e : Ending). Meets L s (e .reading))
+          (sym
+          (walk-repeat L s links done at i refl (eqb-false i 0 z) (ltb-false (countOf L s) i b) m
+          (eqb-true (numberOf (decodedOf L (recordAt L s i))) 0 f) q))
+          (cause-12
+          (record {
+            done = done;
+            at = at;
+            walked = w;
+            link = refl;
+            some = eqb-false i 0 z;
+            within = ltb-false (countOf L s) i b;
+            new = m;
+          }) (good .0) (good .1) (good .2) q)
 
-      fault : eqb i 0 ≡ false → ltb (countOf L s) i ≡ false → memb i done ≡ false → eqb (numberOf (decodedOf L (recordAt L s i))) 0 ≡ false → Meets L s (walk L s (suc links) done at .reading)
+      fault : eqb i 0 ≡ false →
+          ltb (countOf L s) i ≡ false →
+          memb i done ≡ false →
+          eqb (numberOf (decodedOf L (recordAt L s i))) 0 ≡ false →
+          Meets L s (walk L s (suc links) done at .reading)
       fault z b m f =
-          subst (λ (e : Ending). Meets L s (e .reading)) (sym (walk-fault L s links done at i refl (eqb-false i 0 z) (ltb-false (countOf L s) i b) m (eqb-false (numberOf (decodedOf L (recordAt L s i))) 0 f)))
-          (rule-bad i (record { done = done; at = at; walked = w; link = refl; some = eqb-false i 0 z; within = ltb-false (countOf L s) i b; new = m }) (eqb-false (numberOf (decodedOf L (recordAt L s i))) 0 f))
+          subst (λ (e : Ending). Meets L s (e .reading))
+          (sym
+          (walk-fault L s links done at i refl (eqb-false i 0 z) (ltb-false (countOf L s) i b) m
+          (eqb-false (numberOf (decodedOf L (recordAt L s i))) 0 f)))
+          (rule-bad i
+          (record {
+            done = done;
+            at = at;
+            walked = w;
+            link = refl;
+            some = eqb-false i 0 z;
+            within = ltb-false (countOf L s) i b;
+            new = m;
+          }) (eqb-false (numberOf (decodedOf L (recordAt L s i))) 0 f))
 
   -- ---- the whole book
 
@@ -254,7 +356,8 @@ module _ (L : Layout) (s : List ℕ) where
   walked-goes-on : {done : List ℕ} {at : ℕ} → Walked L s done at → endOf L s ≡ walk L s (L .records - length done) done at
   walked-goes-on (header a b c d f) = ends-clear (header-clear a b c d f) ∙ ap (λ n. walk L s n [] 0) (omega arith)
   walked-goes-on (visit {done = done} {at = at} w i e z h m ka kb kc q) =
-      let left : L .records - length done ≡ suc (L .records - length (done ++ (i ∷ []))) = omega (arith, walked-length w, walked-count w, length-append done (i ∷ [])) in
+      let left : L .records - length done ≡ suc (L .records - length (done ++ (i ∷ []))) =
+      omega (arith, walked-length w, walked-count w, length-append done (i ∷ [])) in
       walked-goes-on w ∙ ap (λ n. walk L s n done at) left ∙ walk-on L s _ done at i e z h m (rule-clear (recordAt L s i) ka kb kc) q
 
   -- the same, with a link to follow

@@ -1,4 +1,5 @@
--- The laws of this crate: lists and tables, the walk and the causes, the runs and the state of the walk, what holds of accepted books, the repacked form.
+-- The laws of this crate: lists and tables, the walk and the causes, the runs and the state of the walk, what holds of accepted books, the
+-- repacked form.
 pub mod Members
 pub mod TableLaws
 pub mod Small

@@ -1,4 +1,5 @@
--- The walk along the links, a link at a time, and the marks of the records visited. A mark is set for each record visited, and none is set twice:
+-- The walk along the links, a link at a time, and the marks of the records visited. A mark is set for each record visited, and none is set
+-- twice:
 -- so the marks that are left count down, and the walk ends.
 use Prim.Native.Nat.{ℕ, zero, suc, _+_, _≤_, _<_}
 use mathlib.Core.Path.{_≡_, refl, sym, ap, _∙_}
@@ -42,7 +43,8 @@ module _ (L : Layout) (s : List ℕ) (links : ℕ) (done : List ℕ) (at i : ℕ
       walk-again m = walk-once ∙ rw (ne-eqb i 0 z, le-ltb (countOf L s) i h, m)
 
       module _ (m : memb i done ≡ false) where
-        pub walk-fault : (numberOf (decodedOf L (recordAt L s i)) ≡ 0 → ⊥) → walk L s (suc links) done at ≡ stop (refused (numberOf (decodedOf L (recordAt L s i))) i)
+        pub walk-fault : (numberOf (decodedOf L (recordAt L s i)) ≡ 0 → ⊥) →
+            walk L s (suc links) done at ≡ stop (refused (numberOf (decodedOf L (recordAt L s i))) i)
         unfolding follow
         walk-fault f =
             walk-once ∙ rw (ne-eqb i 0 z, le-ltb (countOf L s) i h, m, ne-eqb (numberOf (decodedOf L (recordAt L s i))) 0 f)
@@ -53,7 +55,8 @@ module _ (L : Layout) (s : List ℕ) (links : ℕ) (done : List ℕ) (at i : ℕ
           walk-repeat q =
               walk-once ∙ rw (ne-eqb i 0 z, le-ltb (countOf L s) i h, m, eq-eqb (numberOf (decodedOf L (recordAt L s i))) 0 f, q)
 
-          pub walk-on : memb (labelAt L s i) (map (labelAt L s) done) ≡ false → walk L s (suc links) done at ≡ walk L s links (done ++ (i ∷ [])) i
+          pub walk-on : memb (labelAt L s i) (map (labelAt L s) done) ≡ false →
+              walk L s (suc links) done at ≡ walk L s links (done ++ (i ∷ [])) i
           unfolding follow
           walk-on q =
               walk-once ∙ rw (ne-eqb i 0 z, le-ltb (countOf L s) i h, m, eq-eqb (numberOf (decodedOf L (recordAt L s i))) 0 f, q)
@@ -98,7 +101,9 @@ marked-start m =
     go zero h k = absurd (let z : ⊥ = omega arith in z)
     go (suc i) h k = getD-replicate m i false false k
 
-module _ {m : ℕ} {done : List ℕ} {seen : List Bool} (marks : Marked m done seen) (i : ℕ) (h : 0 < i) (k : i ≤ m) (new : memb i done ≡ false) where
+module _
+    {m : ℕ} {done : List ℕ} {seen : List Bool} (marks : Marked m done seen) (i : ℕ) (h : 0 < i) (k : i ≤ m)
+    (new : memb i done ≡ false) where
   one-less : unseen seen ≡ suc (unseen (set seen i true))
   one-less = unseen-set seen i (omega (arith, marks .size)) (marks .agrees i h k ∙ new)
 

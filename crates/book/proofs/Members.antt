@@ -72,7 +72,15 @@ place-of f (y ∷ l) x e = go (eqb x (f y)) refl e (place-of f l x)
     go false p e ih = let r = ih e in record { place = suc (r .place); within = omega (arith, r .within); value = r .value }
 
 -- a list whose values under f differ, and one more that differs from all of them
-pub apart-snoc : (f : ℕ → ℕ) (l : List ℕ) (i : ℕ) → ((j : ℕ) → j < length l → f (getD l j 0) ≡ f i → ⊥) → ((k : ℕ) → k < length l → (j : ℕ) → j < k → f (getD l j 0) ≡ f (getD l k 0) → ⊥) → (k : ℕ) → k < length (l ++ (i ∷ [])) → (j : ℕ) → j < k → f (getD (l ++ (i ∷ [])) j 0) ≡ f (getD (l ++ (i ∷ [])) k 0) → ⊥
+pub apart-snoc : (f : ℕ → ℕ) (l : List ℕ) (i : ℕ) →
+    ((j : ℕ) → j < length l → f (getD l j 0) ≡ f i → ⊥) →
+    ((k : ℕ) → k < length l → (j : ℕ) → j < k → f (getD l j 0) ≡ f (getD l k 0) → ⊥) →
+    (k : ℕ) →
+    k < length (l ++ (i ∷ [])) →
+    (j : ℕ) →
+    j < k →
+    f (getD (l ++ (i ∷ [])) j 0) ≡ f (getD (l ++ (i ∷ [])) k 0) →
+    ⊥
 apart-snoc f l i new old k h j g p = go (decLt k (length l))
   where
     earlier : j < length l

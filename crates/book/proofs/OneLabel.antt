@@ -1,5 +1,5 @@
--- A label means one rule: 12 is said of a book exactly where a label stands a second time on the chain, and a book whose chain has distinct labels
--- is read as it was before 12 was.
+-- A label means one rule: 12 is said of a book exactly where a label stands a second time on the chain, and a book whose chain has
+-- distinct labels is read as it was before 12 was.
 use Prim.Native.Nat.{ℕ, zero, suc, _≤_, _<_}
 use mathlib.Core.Path.{_≡_, refl, _∙_, subst, subst⁻¹}
 use mathlib.Core.Bool.{Bool, true, false, cond}
@@ -20,15 +20,20 @@ use Rattle.book.proofs.Bounds.{each-snoc, walked-labels}
 -- ---- what 12 says
 
 module _ (L : Layout) (s : List ℕ) where
-  -- the chain is walked to record i with no cause on the way, the record is sound, and its label is that of a record visited; up to there no label
-  -- stands twice
+  -- the chain is walked to record i with no cause on the way, the record is sound, and its label is that of a record visited; up to there
+  -- no label stands twice
   pub record Repeats (i : ℕ) : Type 0 where
     pub reached : Reached L s i
     pub kind : WrongKind L (recordAt L s i) → ⊥
     pub slope : WrongSlope L (recordAt L s i) → ⊥
     pub bound : WrongBound L (recordAt L s i) → ⊥
     pub stood : Place (labelAt L s) (reached .done) (labelAt L s i)
-    pub first : (k : ℕ) → k < length (reached .done) → (j : ℕ) → j < k → labelAt L s (getD (reached .done) j 0) ≡ labelAt L s (getD (reached .done) k 0) → ⊥
+    pub first : (k : ℕ) →
+        k < length (reached .done) →
+        (j : ℕ) →
+        j < k →
+        labelAt L s (getD (reached .done) j 0) ≡ labelAt L s (getD (reached .done) k 0) →
+        ⊥
 
   twelve : {n i : ℕ} → Applies L s n i → n ≡ 12 → Repeats i
   twelve (cause-1 a) e = absurd (let z : ⊥ = omega arith in z)
@@ -58,7 +63,9 @@ module _ (L : Layout) (s : List ℕ) where
   pub repeats-refused : {i : ℕ} → Repeats i → readOf L s ≡ refused 12 i
   repeats-refused {i} r =
       let p = r .stood in
-      let q : memb (labelAt L s i) (map (labelAt L s) (r .reached .done)) ≡ true = subst (λ (l : ℕ). memb l (map (labelAt L s) (r .reached .done)) ≡ true) (p .value) (memb-at (labelAt L s) (r .reached .done) (p .place) (p .within)) in
+      let q : memb (labelAt L s i) (map (labelAt L s) (r .reached .done)) ≡ true =
+      subst (λ (l : ℕ). memb l (map (labelAt L s) (r .reached .done)) ≡ true) (p .value)
+      (memb-at (labelAt L s) (r .reached .done) (p .place) (p .within)) in
       applies-refused L s (cause-12 (r .reached) (r .kind) (r .slope) (r .bound) q)
 
 -- ---- reading as it was before: every test but 12
@@ -90,7 +97,10 @@ abbrev Other : Reading → Type 0
 Other x = (i : ℕ) → x ≡ refused 12 i → ⊥
 
 -- one test, with 12 after it and without
-test : (a b c d q : Bool) (x y z u v w : Reading) (i : ℕ) → Other (cond a x (cond b y (cond c z (cond d (cond q (refused 12 i) u) w)))) → (Other u → u ≡ v) → cond a x (cond b y (cond c z (cond d (cond q (refused 12 i) u) w))) ≡ cond a x (cond b y (cond c z (cond d v w)))
+test : (a b c d q : Bool) (x y z u v w : Reading) (i : ℕ) →
+    Other (cond a x (cond b y (cond c z (cond d (cond q (refused 12 i) u) w)))) →
+    (Other u → u ≡ v) →
+    cond a x (cond b y (cond c z (cond d (cond q (refused 12 i) u) w))) ≡ cond a x (cond b y (cond c z (cond d v w)))
 test true b c d q x y z u v w i o p = refl
 test false true c d q x y z u v w i o p = refl
 test false false true d q x y z u v w i o p = refl
@@ -113,7 +123,9 @@ picked false false false true true done x y z r u w = refl
 picked false false false true false done x y z r u w = refl
 
 module _ (L : Layout) (s : List ℕ) where
-  walk-before : (links : ℕ) (done : List ℕ) (at : ℕ) → Other (walk L s links done at .reading) → walk L s links done at .reading ≡ walkBefore L s links done at
+  walk-before : (links : ℕ) (done : List ℕ) (at : ℕ) →
+      Other (walk L s links done at .reading) →
+      walk L s links done at .reading ≡ walkBefore L s links done at
   unfolding walk follow walkBefore followBefore
   walk-before zero done at o = refl
   walk-before (suc links) done at o =
@@ -122,7 +134,8 @@ module _ (L : Layout) (s : List ℕ) where
       (memb (labelAt L s i) (map (labelAt L s) done)) done
       (accepted (termsOf L s) (map (entryAt L s) done)) (refused 6 at) (refused 7 at) (refused 12 i)
       (walk L s links (done ++ (i ∷ [])) i) (refused (numberOf (decodedOf L (recordAt L s i))) i)
-      ∙ test (eqb i 0) (ltb (countOf L s) i) (memb i done) (eqb (numberOf (decodedOf L (recordAt L s i))) 0) (memb (labelAt L s i) (map (labelAt L s) done))
+      ∙ test (eqb i 0) (ltb (countOf L s) i) (memb i done) (eqb (numberOf (decodedOf L (recordAt L s i))) 0)
+      (memb (labelAt L s i) (map (labelAt L s) done))
       (accepted (termsOf L s) (map (entryAt L s) done)) (refused 6 at) (refused 7 at)
       (walk L s links (done ++ (i ∷ [])) i .reading) (walkBefore L s links (done ++ (i ∷ [])) i)
       (refused (numberOf (decodedOf L (recordAt L s i))) i) i
@@ -152,16 +165,29 @@ module _ (L : Layout) (s : List ℕ) where
 
   -- of the records that are there: links may lead past the count, where a record reads as label 0
   pub record DistinctLabels : Type 0 where
-    pub apart : (i j : ℕ) → OnChain L s i → OnChain L s j → (i ≡ 0 → ⊥) → (j ≡ 0 → ⊥) → i ≤ countOf L s → j ≤ countOf L s → labelAt L s i ≡ labelAt L s j → i ≡ j
+    pub apart : (i j : ℕ) →
+        OnChain L s i →
+        OnChain L s j →
+        (i ≡ 0 → ⊥) →
+        (j ≡ 0 → ⊥) →
+        i ≤ countOf L s →
+        j ≤ countOf L s →
+        labelAt L s i ≡ labelAt L s j →
+        i ≡ j
 
   walked-here : {done : List ℕ} {at : ℕ} → Walked L s done at → OnChain L s at
   walked-here (header a b c d f) = header
   walked-here (visit w i e z h m ka kb kc q) = subst⁻¹ (OnChain L s) e (link (walked-here w))
 
-  walked-chain : {done : List ℕ} {at : ℕ} → Walked L s done at → (k : ℕ) → k < length done → OnChain L s (getD done k 0) × ((getD done k 0 ≡ 0 → ⊥) × (getD done k 0 ≤ countOf L s))
+  walked-chain : {done : List ℕ} {at : ℕ} →
+      Walked L s done at →
+      (k : ℕ) →
+      k < length done →
+      OnChain L s (getD done k 0) × ((getD done k 0 ≡ 0 → ⊥) × (getD done k 0 ≤ countOf L s))
   walked-chain (header a b c d f) = λ k h. absurd (let z : ⊥ = omega arith in z)
   walked-chain (visit {done = done} w i e z h m ka kb kc q) =
-      each-snoc (λ j. OnChain L s j × ((j ≡ 0 → ⊥) × (j ≤ countOf L s))) done i (walked-chain w) (subst⁻¹ (OnChain L s) e (link (walked-here w)), (z, h))
+      each-snoc (λ j. OnChain L s j × ((j ≡ 0 → ⊥) × (j ≤ countOf L s))) done i (walked-chain w)
+      (subst⁻¹ (OnChain L s) e (link (walked-here w)), (z, h))
 
   distinct-other : DistinctLabels → Other (readOf L s)
   distinct-other d i e =

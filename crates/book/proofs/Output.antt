@@ -60,25 +60,33 @@ chain-accepted {s} {h} {first} r z room =
     }
 
 -- two copies from the front on fill the front
-two-pastes : (out H T : List ℕ) (m : ℕ) → length H ≡ 12 → length T ≡ m → 12 ≤ length out → paste (paste out 0 H 12) 12 T m ≡ H ++ T ++ drop (length (H ++ T)) out
+two-pastes : (out H T : List ℕ) (m : ℕ) →
+    length H ≡ 12 →
+    length T ≡ m →
+    12 ≤ length out →
+    paste (paste out 0 H 12) 12 T m ≡ H ++ T ++ drop (length (H ++ T)) out
 two-pastes out H T m h t r =
     let P = paste out 0 H 12 in
     let front : take 12 P ≡ H = take-paste out 0 H 12 (omega arith) (omega arith) ∙ take-all 12 H (omega arith) in
     let middle : take m T ≡ T = take-all m T (omega arith) in
     let n : 12 + m ≡ length (H ++ T) = omega (arith, length-append H T) in
     let back : drop (12 + m) P ≡ drop (length (H ++ T)) out =
-    sym (drop-drop m 12 P) ∙ ap (drop m) (drop-paste out 0 H 12 (omega arith) (omega arith)) ∙ drop-drop m 12 out ∙ ap (λ k. drop k out) n in
+    sym (drop-drop m 12 P) ∙ ap (drop m) (drop-paste out 0 H 12 (omega arith) (omega arith)) ∙ drop-drop m 12 out
+    ∙ ap (λ k. drop k out) n in
     λ i. front i ++ middle i ++ back i
 
 -- ---- the answers
 
 module _ (s out : List ℕ) where
-  pub packs-refused : (k i : ℕ) → readOf v1 s ≡ refused k i → Repacks v1 s out (record { refusal = record { number = k; at = i }; filled = 0 }) out
+  pub packs-refused : (k i : ℕ) →
+      readOf v1 s ≡ refused k i →
+      Repacks v1 s out (record { refusal = record { number = k; at = i }; filled = 0 }) out
   unfolding packOf
   packs-refused k i e = record { answer = rw e; output = rw e }
 
   module _ {ch : Head} {run : List ℕ} (c : ChainRead s ch run) where
-    pub packs-declined : length out < 12 * (ch .n + 1) → Repacks v1 s out (record { refusal = record { number = 11; at = 0 }; filled = 0 }) out
+    pub packs-declined : length out < 12 * (ch .n + 1) →
+        Repacks v1 s out (record { refusal = record { number = 11; at = 0 }; filled = 0 }) out
     unfolding packOf
     packs-declined h = record { answer = rw (c .reads, short); output = rw (c .reads, short) }
       where
@@ -91,18 +99,27 @@ module _ (s out : List ℕ) where
     book-long : length (bookOf v1 (termsOf v1 s) (rulesAt v1 s (c .done))) ≡ 12 * (ch .n + 1)
     book-long = length-bookOf v1 (termsOf v1 s) (rulesAt v1 s (c .done)) ∙ ap (λ n. 12 * (n + 1)) rules-long
 
-    fits : 12 * (ch .n + 1) ≤ length out → packOf v1 (readOf v1 s) (length out) ≡ packed (bookOf v1 (termsOf v1 s) (rulesAt v1 s (c .done)))
+    fits : 12 * (ch .n + 1) ≤ length out →
+        packOf v1 (readOf v1 s) (length out) ≡ packed (bookOf v1 (termsOf v1 s) (rulesAt v1 s (c .done)))
     unfolding packOf
     fits h =
-        let room : ltb (length out) (12 * (length (map (entryAt v1 s) (c .done)) + 1)) ≡ false = le-ltb (length out) (12 * (length (map (entryAt v1 s) (c .done)) + 1)) (rw (length-map, ← c .count) h) in
+        let room : ltb (length out) (12 * (length (map (entryAt v1 s) (c .done)) + 1)) ≡ false =
+        le-ltb (length out) (12 * (length (map (entryAt v1 s) (c .done)) + 1)) (rw (length-map, ← c .count) h) in
         rw (c .reads, room, rules-of v1 s (c .done))
 
-    pub packs-packed : 12 * (ch .n + 1) ≤ length out → (first : ℕ) (H out₁ out₂ : List ℕ) → first ≡ cond (ltb 0 (ch .n)) 1 0 → H ≡ headerBytes v1 first (termsOf v1 s) (ch .n) → out₁ ≡ paste out 0 H 12 → out₂ ≡ paste out₁ 12 (chainBytes v1 1 (rulesAt v1 s (take (ch .n) run))) (12 * ch .n) → Repacks v1 s out (record { refusal = ch .refusal; filled = 12 * (ch .n + 1) }) out₂
+    pub packs-packed : 12 * (ch .n + 1) ≤ length out →
+        (first : ℕ) (H out₁ out₂ : List ℕ) →
+        first ≡ cond (ltb 0 (ch .n)) 1 0 →
+        H ≡ headerBytes v1 first (termsOf v1 s) (ch .n) →
+        out₁ ≡ paste out 0 H 12 →
+        out₂ ≡ paste out₁ 12 (chainBytes v1 1 (rulesAt v1 s (take (ch .n) run))) (12 * ch .n) →
+        Repacks v1 s out (record { refusal = ch .refusal; filled = 12 * (ch .n + 1) }) out₂
     unfolding bookOf
     packs-packed h first H out₁ out₂ ef eh e₁ e₂ =
         let rs = rulesAt v1 s (c .done) in
         let link : first ≡ nextOf 0 rs = ef ∙ ap (λ n. cond (ltb 0 n) 1 0) (sym rules-long) ∙ sym (next-is 0 0 rs) in
-        let head : H ≡ headerBytes v1 (nextOf 0 rs) (termsOf v1 s) (length rs) = eh ∙ (λ j. headerBytes v1 (link j) (termsOf v1 s) (sym rules-long j)) in
+        let head : H ≡ headerBytes v1 (nextOf 0 rs) (termsOf v1 s) (length rs) =
+        eh ∙ (λ j. headerBytes v1 (link j) (termsOf v1 s) (sym rules-long j)) in
         let T = chainBytes v1 1 rs in
         let long : length T ≡ 12 * ch .n = length-chainBytes v1 1 rs ∙ rw rules-long (omega arith) in
         record {
@@ -111,6 +128,7 @@ module _ (s out : List ℕ) where
               e₂
               ∙ (λ j. paste (e₁ j) 12 (chainBytes v1 1 (rulesAt v1 s (c .kept j))) (12 * ch .n))
               ∙ ap (λ l. paste (paste out 0 l 12) 12 T (12 * ch .n)) head
-              ∙ two-pastes out (headerBytes v1 (nextOf 0 rs) (termsOf v1 s) (length rs)) T (12 * ch .n) (length-recordBytes v1 _ _ _ _ _ _) long (omega arith)
+              ∙ two-pastes out (headerBytes v1 (nextOf 0 rs) (termsOf v1 s) (length rs)) T (12 * ch .n)
+              (length-recordBytes v1 _ _ _ _ _ _) long (omega arith)
               ∙ ap (λ (k : Packing). outputOf k out) (sym (fits h));
         }

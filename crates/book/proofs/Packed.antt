@@ -25,7 +25,15 @@ use Rattle.book.specs.Repacking.{recordBytes, headerBytes, ruleBytes, ne
 
 -- ---- version 1, byte by byte
 
-pub twelve : (l k a b m c : ℕ) → l < 256 → k < 256 → a < 65536 → b < 65536 → m < 65536 → c < 4294967296 → l ∷ k ∷ (a % 256) ∷ (a / 256) ∷ (b % 256) ∷ (b / 256) ∷ (m % 256) ∷ (m / 256) ∷ (c % 256) ∷ (c / 256 % 256) ∷ (c / 65536 % 256) ∷ (c / 16777216) ∷ [] ≡ recordBytes v1 l k a b m c
+pub twelve : (l k a b m c : ℕ) →
+    l < 256 →
+    k < 256 →
+    a < 65536 →
+    b < 65536 →
+    m < 65536 →
+    c < 4294967296 →
+    l ∷ k ∷ (a % 256) ∷ (a / 256) ∷ (b % 256) ∷ (b / 256) ∷ (m % 256) ∷ (m / 256) ∷ (c % 256) ∷ (c / 256 % 256) ∷ (c / 65536 % 256) ∷
+    (c / 16777216) ∷ [] ≡ recordBytes v1 l k a b m c
 unfolding recordBytes bytesOf
 twelve l k a b m c hl hk ha hb hm hc =
     let pl : l ≡ l % 256 = omega arith in
@@ -93,11 +101,15 @@ module _ (L : Layout) where
   length-bookOf o rs =
       length-append (headerBytes L (nextOf 0 rs) o (length rs)) (chainBytes L 1 rs)
       ∙ rw (length-recordBytes, length-chainBytes 1 rs)
-      (sym (ap (λ m. width L * m) (add-one (length rs)) ∙ mul-suc (width L) (length rs) ∙ add-comm (width L * length rs) (width L) ∙ ap (λ x. width L + x) (mul-comm (width L) (length rs))))
+      (sym
+      (ap (λ m. width L * m) (add-one (length rs)) ∙ mul-suc (width L) (length rs) ∙ add-comm (width L * length rs) (width L)
+      ∙ ap (λ x. width L + x) (mul-comm (width L) (length rs))))
 
   -- ---- a record of the chain
 
-  pub chain-record : (k : ℕ) (rs : List Rule) (j : ℕ) (d : Rule) → j < length rs → take (width L) (drop (j * width L) (chainBytes L k rs)) ≡ ruleBytes L (nextOf (k + j) (drop (suc j) rs)) (getD rs j d)
+  pub chain-record : (k : ℕ) (rs : List Rule) (j : ℕ) (d : Rule) →
+      j < length rs →
+      take (width L) (drop (j * width L) (chainBytes L k rs)) ≡ ruleBytes L (nextOf (k + j) (drop (suc j) rs)) (getD rs j d)
   unfolding chainBytes
   chain-record k [] j d h = absurd (let z : ⊥ = omega arith in z)
   chain-record k (r ∷ rs) zero d h =
@@ -106,7 +118,8 @@ module _ (L : Layout) where
   chain-record k (r ∷ rs) (suc j) d h =
       let R = ruleBytes L (nextOf k rs) r in
       let C = chainBytes L (suc k) rs in
-      let e : suc j * width L ≡ length R + j * width L = suc-mul j (width L) ∙ add-comm (j * width L) (width L) ∙ ap (λ n. n + j * width L) (sym (length-recordBytes _ _ _ _ _ _)) in
+      let e : suc j * width L ≡ length R + j * width L =
+      suc-mul j (width L) ∙ add-comm (j * width L) (width L) ∙ ap (λ n. n + j * width L) (sym (length-recordBytes _ _ _ _ _ _)) in
       let f : suc k + j ≡ k + suc j = omega arith in
       ap (λ n. take (width L) (drop n (R ++ C))) e
       ∙ ap (take (width L)) (drop-append-add R C (j * width L))
@@ -122,7 +135,11 @@ next-is m (suc j) (r ∷ rs) = next-is m j rs ∙ rw (leb·suc-suc (suc j) (leng
 
 -- ---- copies one after the other
 
-pub paste-next : (d t b : List ℕ) (a j m : ℕ) → a ≤ length d → j ≤ length t → take m b ≡ take m (drop j t) → paste (paste d a t j) (a + j) b m ≡ paste d a t (j + m)
+pub paste-next : (d t b : List ℕ) (a j m : ℕ) →
+    a ≤ length d →
+    j ≤ length t →
+    take m b ≡ take m (drop j t) →
+    paste (paste d a t j) (a + j) b m ≡ paste d a t (j + m)
 paste-next d t b a j m ha hj e =
     let P = paste d a t j in
     let front : take (a + j) P ≡ take a d ++ take j t = take-paste d a t j ha hj in
@@ -130,7 +147,8 @@ paste-next d t b a j m ha hj e =
     let back : drop (a + j + m) P ≡ drop (a + (j + m)) d =
     sym (drop-drop m (a + j) P) ∙ ap (drop m) (drop-paste d a t j ha hj) ∙ drop-drop m (a + j) d ∙ ap (λ k. drop k d) n in
     (λ i. front i ++ e i ++ back i)
-    ∙ ap (λ l. l ++ drop (a + (j + m)) d) (append-assoc (take a d) (take j t) (take m (drop j t)) ∙ ap (λ l. take a d ++ l) (sym (take-add j m t)))
+    ∙ ap (λ l. l ++ drop (a + (j + m)) d)
+    (append-assoc (take a d) (take j t) (take m (drop j t)) ∙ ap (λ l. take a d ++ l) (sym (take-add j m t)))
 
 -- ---- the code's records of the chain
 
@@ -146,16 +164,29 @@ pub length-rules : (s records : List ℕ) (n : ℕ) → n ≤ length records →
 length-rules s records n g = length-map (take n records) (λ (i : ℕ). ruleOf v1 (recordAt v1 s i)) ∙ length-take-le n records g
 
 -- record k + 1 of the repacked form, from the chain's record indices
-pub rule-record : (s records : List ℕ) (n k : ℕ) → k < n → n ≤ length records → ruleBytes v1 (cond (ltb (k + 1) n) (k + 1 + 1) 0) (ruleOf v1 (recordAt v1 s (getD records k 0))) ≡ take 12 (drop (12 * k) (chainBytes v1 1 (rulesAt v1 s (take n records))))
+pub rule-record : (s records : List ℕ) (n k : ℕ) →
+    k < n →
+    n ≤ length records →
+    ruleBytes v1 (cond (ltb (k + 1) n) (k + 1 + 1) 0) (ruleOf v1 (recordAt v1 s (getD records k 0))) ≡ take 12
+    (drop (12 * k) (chainBytes v1 1 (rulesAt v1 s (take n records))))
 rule-record s records n k h g =
     let rs = rulesAt v1 s (take n records) in
     let long : length rs ≡ n = length-rules s records n g in
-    let next : nextOf (1 + k) (drop (suc k) rs) ≡ cond (ltb (k + 1) n) (k + 1 + 1) 0 = next-is (1 + k) (suc k) rs ∙ rw (long, add-one k, add-one (suc k), one-add k) in
-    let rule : getD rs k (ruleOf v1 (recordAt v1 s 0)) ≡ ruleOf v1 (recordAt v1 s (getD records k 0)) = List·getD-map (λ (i : ℕ). ruleOf v1 (recordAt v1 s i)) (take n records) k 0 ∙ ap (λ i. ruleOf v1 (recordAt v1 s i)) (getD-take n records k 0 h) in
-    sym (ap (λ m. take 12 (drop m (chainBytes v1 1 rs))) (mul-comm 12 k) ∙ chain-record v1 1 rs k (ruleOf v1 (recordAt v1 s 0)) (rw long h) ∙ (λ i. ruleBytes v1 (next i) (rule i)))
+    let next : nextOf (1 + k) (drop (suc k) rs) ≡ cond (ltb (k + 1) n) (k + 1 + 1) 0 =
+    next-is (1 + k) (suc k) rs ∙ rw (long, add-one k, add-one (suc k), one-add k) in
+    let rule : getD rs k (ruleOf v1 (recordAt v1 s 0)) ≡ ruleOf v1 (recordAt v1 s (getD records k 0)) =
+    List·getD-map (λ (i : ℕ). ruleOf v1 (recordAt v1 s i)) (take n records) k 0
+    ∙ ap (λ i. ruleOf v1 (recordAt v1 s i)) (getD-take n records k 0 h) in
+    sym (ap (λ m. take 12 (drop m (chainBytes v1 1 rs))) (mul-comm 12 k)
+    ∙ chain-record v1 1 rs k (ruleOf v1 (recordAt v1 s 0)) (rw long h) ∙ (λ i. ruleBytes v1 (next i) (rule i)))
 
 -- the bytes that are copied there are that record's
-pub rule-copied : (s records bytes : List ℕ) (n k link : ℕ) → k < n → n ≤ length records → link ≡ cond (ltb (k + 1) n) (k + 1 + 1) 0 → bytes ≡ ruleBytes v1 link (ruleOf v1 (recordAt v1 s (getD records k 0))) → take 12 bytes ≡ take 12 (drop (12 * k) (chainBytes v1 1 (rulesAt v1 s (take n records))))
+pub rule-copied : (s records bytes : List ℕ) (n k link : ℕ) →
+    k < n →
+    n ≤ length records →
+    link ≡ cond (ltb (k + 1) n) (k + 1 + 1) 0 →
+    bytes ≡ ruleBytes v1 link (ruleOf v1 (recordAt v1 s (getD records k 0))) →
+    take 12 bytes ≡ take 12 (drop (12 * k) (chainBytes v1 1 (rulesAt v1 s (take n records))))
 rule-copied s records bytes n k link h g e b =
     let whole = b ∙ ap (λ m. ruleBytes v1 m (ruleOf v1 (recordAt v1 s (getD records k 0)))) e ∙ rule-record s records n k h g in
     ap (take 12) whole ∙ take-take 12 12 (drop (12 * k) (chainBytes v1 1 (rulesAt v1 s (take n records)))) (omega arith)

@@ -89,7 +89,8 @@ module _ (L : Layout) (l k a b m c : ℕ) where
   unfolding after-b
   at-c =
       let e : L .link + 1 + L .pad + 6 ≡ L .link + 1 + L .pad + 4 + 2 = omega arith in
-      ap (λ n. drop n (recordBytes L l k a b m c)) e ∙ past 2 m (L .link + 1 + L .pad + 4) (recordBytes L l k a b m c) (bytesOf 4 c) at-label
+      ap (λ n. drop n (recordBytes L l k a b m c)) e
+      ∙ past 2 m (L .link + 1 + L .pad + 4) (recordBytes L l k a b m c) (bytesOf 4 c) at-label
 
   link-back : l < 256 ^ L .link → linkOf L (recordBytes L l k a b m c) ≡ l
   unfolding recordBytes
@@ -149,9 +150,15 @@ module _ (L : Layout) (next : ℕ) (r : Rule) (sound : SoundRule r) (label : r .
       let fb = sixteen-fits (r .b) (sound .b) in
       let fc = thirty-two-fits (r .c) (sound .c) in
       let pk = kind-back L next (r .kind) (ofZ w16 (r .a)) (ofZ w16 (r .b)) (r .label) (ofZ w32 (r .c)) kind-small in
-      let pa = ap (toZ w16) (a-back L next (r .kind) (ofZ w16 (r .a)) (ofZ w16 (r .b)) (r .label) (ofZ w32 (r .c)) (fits-ofZ fa .fits)) ∙ toZ-ofZ fa in
-      let pb = ap (toZ w16) (b-back L next (r .kind) (ofZ w16 (r .a)) (ofZ w16 (r .b)) (r .label) (ofZ w32 (r .c)) (fits-ofZ fb .fits)) ∙ toZ-ofZ fb in
-      let pc = ap (toZ w32) (c-back L next (r .kind) (ofZ w16 (r .a)) (ofZ w16 (r .b)) (r .label) (ofZ w32 (r .c)) (fits-ofZ fc .fits)) ∙ toZ-ofZ fc in
+      let pa =
+      ap (toZ w16) (a-back L next (r .kind) (ofZ w16 (r .a)) (ofZ w16 (r .b)) (r .label) (ofZ w32 (r .c)) (fits-ofZ fa .fits))
+      ∙ toZ-ofZ fa in
+      let pb =
+      ap (toZ w16) (b-back L next (r .kind) (ofZ w16 (r .a)) (ofZ w16 (r .b)) (r .label) (ofZ w32 (r .c)) (fits-ofZ fb .fits))
+      ∙ toZ-ofZ fb in
+      let pc =
+      ap (toZ w32) (c-back L next (r .kind) (ofZ w16 (r .a)) (ofZ w16 (r .b)) (r .label) (ofZ w32 (r .c)) (fits-ofZ fc .fits))
+      ∙ toZ-ofZ fc in
       let pl = label-back L next (r .kind) (ofZ w16 (r .a)) (ofZ w16 (r .b)) (r .label) (ofZ w32 (r .c)) label in
       λ i. record { kind = pk i; a = pa i; b = pb i; c = pc i; label = pl i }
 
@@ -210,7 +217,9 @@ pub numbered-length : (k : ℕ) (rs : List Rule) → length (numbered k rs) ≡ 
 numbered-length k [] = refl
 numbered-length k (r ∷ rs) = ap suc (numbered-length (suc k) rs)
 
-numbered-at : (k : ℕ) (rs : List Rule) (j : ℕ) (d : Entry) → j < length rs → getD (numbered k rs) j d ≡ record { index = k + j; rule = getD rs j (d .rule) }
+numbered-at : (k : ℕ) (rs : List Rule) (j : ℕ) (d : Entry) →
+    j < length rs →
+    getD (numbered k rs) j d ≡ record { index = k + j; rule = getD rs j (d .rule) }
 numbered-at k [] j d h = absurd (let z : ⊥ = omega arith in z)
 numbered-at k (r ∷ rs) zero d h = λ i. record { index = sym (add-zero k) i; rule = r }
 numbered-at k (r ∷ rs) (suc j) d h =
@@ -249,7 +258,8 @@ module _
   body j d h =
       let H = headerBytes L (nextOf 0 rs) o (length rs) in
       let C = chainBytes L 1 rs in
-      let e : suc j * width L ≡ length H + j * width L = suc-mul j (width L) ∙ add-comm (j * width L) (width L) ∙ ap (λ n. n + j * width L) (sym (length-recordBytes L _ _ _ _ _ _)) in
+      let e : suc j * width L ≡ length H + j * width L =
+      suc-mul j (width L) ∙ add-comm (j * width L) (width L) ∙ ap (λ n. n + j * width L) (sym (length-recordBytes L _ _ _ _ _ _)) in
       ap (λ n. take (width L) (drop n (H ++ C))) e
       ∙ ap (take (width L)) (drop-append-add H C (j * width L))
       ∙ chain-record L 1 rs j d h
@@ -341,8 +351,10 @@ module _
       h (count-is ∙ omega arith)
 
   no-objective : WrongObjective L book → ⊥
-  no-objective (p-least e) = let n = ap natAbs (sym (ap (λ (f : Functional). f .p) objective-is) ∙ e) in omega (arith, goal .p-small .small)
-  no-objective (q-least e) = let n = ap natAbs (sym (ap (λ (f : Functional). f .q) objective-is) ∙ e) in omega (arith, goal .q-small .small)
+  no-objective (p-least e) =
+      let n = ap natAbs (sym (ap (λ (f : Functional). f .p) objective-is) ∙ e) in omega (arith, goal .p-small .small)
+  no-objective (q-least e) =
+      let n = ap natAbs (sym (ap (λ (f : Functional). f .q) objective-is) ∙ e) in omega (arith, goal .q-small .small)
 
   no-tail : WrongTail L book → ⊥
   no-tail (set f h) = h (tail-is ∙ rw f)
@@ -384,11 +396,14 @@ module _
       (numbered-length 1 rs ∙ sym (length-map (upTo (length rs)) (entryAt L book) ∙ upTo-length (length rs)))
       go
     where
-      go : (i : ℕ) → i < length (numbered 1 rs) → getD (numbered 1 rs) i (entryAt L book 0) ≡ getD (map (entryAt L book) (upTo (length rs))) i (entryAt L book 0)
+      go : (i : ℕ) →
+          i < length (numbered 1 rs) →
+          getD (numbered 1 rs) i (entryAt L book 0) ≡ getD (map (entryAt L book) (upTo (length rs))) i (entryAt L book 0)
       go i h =
           let k : i < length rs = rw numbered-length at h in
           let d = entryAt L book 0 .rule in
-          let rule : getD rs i d ≡ ruleOf L (recordAt L book (suc i)) = sym (ap (ruleOf L) (body i d k) ∙ rule-back L _ (getD rs i d) (lawful i d k .0) (lawful i d k .1)) in
+          let rule : getD rs i d ≡ ruleOf L (recordAt L book (suc i)) =
+          sym (ap (ruleOf L) (body i d k) ∙ rule-back L _ (getD rs i d) (lawful i d k .0) (lawful i d k .1)) in
           numbered-at 1 rs i (entryAt L book 0) k
           ∙ (λ j. record { index = one-add i j; rule = rule j })
           ∙ sym (List·getD-map (entryAt L book) (upTo (length rs)) i 0 ∙ ap (entryAt L book) (upTo-at (length rs) i k))

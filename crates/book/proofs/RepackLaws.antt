@@ -1,5 +1,5 @@
--- The laws of repacking: the repacked form of an accepted book is accepted and reads as the same terms and rules; it is its own repacked form; and
--- books that read alike have one repacked form.
+-- The laws of repacking: the repacked form of an accepted book is accepted and reads as the same terms and rules; it is its own repacked
+-- form; and books that read alike have one repacked form.
 use Prim.Native.Nat.{ℕ, zero, suc, _+_, _*_, _≤_, _<_}
 use mathlib.Core.Path.{_≡_, refl, sym, ap, _∙_, subst⁻¹}
 use mathlib.Core.Bool.{Bool, true, false, cond}
@@ -49,19 +49,27 @@ module _ (L : Layout) (u : Usable L) (s : List ℕ) (b : Bytes s) {t : Terms} {e
       ap (λ l. getD l j d) (ap (map ruleIn) (accepted-entries L s e) ∙ rules-of L s (recordsOf es))
       ∙ map-at (λ i. ruleOf L (recordAt L s i)) (recordsOf es) j d k
 
-  all-lawful : (j : ℕ) (d : Rule) → j < length (map ruleIn es) → SoundRule (getD (map ruleIn es) j d) × (getD (map ruleIn es) j d .label < 65536)
+  all-lawful : (j : ℕ) (d : Rule) →
+      j < length (map ruleIn es) →
+      SoundRule (getD (map ruleIn es) j d) × (getD (map ruleIn es) j d .label < 65536)
   all-lawful j d h =
       let k : j < length es = rw length-map at h in
       rw (at-place j d h) (entry-sound L s e j k, label-small L s b (getD (recordsOf es) j 0))
 
-  all-apart : (j k : ℕ) (d : Rule) → j < k → k < length (map ruleIn es) → getD (map ruleIn es) j d .label ≡ getD (map ruleIn es) k d .label → ⊥
+  all-apart : (j k : ℕ) (d : Rule) →
+      j < k →
+      k < length (map ruleIn es) →
+      getD (map ruleIn es) j d .label ≡ getD (map ruleIn es) k d .label →
+      ⊥
   all-apart j k d g h p =
       label-distinct L s e j k g (rw length-map at h)
       (sym (ap (λ (r : Rule). r .label) (at-place j d (omega arith))) ∙ p ∙ ap (λ (r : Rule). r .label) (at-place k d h))
 
   -- the floors that were read are ones that a header can hold
   floors-held : Holds (L .floors) (t .floors)
-  floors-held = subst⁻¹ (λ (x : Terms). Holds (L .floors) (x .floors)) (acceptance-means L s e .terms) (go (L .floors) _ _ (two-fits (atC L)) (two-fits (atC L + 2)))
+  floors-held =
+      subst⁻¹ (λ (x : Terms). Holds (L .floors) (x .floors)) (acceptance-means L s e .terms)
+      (go (L .floors) _ _ (two-fits (atC L)) (two-fits (atC L + 2)))
     where
       two-fits : (n : ℕ) → number 2 (drop n (recordAt L s 0)) < 65536
       two-fits n = two-bytes-small L s b 0 n
@@ -99,12 +107,17 @@ unfolding packOf
 packed-from L (refused k i) room bs e = absurd (let n : _≡_ {A = ℕ} 0 1 = cc in let z : ⊥ = omega arith in z)
 packed-from L (accepted o es) room bs e = go (ltb room (width L * (length es + 1))) refl e
   where
-    go : (t : Bool) → ltb room (width L * (length es + 1)) ≡ t → cond t (declined 11 0) (packed (bookOf L o (map ruleIn es))) ≡ packed bs → Packs L (accepted o es) room bs
+    go : (t : Bool) →
+        ltb room (width L * (length es + 1)) ≡ t →
+        cond t (declined 11 0) (packed (bookOf L o (map ruleIn es))) ≡ packed bs →
+        Packs L (accepted o es) room bs
     go true h e = absurd (let n : _≡_ {A = ℕ} 0 1 = cc in let z : ⊥ = omega arith in z)
     go false h e =
         record { terms = o; entries = es; reads = refl; fits = ltb-false room (width L * (length es + 1)) h; form = cc }
 
-packs-whole : (L : Layout) (o : Terms) (es : List Entry) (room : ℕ) → width L * (length es + 1) ≤ room → packOf L (accepted o es) room ≡ packed (bookOf L o (map ruleIn es))
+packs-whole : (L : Layout) (o : Terms) (es : List Entry) (room : ℕ) →
+    width L * (length es + 1) ≤ room →
+    packOf L (accepted o es) room ≡ packed (bookOf L o (map ruleIn es))
 unfolding packOf
 packs-whole L o es room h = rw (le-ltb room (width L * (length es + 1)) h)
 
@@ -131,21 +144,29 @@ module _ (L : Layout) (u : Usable L) (s : List ℕ) (b : Bytes s) (room : ℕ) (
   pub repacked-again : (more : ℕ) → length bs ≤ more → repackOf L bs more ≡ packed bs
   repacked-again more h =
       let rs = map ruleIn (from .entries) in
-      let long : width L * (length (numbered 1 rs) + 1) ≡ length bs = sym (ap length (from .form) ∙ length-bookOf L (from .terms) rs ∙ ap (λ n. width L * (n + 1)) (sym (numbered-length 1 rs))) in
+      let long : width L * (length (numbered 1 rs) + 1) ≡ length bs =
+      sym (ap length (from .form) ∙ length-bookOf L (from .terms) rs ∙ ap (λ n. width L * (n + 1)) (sym (numbered-length 1 rs))) in
       ap (λ x. packOf L x more) back
       ∙ packs-whole L (from .terms) (numbered 1 rs) more (omega arith)
       ∙ ap packed (ap (bookOf L (from .terms)) (numbered-rules 1 rs) ∙ sym (from .form))
 
 module _ (L : Layout) (s : List ℕ) (room : ℕ) where
   -- the bytes are as many as the format says
-  pub repacked-length : {o : Terms} {es : List Entry} {bs : List ℕ} → readOf L s ≡ accepted o es → repackOf L s room ≡ packed bs → length bs ≡ width L * (length es + 1)
+  pub repacked-length : {o : Terms} {es : List Entry} {bs : List ℕ} →
+      readOf L s ≡ accepted o es →
+      repackOf L s room ≡ packed bs →
+      length bs ≡ width L * (length es + 1)
   repacked-length {es = es} {bs = bs} r e =
       let p = packed-from L (readOf L s) room bs e in
       let same : p .entries ≡ es = let q = p .reads in cc in
-      ap length (p .form) ∙ length-bookOf L (p .terms) (map ruleIn (p .entries)) ∙ ap (λ n. width L * (n + 1)) (length-map (p .entries) ruleIn) ∙ ap (λ l. width L * (length l + 1)) same
+      ap length (p .form) ∙ length-bookOf L (p .terms) (map ruleIn (p .entries))
+      ∙ ap (λ n. width L * (n + 1)) (length-map (p .entries) ruleIn) ∙ ap (λ l. width L * (length l + 1)) same
 
   -- 11 is said of an accepted book without room, and of no other
-  pub no-room : {o : Terms} {es : List Entry} → readOf L s ≡ accepted o es → room < width L * (length es + 1) → repackOf L s room ≡ declined 11 0
+  pub no-room : {o : Terms} {es : List Entry} →
+      readOf L s ≡ accepted o es →
+      room < width L * (length es + 1) →
+      repackOf L s room ≡ declined 11 0
   unfolding packOf
   no-room {es = es} r h = rw (r, lt-ltb room (width L * (length es + 1)) h)
 
@@ -157,7 +178,10 @@ module _ (L : Layout) (s : List ℕ) (room : ℕ) where
       go (refused k j) p e = absurd (cause-number (refusal-applies L s p) .1 cc)
       go (accepted o es) p e = pick (ltb room (width L * (length es + 1))) refl e
         where
-          pick : (t : Bool) → ltb room (width L * (length es + 1)) ≡ t → cond t (declined 11 0) (packed (bookOf L o (map ruleIn es))) ≡ declined 11 i → Crowded L (readOf L s) room
+          pick : (t : Bool) →
+              ltb room (width L * (length es + 1)) ≡ t →
+              cond t (declined 11 0) (packed (bookOf L o (map ruleIn es))) ≡ declined 11 i →
+              Crowded L (readOf L s) room
           pick true h e = record { terms = o; entries = es; reads = p; short = ltb-true room (width L * (length es + 1)) h }
           pick false h e = absurd (let n : _≡_ {A = ℕ} 0 1 = cc in let z : ⊥ = omega arith in z)
 
@@ -178,7 +202,8 @@ declined-number L s room {k} {i} e = go (readOf L s) refl e
 pub alike-repacked : (L : Layout) (s t : List ℕ) (room : ℕ) → ReadAlike (readOf L s) (readOf L t) → repackOf L s room ≡ repackOf L t room
 unfolding packOf
 alike-repacked L s t room a =
-    let n : length (a .first) ≡ length (a .second) = sym (length-map (a .first) ruleIn) ∙ ap length (a .rules) ∙ length-map (a .second) ruleIn in
+    let n : length (a .first) ≡ length (a .second) =
+    sym (length-map (a .first) ruleIn) ∙ ap length (a .rules) ∙ length-map (a .second) ruleIn in
     rw (a .one, a .two, a .rules, n)
 
 -- ---- what the repacker promises, read by its caller
@@ -212,7 +237,8 @@ module _ {L : Layout} {s out after : List ℕ} {r : Repacked} (p : Repacks L s o
   pub filled-alike : Usable L → Bytes s → r .refusal .number ≡ 0 → ReadAlike (readOf L s) (readOf L (take (r .filled) after))
   filled-alike u b z =
       let f = packed-filled z in
-      let front : take (r .filled) after ≡ f .bytes = (λ j. take (f .filled j) (f .output j)) ∙ take-at (f .bytes) (drop (length (f .bytes)) out) (length (f .bytes)) refl in
+      let front : take (r .filled) after ≡ f .bytes =
+      (λ j. take (f .filled j) (f .output j)) ∙ take-at (f .bytes) (drop (length (f .bytes)) out) (length (f .bytes)) refl in
       rw front (repacked-alike L u s b (length out) (f .bytes) (f .packs))
 
   -- a refusal leaves the output as it was

@@ -1,4 +1,5 @@
--- The runs that a reading is lent, after it: lengths are unchanged, and with room the k-th record and the k-th rule of the chain stand at place k.
+-- The runs that a reading is lent, after it: lengths are unchanged, and with room the k-th record and the k-th rule of the chain stand at
+-- place k.
 use Prim.Native.Nat.{ℕ, zero, suc, _+_, _*_, _≤_, _<_}
 use mathlib.Core.Path.{_≡_, refl, sym, ap, _∙_}
 use mathlib.Core.Bool.{Bool, true, false, cond}
@@ -68,7 +69,8 @@ record-placed l es k room h =
 -- so that the run starts with the chain's records
 pub records-taken : (l : List ℕ) (es : List Entry) → length es ≤ length l → take (length es) (putRecords l 0 es) ≡ recordsOf es
 records-taken l es room =
-    let long : length (take (length es) (putRecords l 0 es)) ≡ length es = length-take-le (length es) (putRecords l 0 es) (omega (arith, records-length l 0 es)) in
+    let long : length (take (length es) (putRecords l 0 es)) ≡ length es =
+    length-take-le (length es) (putRecords l 0 es) (omega (arith, records-length l 0 es)) in
     let many : length (recordsOf es) ≡ length es = length-map es (λ (e : Entry). e .index) in
     ext-getD 0 (take (length es) (putRecords l 0 es)) (recordsOf es) (long ∙ sym many)
     (λ j h. getD-take (length es) (putRecords l 0 es) j 0 (omega (arith, long)) ∙ record-placed l es j room (omega (arith, long)))
@@ -115,12 +117,14 @@ module _ (l : List ℤ) (k : ℕ) (r : Constraint) where
         record {
           a =
               ap (λ x. getD x (3 * k) (pos 0)) put-is
-              ∙ getD-set-other (set (set l (3 * k) (r .a)) (3 * k + 1) (r .b)) (3 * k + 2) (3 * k) (r .c) (pos 0) (λ q. let z : ⊥ = omega arith in z)
+              ∙ getD-set-other (set (set l (3 * k) (r .a)) (3 * k + 1) (r .b)) (3 * k + 2) (3 * k) (r .c) (pos 0)
+              (λ q. let z : ⊥ = omega arith in z)
               ∙ getD-set-other (set l (3 * k) (r .a)) (3 * k + 1) (3 * k) (r .b) (pos 0) (λ q. let z : ⊥ = omega arith in z)
               ∙ getD-set-same l (3 * k) (r .a) (pos 0) (omega arith);
           b =
               ap (λ x. getD x (3 * k + 1) (pos 0)) put-is
-              ∙ getD-set-other (set (set l (3 * k) (r .a)) (3 * k + 1) (r .b)) (3 * k + 2) (3 * k + 1) (r .c) (pos 0) (λ q. let z : ⊥ = omega arith in z)
+              ∙ getD-set-other (set (set l (3 * k) (r .a)) (3 * k + 1) (r .b)) (3 * k + 2) (3 * k + 1) (r .c) (pos 0)
+              (λ q. let z : ⊥ = omega arith in z)
               ∙ getD-set-same (set l (3 * k) (r .a)) (3 * k + 1) (r .b) (pos 0) (simp length-set (omega arith));
           c =
               ap (λ x. getD x (3 * k + 2) (pos 0)) put-is

@@ -1,5 +1,5 @@
--- What the reader says, in document 01's words: a number that it says is that of the first cause that applies, with the record that the table names; and
--- where it says none, no cause applies, and with room the runs start with the chain.
+-- What the reader says, in document 01's words: a number that it says is that of the first cause that applies, with the record that the
+-- table names; and where it says none, no cause applies, and with room the runs start with the chain.
 use Prim.Native.Nat.{ℕ, _*_, _≤_, _<_}
 use mathlib.Core.Path.{_≡_, refl, sym, ap, _∙_}
 use mathlib.Core.List.{List}

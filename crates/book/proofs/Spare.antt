@@ -20,24 +20,34 @@ module _ (L : Layout) (s t : List ℕ) (long : length s ≡ length t) (agree : (
   unfolding headerFault
   same-fault = let r = agree 0 header in rw (long, r)
 
-  same-follow : (done : List ℕ) (at i : ℕ) (x y : Ending) → OnChain L s i → map (entryAt L s) done ≡ map (entryAt L t) done → x ≡ y → follow L s done at i x ≡ follow L t done at i y
+  same-follow : (done : List ℕ) (at i : ℕ) (x y : Ending) →
+      OnChain L s i →
+      map (entryAt L s) done ≡ map (entryAt L t) done →
+      x ≡ y →
+      follow L s done at i x ≡ follow L t done at i y
   unfolding follow
   same-follow done at i x y c m p =
       let r = agree 0 header in
       let q = agree i c in
-      let l : map (labelAt L s) done ≡ map (labelAt L t) done = sym (labels-in L s done) ∙ ap (map (λ (e : Entry). e .rule .label)) m ∙ labels-in L t done in
+      let l : map (labelAt L s) done ≡ map (labelAt L t) done =
+      sym (labels-in L s done) ∙ ap (map (λ (e : Entry). e .rule .label)) m ∙ labels-in L t done in
       rw (r, q, m, l, p)
 
-  same-walk : (links : ℕ) (done : List ℕ) (at : ℕ) → OnChain L s at → map (entryAt L s) done ≡ map (entryAt L t) done → walk L s links done at ≡ walk L t links done at
+  same-walk : (links : ℕ) (done : List ℕ) (at : ℕ) →
+      OnChain L s at →
+      map (entryAt L s) done ≡ map (entryAt L t) done →
+      walk L s links done at ≡ walk L t links done at
   unfolding walk
   same-walk zero done at c m = refl
   same-walk (suc links) done at c m =
       let i = linkOf L (recordAt L s at) in
       let e : i ≡ linkOf L (recordAt L t at) = ap (linkOf L) (agree at c) in
       let one : entryAt L s i ≡ entryAt L t i = ap (λ r. record { index = i; rule = ruleOf L r }) (agree i (link c)) in
-      let more : map (entryAt L s) (done ++ (i ∷ [])) ≡ map (entryAt L t) (done ++ (i ∷ [])) = map-snoc (entryAt L s) done i ∙ (λ j. m j ++ (one j ∷ [])) ∙ sym (map-snoc (entryAt L t) done i) in
+      let more : map (entryAt L s) (done ++ (i ∷ [])) ≡ map (entryAt L t) (done ++ (i ∷ [])) =
+      map-snoc (entryAt L s) done i ∙ (λ j. m j ++ (one j ∷ [])) ∙ sym (map-snoc (entryAt L t) done i) in
       walk-once L s links done at i refl
-      ∙ same-follow done at i (walk L s links (done ++ (i ∷ [])) i) (walk L t links (done ++ (i ∷ [])) i) (link c) m (same-walk links (done ++ (i ∷ [])) i (link c) more)
+      ∙ same-follow done at i (walk L s links (done ++ (i ∷ [])) i) (walk L t links (done ++ (i ∷ [])) i) (link c) m
+      (same-walk links (done ++ (i ∷ [])) i (link c) more)
       ∙ sym (walk-once L t links done at i e)
 
   same-end : endOf L s .reading ≡ endOf L t .reading

@@ -29,7 +29,8 @@ module _ (w k : ℕ) (clear : w / 2 ^ k % 2 ≡ 0) where
   above-same : (d : ℕ) → (w + 2 ^ k) / 2 ^ (k + suc d) ≡ w / 2 ^ (k + suc d)
   above-same d =
       let p : 2 ^ (k + suc d) ≡ 2 ^ k * (2 * 2 ^ d) = pow-add 2 k (suc d) ∙ ap (λ x. 2 ^ k * x) (pow-suc 2 d ∙ omega arith) in
-      let split : (x : ℕ) → x / 2 ^ (k + suc d) ≡ x / 2 ^ k / 2 / 2 ^ d = λ x. ap (λ y. x / y) p ∙ sym (div-div-eq-div-mul x (2 ^ k) (2 * 2 ^ d)) ∙ sym (div-div-eq-div-mul (x / 2 ^ k) 2 (2 ^ d)) in
+      let split : (x : ℕ) → x / 2 ^ (k + suc d) ≡ x / 2 ^ k / 2 / 2 ^ d =
+      λ x. ap (λ y. x / y) p ∙ sym (div-div-eq-div-mul x (2 ^ k) (2 * 2 ^ d)) ∙ sym (div-div-eq-div-mul (x / 2 ^ k) 2 (2 ^ d)) in
       let half : (w + 2 ^ k) / 2 ^ k / 2 ≡ w / 2 ^ k / 2 = ap (λ x. x / 2) up ∙ omega arith in
       split (w + 2 ^ k) ∙ ap (λ x. x / 2 ^ d) half ∙ sym (split w)
 
@@ -47,7 +48,8 @@ module _ (w k : ℕ) (clear : w / 2 ^ k % 2 ≡ 0) where
 below-same : (w j d : ℕ) → (w + 2 ^ (j + suc d)) / 2 ^ j % 2 ≡ w / 2 ^ j % 2
 below-same w j d =
     let p : 2 ^ (j + suc d) ≡ 2 ^ d * 2 * 2 ^ j = pow-add 2 j (suc d) ∙ ap (λ x. 2 ^ j * x) (pow-suc 2 d) ∙ omega arith in
-    let q : (w + 2 ^ (j + suc d)) / 2 ^ j ≡ w / 2 ^ j + 2 ^ d * 2 = ap (λ x. (w + x) / 2 ^ j) p ∙ add-mul-div-right w (2 ^ d * 2) (pow-pos j) in
+    let q : (w + 2 ^ (j + suc d)) / 2 ^ j ≡ w / 2 ^ j + 2 ^ d * 2 =
+    ap (λ x. (w + x) / 2 ^ j) p ∙ add-mul-div-right w (2 ^ d * 2) (pow-pos j) in
     rw q (omega arith)
 
 bit-other : (w k j : ℕ) → w / 2 ^ k % 2 ≡ 0 → (j ≡ k → ⊥) → (w + 2 ^ k) / 2 ^ j % 2 ≡ w / 2 ^ j % 2

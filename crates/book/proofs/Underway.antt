@@ -1,4 +1,5 @@
--- The state of the walk in the code: what the runs and the tables hold where the records of the chain so far are passed, and what one link more makes of it.
+-- The state of the walk in the code: what the runs and the tables hold where the records of the chain so far are passed, and what one link
+-- more makes of it.
 use Prim.Native.Nat.{ℕ, suc, _+_, _*_, _≤_, _<_}
 use mathlib.Core.Path.{_≡_, refl, sym, ap, _∙_, subst, subst⁻¹}
 use mathlib.Core.List.{List, [], _∷_, _++_, map}
@@ -115,7 +116,9 @@ module _
   count-few = walked-count L s (w .walked)
 
   -- a new rule is passed
-  module _ {r : Rule} {next : ℕ} (bytes : Bytes s) (few : L .records ≤ 4096) (some : link ≡ 0 → ⊥) (new : NewRule L s (w .done) link r next) where
+  module _
+      {r : Rule} {next : ℕ} (bytes : Bytes s) (few : L .records ≤ 4096) (some : link ≡ 0 → ⊥)
+      (new : NewRule L s (w .done) link r next) where
     further : Walked L s (w .done ++ (link ∷ [])) link
     further =
         let good = rule-good L s (recordAt L s link) (new .sound) in

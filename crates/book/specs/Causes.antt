@@ -1,5 +1,6 @@
--- Document 01's table 'Turned back' and 12 of document 02, row by row, as statements: what it means that a cause applies and none before it does. `readOf`
--- computes a number and a record; that they are those said here, and that an accepted book has none, are theorems (`proofs/Causes.antt`).
+-- Document 01's table 'Turned back' and 12 of document 02, row by row, as statements: what it means that a cause applies and none before
+-- it does. `readOf` computes a number and a record; that they are those said here, and that an accepted book has none, are theorems
+-- (`proofs/Causes.antt`).
 use Prim.Native.Nat.{ℕ, _-_, _*_, _/_, _%_, _≤_, _<_}
 use mathlib.Core.Path.{_≡_}
 use mathlib.Core.Bool.{true, false}
@@ -52,8 +53,24 @@ pub data WrongBound (L : Layout) (r : List ℕ) : Type 0 where
 
 -- as far as it was walked with no cause on the way: the records visited, in order, and the one reached last (0 is the header)
 pub data Walked (L : Layout) (s : List ℕ) : List ℕ → ℕ → Type 0 where
-  header : (WrongLength L s → ⊥) → (WrongVersion L s → ⊥) → (WrongCount L s → ⊥) → (WrongObjective L s → ⊥) → (WrongTail L s → ⊥) → Walked L s [] 0
-  visit : {done : List ℕ} {at : ℕ} → Walked L s done at → (i : ℕ) → i ≡ linkOf L (recordAt L s at) → (i ≡ 0 → ⊥) → i ≤ countOf L s → memb i done ≡ false → (WrongKind L (recordAt L s i) → ⊥) → (WrongSlope L (recordAt L s i) → ⊥) → (WrongBound L (recordAt L s i) → ⊥) → memb (labelAt L s i) (map (labelAt L s) done) ≡ false → Walked L s (done ++ (i ∷ [])) i
+  header : (WrongLength L s → ⊥) →
+      (WrongVersion L s → ⊥) →
+      (WrongCount L s → ⊥) →
+      (WrongObjective L s → ⊥) →
+      (WrongTail L s → ⊥) →
+      Walked L s [] 0
+  visit : {done : List ℕ} {at : ℕ} →
+      Walked L s done at →
+      (i : ℕ) →
+      i ≡ linkOf L (recordAt L s at) →
+      (i ≡ 0 → ⊥) →
+      i ≤ countOf L s →
+      memb i done ≡ false →
+      (WrongKind L (recordAt L s i) → ⊥) →
+      (WrongSlope L (recordAt L s i) → ⊥) →
+      (WrongBound L (recordAt L s i) → ⊥) →
+      memb (labelAt L s i) (map (labelAt L s) done) ≡ false →
+      Walked L s (done ++ (i ∷ [])) i
 
 -- a link leads from there to record i, not visited before
 pub record Reached (L : Layout) (s : List ℕ) (i : ℕ) : Type 0 where
@@ -71,13 +88,34 @@ pub data Applies (L : Layout) (s : List ℕ) : ℕ → ℕ → Type 0 where
   cause-2 : (WrongLength L s → ⊥) → WrongVersion L s → Applies L s 2 0
   cause-3 : (WrongLength L s → ⊥) → (WrongVersion L s → ⊥) → WrongCount L s → Applies L s 3 0
   cause-4 : (WrongLength L s → ⊥) → (WrongVersion L s → ⊥) → (WrongCount L s → ⊥) → WrongObjective L s → Applies L s 4 0
-  cause-5 : (WrongLength L s → ⊥) → (WrongVersion L s → ⊥) → (WrongCount L s → ⊥) → (WrongObjective L s → ⊥) → WrongTail L s → Applies L s 5 0
+  cause-5 : (WrongLength L s → ⊥) →
+      (WrongVersion L s → ⊥) →
+      (WrongCount L s → ⊥) →
+      (WrongObjective L s → ⊥) →
+      WrongTail L s →
+      Applies L s 5 0
   cause-6 : {done : List ℕ} {at : ℕ} → Walked L s done at → countOf L s < linkOf L (recordAt L s at) → Applies L s 6 at
-  cause-7 : {done : List ℕ} {at : ℕ} → Walked L s done at → (linkOf L (recordAt L s at) ≡ 0 → ⊥) → linkOf L (recordAt L s at) ≤ countOf L s → memb (linkOf L (recordAt L s at)) done ≡ true → Applies L s 7 at
+  cause-7 : {done : List ℕ} {at : ℕ} →
+      Walked L s done at →
+      (linkOf L (recordAt L s at) ≡ 0 → ⊥) →
+      linkOf L (recordAt L s at) ≤ countOf L s →
+      memb (linkOf L (recordAt L s at)) done ≡ true →
+      Applies L s 7 at
   cause-8 : {i : ℕ} → Reached L s i → WrongKind L (recordAt L s i) → Applies L s 8 i
   cause-9 : {i : ℕ} → Reached L s i → (WrongKind L (recordAt L s i) → ⊥) → WrongSlope L (recordAt L s i) → Applies L s 9 i
-  cause-10 : {i : ℕ} → Reached L s i → (WrongKind L (recordAt L s i) → ⊥) → (WrongSlope L (recordAt L s i) → ⊥) → WrongBound L (recordAt L s i) → Applies L s 10 i
-  cause-12 : {i : ℕ} → (r : Reached L s i) → (WrongKind L (recordAt L s i) → ⊥) → (WrongSlope L (recordAt L s i) → ⊥) → (WrongBound L (recordAt L s i) → ⊥) → memb (labelAt L s i) (map (labelAt L s) (r .done)) ≡ true → Applies L s 12 i
+  cause-10 : {i : ℕ} →
+      Reached L s i →
+      (WrongKind L (recordAt L s i) → ⊥) →
+      (WrongSlope L (recordAt L s i) → ⊥) →
+      WrongBound L (recordAt L s i) →
+      Applies L s 10 i
+  cause-12 : {i : ℕ} →
+      (r : Reached L s i) →
+      (WrongKind L (recordAt L s i) → ⊥) →
+      (WrongSlope L (recordAt L s i) → ⊥) →
+      (WrongBound L (recordAt L s i) → ⊥) →
+      memb (labelAt L s i) (map (labelAt L s) (r .done)) ≡ true →
+      Applies L s 12 i
 
 -- the chain ends with no cause on the way
 pub record Accepts (L : Layout) (s : List ℕ) (t : Terms) (es : List Entry) : Type 0 where

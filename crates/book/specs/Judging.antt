@@ -1,5 +1,5 @@
--- One link of the chain judged, as the code does it: by a table of the records visited and one of the labels met. Only functions that the crate keeps to itself
--- cite it.
+-- One link of the chain judged, as the code does it: by a table of the records visited and one of the labels met. Only functions that the
+-- crate keeps to itself cite it.
 use Prim.Native.Nat.{ℕ}
 use mathlib.Core.Path.{_≡_}
 use mathlib.Core.Bool.{cond}
@@ -14,8 +14,8 @@ use Rattle.book.specs.declared.judge.Judged.the-variants.{Sound, Refused
 use Rattle.book.specs.Reading.{labelAt}
 use Rattle.book.specs.Tables.{isNoted, noting}
 
--- a link to record i, held by record `at`, in a book that counts so many records: the causes 6 and 7 of the link, 8, 9, 10 and 12 of the record, in the
--- documents' order
+-- a link to record i, held by record `at`, in a book that counts so many records: the causes 6 and 7 of the link, 8, 9, 10 and 12 of the
+-- record, in the documents' order
 unfoldable pub judged : Layout → List ℕ → (marks labels : List ℕ) → (count at i : ℕ) → Judged
 judged L s marks labels count at i =
     cond (ltb count i) (Refused 6 at)

@@ -1,5 +1,5 @@
--- What reading a book leaves in two runs that are lent: the records that the walk has passed, one a place, and their rules as they are planned, three numbers
--- a rule. What does not fit is left out, so that a run of any length may be lent.
+-- What reading a book leaves in two runs that are lent: the records that the walk has passed, one a place, and their rules as they are
+-- planned, three numbers a rule. What does not fit is left out, so that a run of any length may be lent.
 use Prim.Native.Nat.{ℕ, suc, _+_, _*_}
 use mathlib.Core.Bool.{cond}
 use mathlib.Core.List.{List, [], _∷_}

@@ -1,4 +1,5 @@
--- The code's tables of the records visited and of the labels met: a bit for each, 64 to a word. Only functions that the crate keeps to itself cite them.
+-- The code's tables of the records visited and of the labels met: a bit for each, 64 to a word. Only functions that the crate keeps to
+-- itself cite them.
 use Prim.Native.Nat.{ℕ, _+_, _/_, _%_, _^_}
 use mathlib.Core.Bool.{Bool}
 use mathlib.Core.List.{List}

@@ -9,14 +9,15 @@ use records::visit;
 ghost use Rattle.records.specs.Layout.{layoutOf};
 ghost use Rattle.book.specs.Judging.{Judges};
 
-// What a link of the chain leads to: a sound rule that is new on it, with the rule's own link, or what turns the book back, with its number and record.
+// What a link of the chain leads to: a sound rule that is new on it, with the rule's own link, or what turns the book back, with its
+// number and record.
 pub enum Judged {
     Sound(Rule, u16),
     Refused(u8, u16),
 }
 
-// A link of the chain judged, which record `at` holds, by the records visited and the labels met before it. A sound rule is noted in both tables; else they stay
-// as they are. A link of 0 ends the chain and is not for judging: it would be taken for one to the header.
+// A link of the chain judged, which record `at` holds, by the records visited and the labels met before it. A sound rule is noted in both
+// tables; else they stay as they are. A link of 0 ends the chain and is not for judging: it would be taken for one to the header.
 pub fn judge(
     version: Version,
     book: &[u8],
@@ -26,7 +27,8 @@ pub fn judge(
     at: u16,
     link: u16,
 ) -> Judged
-    ensures { λ r. ⌜ Judges (layoutOf version) (now (book .entry)) (now (marks .entry)) (now (labels .entry)) count at link r (now (marks .exit)) (now (labels .exit)) ⌝ }
+    ensures { λ r. ⌜ Judges (layoutOf version) (now (book .entry)) (now (marks .entry)) (now (labels .entry)) count at link
+        r (now (marks .exit)) (now (labels .exit)) ⌝ }
 {
     if link > count {
         return Judged::Refused(6, at);

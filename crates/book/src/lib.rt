@@ -1,5 +1,5 @@
-// A rule book as a whole: what it reads as, along its chain, what turns it back, and its repacked form. Every function that can be called from outside is
-// total: it takes any bytes and answers.
+// A rule book as a whole: what it reads as, along its chain, what turns it back, and its repacked form. Every function that can be called
+// from outside is total: it takes any bytes and answers.
 mod judge;
 mod pack;
 mod put;
@@ -21,7 +21,8 @@ ghost use Rattle.records.specs.Layout.{v1, layoutOf};
 ghost use Rattle.book.specs.Reading as reading;
 ghost use Rattle.book.specs.Promises.{headOf, ReadInto, Repacks};
 
-// What a book reads as, but for its chain. Turned back: the refusal, and all else zero. Accepted: the refusal is zero, and n is the number of rules.
+// What a book reads as, but for its chain. Turned back: the refusal, and all else zero. Accepted: the refusal is zero, and n is the number
+// of rules.
 pub struct Head {
     pub refusal: Refusal,
     pub terms: Terms,
@@ -47,9 +48,11 @@ fn refused(number: u8, at: u16) -> Head
     }
 }
 
-// What a book reads as. The records of the chain and its rules as they are planned go into two runs, as far as the walk comes and there is room.
+// What a book reads as. The records of the chain and its rules as they are planned go into two runs, as far as the walk comes and there is
+// room.
 pub fn read(version: Version, book: &[u8], records: &mut [u16], rules: &mut [i64]) -> Head
-    ensures { λ r. ⌜ ReadInto (layoutOf version) (now (book .entry)) (now (records .entry)) (now (rules .entry)) r (now (records .exit)) (now (rules .exit)) ⌝ }
+    ensures { λ r. ⌜ ReadInto (layoutOf version) (now (book .entry)) (now (records .entry)) (now (rules .entry))
+        r (now (records .exit)) (now (rules .exit)) ⌝ }
 {
     let heading = heading_of(version, book);
     let fault = heading.fault;
@@ -60,7 +63,8 @@ pub fn read(version: Version, book: &[u8], records: &mut [u16], rules: &mut [i64
     }
 }
 
-// The repacked form of a version 1 book, into the output. A book that is turned back, or an output without room, leaves the output as it was.
+// The repacked form of a version 1 book, into the output. A book that is turned back, or an output without room, leaves the output as it
+// was.
 pub fn repack(book: &[u8], out: &mut [u8]) -> Repacked
     ensures { λ r. ⌜ Repacks v1 (now (book .entry)) (now (out .entry)) r (now (out .exit)) ⌝ }
 {

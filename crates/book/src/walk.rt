@@ -22,7 +22,8 @@ pub fn walk(
     rules: &mut [i64],
 ) -> Head
     requires { ⌜ Headed (layoutOf version) (now book) heading ⌝ }
-    ensures { λ r. ⌜ ReadInto (layoutOf version) (now (book .entry)) (now (indices .entry)) (now (rules .entry)) r (now (indices .exit)) (now (rules .exit)) ⌝ }
+    ensures { λ r. ⌜ ReadInto (layoutOf version) (now (book .entry)) (now (indices .entry)) (now (rules .entry))
+        r (now (indices .exit)) (now (rules .exit)) ⌝ }
 {
     let mut marks = [0u64; 64];
     let mut labels = [0u64; 1024];

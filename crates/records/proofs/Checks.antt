@@ -36,7 +36,9 @@ module _ (clear : Bool) (r : Rule) (next : ℕ) where
 
 -- ---- what a sound record holds
 
-chosen : (x y z : Bool) (r r′ : Rule) (i i′ : ℕ) → cond x Kind (cond y Slope (cond z Bound (Sound r i))) ≡ Sound r′ i′ → (r′ ≡ r) × (i′ ≡ i)
+chosen : (x y z : Bool) (r r′ : Rule) (i i′ : ℕ) →
+    cond x Kind (cond y Slope (cond z Bound (Sound r i))) ≡ Sound r′ i′ →
+    (r′ ≡ r) × (i′ ≡ i)
 chosen true y z r r′ i i′ e = absurd (let n : _≡_ {A = ℕ} 0 1 = cc in let b : ⊥ = omega arith in b)
 chosen false true z r r′ i i′ e = absurd (let n : _≡_ {A = ℕ} 0 1 = cc in let b : ⊥ = omega arith in b)
 chosen false false true r r′ i i′ e = absurd (let n : _≡_ {A = ℕ} 0 1 = cc in let b : ⊥ = omega arith in b)
@@ -44,7 +46,8 @@ chosen false false false r r′ i i′ e = (cc, cc)
 
 pub sound-holds : (L : Layout) (t : List ℕ) (r : Rule) (i : ℕ) → decodedOf L t ≡ Sound r i → (r ≡ ruleOf L t) × (i ≡ linkOf L t)
 unfolding decodedOf decodedWith
-sound-holds L t r i e = chosen (badKind (eqb (padOf L t) 0) (ruleOf L t)) (badSlope (ruleOf L t)) (badBound (ruleOf L t)) (ruleOf L t) r (linkOf L t) i e
+sound-holds L t r i e =
+    chosen (badKind (eqb (padOf L t) 0) (ruleOf L t)) (badSlope (ruleOf L t)) (badBound (ruleOf L t)) (ruleOf L t) r (linkOf L t) i e
 
 -- ---- a rule as it is planned
 

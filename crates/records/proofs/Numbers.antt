@@ -42,7 +42,8 @@ two-bytes s at =
     rw add-one
     (omega (arith, number-step 1 at s, number-step 0 (suc at) s, number-none (drop (suc (suc at)) s)))
 
-pub four-bytes : (s : List ℕ) (at : ℕ) → getD s at 0 + 256 * (getD s (at + 1) 0 + 256 * (getD s (at + 2) 0 + 256 * getD s (at + 3) 0)) ≡ number 4 (drop at s)
+pub four-bytes : (s : List ℕ) (at : ℕ) →
+    getD s at 0 + 256 * (getD s (at + 1) 0 + 256 * (getD s (at + 2) 0 + 256 * getD s (at + 3) 0)) ≡ number 4 (drop at s)
 four-bytes s at =
     rw (add-one, add-two, add-three)
     (omega (
@@ -57,9 +58,15 @@ four-bytes s at =
 -- ---- signed numbers
 
 -- half the range up, round the end, and half the range down: two's complement of w bits
-pub turned-round : (w : Width) (h b : ℕ) → 2 ^ hbits w ≡ suc h → 2 ^ bits w ≡ suc h + suc h → suc h + suc h ≤ 2 ^ 63 → b < suc h + suc h → toZ w64 ((b + suc h) % (suc h + suc h)) -ℤ pos (suc h) ≡ toZ w b
+pub turned-round : (w : Width) (h b : ℕ) →
+    2 ^ hbits w ≡ suc h →
+    2 ^ bits w ≡ suc h + suc h →
+    suc h + suc h ≤ 2 ^ 63 →
+    b < suc h + suc h →
+    toZ w64 ((b + suc h) % (suc h + suc h)) -ℤ pos (suc h) ≡ toZ w b
 turned-round w h b half whole wide fits =
-    ap (λ z. z -ℤ pos (suc h)) (toZ-pos w64 ((b + suc h) % (suc h + suc h)) (lt-of-lt-of-le (mod-lt (b + suc h) (omega arith)) wide)) ∙ go (decLt b (suc h))
+    ap (λ z. z -ℤ pos (suc h)) (toZ-pos w64 ((b + suc h) % (suc h + suc h)) (lt-of-lt-of-le (mod-lt (b + suc h) (omega arith)) wide))
+    ∙ go (decLt b (suc h))
   where
     go : Dec (b < suc h) → pos ((b + suc h) % (suc h + suc h)) -ℤ pos (suc h) ≡ toZ w b
     go (yes low) =
@@ -67,9 +74,11 @@ turned-round w h b half whole wide fits =
         let back : b + suc h - suc h ≡ b = omega arith in
         ap (λ m. pos m -ℤ pos (suc h)) up ∙ rw (le-ltb (b + suc h) (suc h) (omega arith), back) (sym (toZ-pos w b (rw half low)))
     go (no high) =
-        let up : (b + suc h) % (suc h + suc h) ≡ b - suc h = mod-eq-sub-mod {n = b + suc h} {m = suc h + suc h} (omega arith) ∙ mod-eq-of-lt (omega arith) ∙ omega arith in
+        let up : (b + suc h) % (suc h + suc h) ≡ b - suc h =
+        mod-eq-sub-mod {n = b + suc h} {m = suc h + suc h} (omega arith) ∙ mod-eq-of-lt (omega arith) ∙ omega arith in
         let back : suc h - suc (b - suc h) ≡ suc h + suc h - suc b = omega arith in
-        ap (λ m. pos m -ℤ pos (suc h)) up ∙ rw (lt-ltb (b - suc h) (suc h) (omega arith), le-ltb b (2 ^ hbits w) (rw half (omega arith)), whole, back)
+        ap (λ m. pos m -ℤ pos (suc h)) up
+        ∙ rw (lt-ltb (b - suc h) (suc h) (omega arith), le-ltb b (2 ^ hbits w) (rw half (omega arith)), whole, back)
 
 pub signed-wide : (w : Width) (b : ℕ) → Fits w b → 2 ^ hbits w ≤ 2 ^ 63 → SFits w64 (toZ w b)
 signed-wide w b f k = record { sfits = lt-of-lt-of-le (toZ-fits w b f .sfits) k }

@@ -1,5 +1,5 @@
--- The fields of a record of any layout, at their offsets in the book: what the code reads is what the definitions say. A record that is not there in full is read
--- from a copy with zeros after it.
+-- The fields of a record of any layout, at their offsets in the book: what the code reads is what the definitions say. A record that is
+-- not there in full is read from a copy with zeros after it.
 use Prim.Native.Nat.{ℕ, zero, suc, _+_, _*_, _≤_, _<_}
 use mathlib.Core.Path.{_≡_, refl, sym, ap, _∙_}
 use mathlib.Core.List.{List}
@@ -54,7 +54,11 @@ copied-more s w at i v f r e j h = go (ℕ-discrete j i)
     go (no n) = getD-set-other w i j v 0 n ∙ f j (omega arith)
 
 -- a number of a copy
-copied-number : {s w : List ℕ} {at m : ℕ} → Copied s at m w → (n off : ℕ) → off + n ≤ m → number n (drop off w) ≡ number n (drop (at + off) s)
+copied-number : {s w : List ℕ} {at m : ℕ} →
+    Copied s at m w →
+    (n off : ℕ) →
+    off + n ≤ m →
+    number n (drop off w) ≡ number n (drop (at + off) s)
 unfolding number
 copied-number k zero off h = refl
 copied-number {s} {w} {at} k (suc n) off h =

@@ -1,5 +1,5 @@
--- The header of a book: the terms that its chain is planned under, its count of the records after it, its link to the chain, and the causes 1 to 5 by which
--- it is refused. The causes are tested in document 01's order.
+-- The header of a book: the terms that its chain is planned under, its count of the records after it, its link to the chain, and the
+-- causes 1 to 5 by which it is refused. The causes are tested in document 01's order.
 use Prim.Native.Nat.{ℕ, _+_, _-_, _*_, _/_, _%_}
 use mathlib.Core.Bool.{Bool, cond, not, _||_, _&&_}
 use mathlib.Core.List.{List}

@@ -1,4 +1,5 @@
-// The fields of a record. Each version has its offsets as constants in a function of its own; what is made of the fields is one body for both.
+// The fields of a record. Each version has its offsets as constants in a function of its own; what is made of the fields is one body for
+// both.
 use crate::Version;
 use crate::bytes::number2;
 use crate::bytes::number4;

@@ -1,5 +1,6 @@
-// The records of a rule book, of either version of the format: the header and what it says, a rule record and what turns it back, and a reader that is held
-// while a chain is walked. A function takes the version and any bytes, and answers; a byte that is not there reads as zero.
+// The records of a rule book, of either version of the format: the header and what it says, a rule record and what turns it back, and a
+// reader that is held while a chain is walked. A function takes the version and any bytes, and answers; a byte that is not there reads as
+// zero.
 mod bytes;
 mod decode;
 pub mod fields;

@@ -10,7 +10,9 @@ use Rattle.book.proofs.repack.Statement.{statement}
 use Rattle.book.proofs.repack.Tie as tie
 
 -- the chain of an accepted book
-chained : (c : tie.Else1) → ChainRead (c .before .before .before .before .before .before .before .before .before .before .args .book .now) (c .before .before .before .before .before .read .result) (c .before .before .before .before .before .read .last .1 .1 .0)
+chained : (c : tie.Else1) →
+    ChainRead (c .before .before .before .before .before .before .before .before .before .before .args .book .now)
+    (c .before .before .before .before .before .read .result) (c .before .before .before .before .before .read .last .1 .1 .0)
 chained c = chain-accepted (c .before .before .before .before .before .read .ensures) (c .if1 .left) (lit≤ tt)
 
 few : (c : tie.Else1) → c .before .before .before .before .before .read .result .n ≤ 255
@@ -18,7 +20,10 @@ few c = omega (arith, chained c .count, chained c .few)
 
 returns : tie.Need-returns
 returns c =
-    packs-refused (c .before .before .before .before .before .before .before .before .before .before .args .book .now) (c .before .before .before .before .before .before .before .before .before .before .args .out .now) (c .before .before .before .before .before .read .result .refusal .number) (c .before .before .before .before .before .read .result .refusal .at)
+    packs-refused (c .before .before .before .before .before .before .before .before .before .before .args .book .now)
+    (c .before .before .before .before .before .before .before .before .before .before .args .out .now)
+    (c .before .before .before .before .before .read .result .refusal .number)
+    (c .before .before .before .before .before .read .result .refusal .at)
     (said-refused (c .before .before .before .before .before .read .ensures) (c .if1 .taken))
 
 add-filled : tie.Need-add-filled
@@ -28,22 +33,46 @@ mul-filled : tie.Need-mul-filled
 mul-filled c = omega (arith, few c)
 
 returns-2 : tie.Need-returns-2
-returns-2 c = packs-declined (c .before .before .before .before .before .before .before .before .before .before .before .args .book .now) (c .before .before .before .before .before .before .before .before .before .before .before .args .out .now) (chained (c .before)) (c .if2 .taken)
+returns-2 c =
+    packs-declined (c .before .before .before .before .before .before .before .before .before .before .before .args .book .now)
+    (c .before .before .before .before .before .before .before .before .before .before .before .args .out .now) (chained (c .before))
+    (c .if2 .taken)
 
 cast-rules : tie.Need-cast-rules
 cast-rules c = omega (arith, few (c .before))
 
 cast-header-bytes : tie.Need-cast-header-bytes
-cast-header-bytes c = omega (arith, c .next-of .ensures, next-small 0 (c .before .before .before .before .before .before .before .read .result .n), few (c .before .before))
+cast-header-bytes c =
+    omega (
+      arith,
+      c .next-of .ensures,
+      next-small 0 (c .before .before .before .before .before .before .before .read .result .n),
+      few
+          (c .before .before),
+    )
 
 put-rules-requires : tie.Need-put-rules-requires
-put-rules-requires c κs = record { few = few (c .before .before .before .before .before .before .before .before); room = omega (arith, c .before .before .before .store .kept .0, c .before .before .before .before .before .before .before .if2 .left) }
+put-rules-requires c κs =
+    record {
+      few = few (c .before .before .before .before .before .before .before .before);
+      room = omega (arith, c .before .before .before .store .kept .0, c .before .before .before .before .before .before .before .if2 .left);
+    }
 
 returns-3 : tie.Need-returns-3
 returns-3 c =
-    packs-packed (c .before .before .before .before .before .before .before .before .before .before .before .before .before .before .before .before .before .before .before .before .before .args .book .now) (c .before .before .before .before .before .before .before .before .before .before .before .before .before .before .before .before .before .before .before .before .before .args .out .now) (chained (c .before .before .before .before .before .before .before .before .before .before .before)) (c .before .before .before .before .before .before .before .before .before .before .if2 .left)
-    (c .before .before .before .before .before .before .before .before .before .next-of .result) (c .before .before .before .before .before .before .before .before .header-bytes .result) (c .before .before .before .before .before .before .store .last .0) (c .before .before .put-rules .last .1 .0)
-    (c .before .before .before .before .before .before .before .before .before .next-of .ensures) (c .before .before .before .before .before .before .before .before .header-bytes .ensures) (c .before .before .before .before .before .before .store .ensures) (c .before .before .put-rules .ensures)
+    packs-packed
+    (c .before .before .before .before .before .before .before .before .before .before .before .before .before .before .before .before
+    .before .before .before .before .before .args .book .now)
+    (c .before .before .before .before .before .before .before .before .before .before .before .before .before .before .before .before
+    .before .before .before .before .before .args .out .now)
+    (chained (c .before .before .before .before .before .before .before .before .before .before .before))
+    (c .before .before .before .before .before .before .before .before .before .before .if2 .left)
+    (c .before .before .before .before .before .before .before .before .before .next-of .result)
+    (c .before .before .before .before .before .before .before .before .header-bytes .result)
+    (c .before .before .before .before .before .before .store .last .0) (c .before .before .put-rules .last .1 .0)
+    (c .before .before .before .before .before .before .before .before .before .next-of .ensures)
+    (c .before .before .before .before .before .before .before .before .header-bytes .ensures)
+    (c .before .before .before .before .before .before .store .ensures) (c .before .before .put-rules .ensures)
 
 pub repack-spec : {M : Type 1} → statement M
 repack-spec =

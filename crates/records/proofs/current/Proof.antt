@@ -1,5 +1,7 @@
--- `records::current` meets its contract: a walk of its MIR, by hand. The struct is taken apart, and `decode` is called on the slice and the number. All that the proof knows of `decode` is that it meets its contract.
--- The struct is Copy: what it owns is had twice, one copy is kept whole for the exit, and of the other what book owns goes to the callee, beside the lifetime's token, which comes back.
+-- `records::current` meets its contract: a walk of its MIR, by hand. The struct is taken apart, and `decode` is called on the slice and
+-- the number. All that the proof knows of `decode` is that it meets its contract.
+-- The struct is Copy: what it owns is had twice, one copy is kept whole for the exit, and of the other what book owns goes to the callee,
+-- beside the lifetime's token, which comes back.
 -- Assumes nothing.
 use mathlib.Core.Path.{_≡_, refl}
 use Prim.Native.Nat.{_<_, _^_}
@@ -75,7 +77,9 @@ module _ {M : Type 1} (𝓤 : URA M) (H : Heap 𝓤) (A : Atoms 𝓤) (mem : Mem
   abbrev Decode : Contract 𝓤
   Decode = tripleOf 𝓤 H A decode.signature (decode.spec 𝓤 H A mem run)
 
-module _ {M : Type 1} (𝓤 : URA M) (H : Heap 𝓤) (A : Atoms 𝓤) (W : Given 𝓤 H A) (mem : Memory → SProp 𝓤) (run : Routine → Fun 𝓤) (κ : Lft) (q : Share) (ver : Version) (d : Reader) where
+module _
+    {M : Type 1} (𝓤 : URA M) (H : Heap 𝓤) (A : Atoms 𝓤) (W : Given 𝓤 H A) (mem : Memory → SProp 𝓤) (run : Routine → Fun 𝓤) (κ : Lft)
+    (q : Share) (ver : Version) (d : Reader) where
   -- the machine value of the version
   abbrev mv : Val
   mv = EL.val N.the-type N′.the-laws ver
@@ -91,7 +95,9 @@ module _ {M : Type 1} (𝓤 : URA M) (H : Heap 𝓤) (A : Atoms 𝓤) (W : Given
   found = decodedOf (layoutOf ver) (recordAt (layoutOf ver) (now (d .book)) (d .at))
 
   abbrev Post : Val → SProp 𝓤
-  Post = walkOf 𝓤 H A current.ended stayed (current.clauses 𝓤 H A mem run) .post (((κ, tt), (q, tt), tt, (ver, (d, tt)), (mv ∷ [], (mach ∷ [], tt))), tt)
+  Post =
+      walkOf 𝓤 H A current.ended stayed (current.clauses 𝓤 H A mem run) .post
+      (((κ, tt), (q, tt), tt, (ver, (d, tt)), (mv ∷ [], (mach ∷ [], tt))), tt)
 
   abbrev Own : Fml
   Own = B (κ, tt) .own d (mach ∷ [])
@@ -114,57 +120,104 @@ module _ {M : Type 1} (𝓤 : URA M) (H : Heap 𝓤) (A : Atoms 𝓤) (W : Given
   to = (((κ, tt), (q, tt), tt, (ver, (d .book, (d .at, tt))), passed), tt)
 
   asked : ent 𝓤 (onEntry 𝓤 H A decode.signature (κ, tt) (q, tt) (ver, (d .book, (d .at, tt))) passed) (Decode 𝓤 H A mem run .pre to)
-  asked = qed W ((‵ (flft κ q) ⊛ ‵ ftrue) ∷ ‵ (owns (N.the-row ∷ ShrSlice (named 0) κ u8 ∷ u16 ∷ []) (ver, (d .book, (d .at, tt))) passed) ∷ []) ∵ join ! $ frame ! $ done !
+  asked =
+      qed W
+      ((‵ (flft κ q) ⊛ ‵ ftrue) ∷ ‵ (owns (N.the-row ∷ ShrSlice (named 0) κ u8 ∷ u16 ∷ []) (ver, (d .book, (d .at, tt))) passed) ∷
+      []) ∵ join ! $ frame ! $ done !
 
   -- what the struct owns gives what the callee asks, and is kept
-  apart : Is N.the-row ver (mv ∷ []) → d .at < 2 ^ 16 → ent 𝓤 (onEntry 𝓤 H A current.signature (κ, tt) (q, tt) (ver, (d, tt)) (mv ∷ [], (mach ∷ [], tt))) (sep 𝓤 (Decode 𝓤 H A mem run .pre to) (sem 𝓤 H A Own))
+  apart : Is N.the-row ver (mv ∷ []) →
+      d .at < 2 ^ 16 →
+      ent 𝓤 (onEntry 𝓤 H A current.signature (κ, tt) (q, tt) (ver, (d, tt)) (mv ∷ [], (mach ∷ [], tt)))
+      (sep 𝓤 (Decode 𝓤 H A mem run .pre to) (sem 𝓤 H A Own))
   apart is fits =
       qed W ((‵ (flft κ q) ⊛ ‵ ftrue) ∷ ‵ (owns (N.the-row ∷ B (κ, tt) ∷ []) (ver, (d, tt)) (mv ∷ [], (mach ∷ [], tt))) ∷ []) ∵
-      move ! (1 ∷ []) $ fsplit ! $ drop ! $ fsplit ! $ move ! (1 ∷ []) $ drop ! $ use1 W (‵ Own ⊛ ‵ Own) (LL.copy D (T′.the-copy (namedLft 1 0 tt (κ, tt))) 𝓤 H A W .twice d (mach ∷ [])) $ split ! $
-      use1 W (given (mach ∷ [] ≡ mach ∷ []) (‵ (all-own (D .parts) L vd))) (own-open 𝓤 H A W D L vd mach) $ learn ! (λ _. use1 W (‵ (ownAt (D .parts) L 0 (d .book)) ⊛ ‵ (rest (D .parts) L 0 vd)) (own-out 𝓤 H A W (D .parts) L 0 vd) $ split ! $
+      move ! (1 ∷ []) $ fsplit ! $ drop ! $ fsplit ! $ move ! (1 ∷ []) $ drop ! $
+      use1 W (‵ Own ⊛ ‵ Own) (LL.copy D (T′.the-copy (namedLft 1 0 tt (κ, tt))) 𝓤 H A W .twice d (mach ∷ [])) $ split ! $
+      use1 W (given (mach ∷ [] ≡ mach ∷ []) (‵ (all-own (D .parts) L vd))) (own-open 𝓤 H A W D L vd mach) $
+      learn !
+      (λ _. use1 W (‵ (ownAt (D .parts) L 0 (d .book)) ⊛ ‵ (rest (D .parts) L 0 vd)) (own-out 𝓤 H A W (D .parts) L 0 vd) $ split ! $
       -- [what book owns; what at owns; what the struct owns; the token]
-      move ! (1 ∷ []) $ drop ! $ nothing ! $ owned ! u16 (Is u16) (uint-makes 𝓤 H A W w16) (d .at) _ (refl, fits) $ fjoin ! $ move ! (1 ∷ 0 ∷ []) $ fjoin ! $
+      move ! (1 ∷ []) $ drop ! $ nothing ! $ owned ! u16 (Is u16) (uint-makes 𝓤 H A W w16) (d .at) _ (refl, fits) $ fjoin ! $
+      move ! (1 ∷ 0 ∷ []) $ fjoin ! $
       owned ! N.the-row (Is N.the-row) (EL.makes N.the-type N′.the-plain 𝓤 H A) ver _ is $ fjoin ! $
       move ! (2 ∷ 0 ∷ []) $ use2 W (raw (Decode 𝓤 H A mem run .pre to)) asked $ frame ! $ done !)
 
   -- of the callee's `ensured`, the clause alone: it has no `&mut`, so what is said of last values is dropped
-  said : (r : Decoded) → ent 𝓤 (ensured 𝓤 H A decode.ended (decode.clauses 𝓤 H A mem run) (κ, tt) (ver, (d .book, (d .at, tt))) tt r) (fact 𝓤 (r ≡ found))
+  said : (r : Decoded) →
+      ent 𝓤 (ensured 𝓤 H A decode.ended (decode.clauses 𝓤 H A mem run) (κ, tt) (ver, (d .book, (d .at, tt))) tt r) (fact 𝓤 (r ≡ found))
   said r = exE 𝓤 _ (λ ws. snd∗ 𝓤 (sem 𝓤 H A (lasts decode.ended (κ, tt) (ver, (d .book, (d .at, tt))) ws)) (fact 𝓤 (r ≡ found)))
 
-  exits : Is N.the-row ver (mv ∷ []) → (r : Decoded) (u : Val) → r ≡ found → ent 𝓤 (⋆ 𝓤 H A (‵ (S.the-row .own r (u ∷ [])) ∷ (‵ (flft κ q) ⊛ ‵ ftrue) ∷ ‵ Own ∷ [])) (Post u)
+  exits : Is N.the-row ver (mv ∷ []) →
+      (r : Decoded) (u : Val) →
+      r ≡ found →
+      ent 𝓤 (⋆ 𝓤 H A (‵ (S.the-row .own r (u ∷ [])) ∷ (‵ (flft κ q) ⊛ ‵ ftrue) ∷ ‵ Own ∷ [])) (Post u)
   exits is r u e =
       qed W (‵ (S.the-row .own r (u ∷ [])) ∷ (‵ (flft κ q) ⊛ ‵ ftrue) ∷ ‵ Own ∷ []) ∵
-      suffices ! _ (ends-at 𝓤 H A current.ended stayed (current.clauses 𝓤 H A mem run) W (((κ, tt), (q, tt), tt, (ver, (d, tt)), (mv ∷ [], (mach ∷ [], tt))), tt) u r (tt, (tt, tt)) (tt, (tt, tt))) $ says ! e $
+      suffices ! _
+      (ends-at 𝓤 H A current.ended stayed (current.clauses 𝓤 H A mem run) W
+      (((κ, tt), (q, tt), tt, (ver, (d, tt)), (mv ∷ [], (mach ∷ [], tt))), tt) u r (tt, (tt, tt)) (tt, (tt, tt))) $ says ! e $
       move ! (1 ∷ []) $ frame ! $ nothing ! $ move ! (2 ∷ 0 ∷ []) $ fjoin ! $
       owned ! N.the-row (Is N.the-row) (EL.makes N.the-type N′.the-plain 𝓤 H A) ver _ is $ fjoin ! $ frame ! $ done !
 
-  module _ (C : Calls 𝓤 H) (Λ : Loops 𝓤 H) (fm : FmC 𝓤 H (W .laws) C) (known : Triple 𝓤 (C #records·decode·decode) (Decode 𝓤 H A mem run)) where
-    walk : Is N.the-row ver (mv ∷ []) → Holds (hasTy (T′.mir (named 0)) mach) × WT mach → ent 𝓤 (onEntry 𝓤 H A current.signature (κ, tt) (q, tt) (ver, (d, tt)) (mv ∷ [], (mach ∷ [], tt))) (WpFn 𝓤 H C Λ code.function (mv ∷ mach ∷ []) Post)
+  module _
+      (C : Calls 𝓤 H) (Λ : Loops 𝓤 H) (fm : FmC 𝓤 H (W .laws) C) (known : Triple 𝓤 (C #records·decode·decode) (Decode 𝓤 H A mem run)) where
+    walk : Is N.the-row ver (mv ∷ []) →
+        Holds (hasTy (T′.mir (named 0)) mach) × WT mach →
+        ent 𝓤 (onEntry 𝓤 H A current.signature (κ, tt) (q, tt) (ver, (d, tt)) (mv ∷ [], (mach ∷ [], tt)))
+        (WpFn 𝓤 H C Λ code.function (mv ∷ mach ∷ []) Post)
     walk iv wt =
-        qed W (raw (onEntry 𝓤 H A current.signature (κ, tt) (q, tt) (ver, (d, tt)) (mv ∷ [], (mach ∷ [], tt))) ∷ []) ∵ enter ! C Λ code.function (mv ∷ mach ∷ []) _ $
-        alloc1 ! (λ l₀. alloc1 ! (λ l₁. alloc1 ! (λ l₂. alloc1 ! (λ l₃. alloc1 ! (λ l₄. alloc0 ! $ params1 ! $ pass1 ! (init ! 6 refl (EL.lawful N.the-type N′.the-laws 𝓤 H A W tt .typed ver _ iv .0)) $ pass1 ! (init ! 4 refl wt) $ pass0 ! $
-        assigns ! (of-opd ! (load ! (from ! (fld ! refl (stop !))) (look-in ! 4 (sub ! 0 refl (whole !))))) (from ! (stop !)) (init ! 2 refl (tt, wt .1 .0)) $
-        assigns ! (of-opd ! (load ! (from ! (fld ! refl (stop !))) (look-in ! 4 (sub ! 1 refl (whole !))))) (from ! (stop !)) (init ! 0 refl (tt, wt .1 .1 .0)) $
+        qed W
+        (raw (onEntry 𝓤 H A current.signature (κ, tt) (q, tt) (ver, (d, tt)) (mv ∷ [], (mach ∷ [], tt))) ∷ []) ∵ enter ! C Λ code.function
+        (mv ∷ mach ∷ []) _ $
+        alloc1 !
+        (λ l₀. alloc1 !
+        (λ l₁. alloc1 !
+        (λ l₂. alloc1 !
+        (λ l₃. alloc1 !
+        (λ l₄. alloc0 ! $ params1 ! $ pass1 ! (init ! 6 refl (EL.lawful N.the-type N′.the-laws 𝓤 H A W tt .typed ver _ iv .0)) $
+        pass1 ! (init ! 4 refl wt) $ pass0 ! $
+        assigns ! (of-opd ! (load ! (from ! (fld ! refl (stop !))) (look-in ! 4 (sub ! 0 refl (whole !))))) (from ! (stop !))
+        (init ! 2 refl (tt, wt .1 .0)) $
+        assigns ! (of-opd ! (load ! (from ! (fld ! refl (stop !))) (look-in ! 4 (sub ! 1 refl (whole !))))) (from ! (stop !))
+        (init ! 0 refl (tt, wt .1 .1 .0)) $
         move ! (10 ∷ []) $ use1 W (raw (Decode 𝓤 H A mem run .pre to) ⊛ ‵ Own) (apart iv (wt .1 .1 .0 .fits)) $ split ! $
-        calls-at ! fm (Decode 𝓤 H A mem run) known to (and-then ! (load ! (from ! (stop !)) (look ! 8 refl)) (and-then ! (load ! (from ! (stop !)) (look ! 4 refl)) (and-then ! (load ! (from ! (stop !)) (look ! 2 refl)) (no-more !)))) (λ u.
-        use1 W (later (some (λ (r : Decoded). ((‵ (flft κ q) ⊛ ‵ ftrue) ⊛ ‵ (S.the-row .own r (u ∷ []))) ⊛ raw (ensured 𝓤 H A decode.ended (decode.clauses 𝓤 H A mem run) (κ, tt) (ver, (d .book, (d .at, tt))) tt r)))) (id⊢ 𝓤 _) $ await ! tt $ pick ! (λ r.
+        calls-at ! fm (Decode 𝓤 H A mem run) known to
+        (and-then ! (load ! (from ! (stop !)) (look ! 8 refl))
+        (and-then ! (load ! (from ! (stop !)) (look ! 4 refl)) (and-then ! (load ! (from ! (stop !)) (look ! 2 refl)) (no-more !)))) (λ u.
+        use1 W
+        (later
+        (some
+        (λ (r : Decoded). ((‵ (flft κ q) ⊛ ‵ ftrue) ⊛ ‵ (S.the-row .own r (u ∷ []))) ⊛ raw
+        (ensured 𝓤 H A decode.ended (decode.clauses 𝓤 H A mem run) (κ, tt) (ver, (d .book, (d .at, tt))) tt r)))) (id⊢ 𝓤 _) $ await ! tt $
+        pick ! (λ r.
         split ! $ move ! (1 ∷ []) $ use1 W (raw (fact 𝓤 (r ≡ found))) (said r) $ heard ! (r ≡ found) (λ e. split ! $ move ! (1 ∷ []) $
         -- [the result; the token; what the struct owns; _4; …; _3; …; _2; …; _1; …; room for _0; …]
         peeks ! S.the-row (Is S.the-row) (shows 𝓤 H A S.the-row) r (u ∷ []) (λ is.
         land ! (from ! (stop !)) (init ! 11 refl (EL.lawful S.the-type S′.the-laws 𝓤 H A W tt .typed r _ is .0)) $
         returns ! (look ! 11 refl) $ forget ! 3 refl $ forget ! 5 refl $ forget ! 7 refl $ forget ! 9 refl $ forget ! 11 refl $
-        move ! (11 ∷ 12 ∷ []) $ free1 ! $ move ! (9 ∷ 10 ∷ []) $ free1 ! $ move ! (7 ∷ 8 ∷ []) $ free1 ! $ move ! (5 ∷ 6 ∷ []) $ free1 ! $ move ! (3 ∷ 4 ∷ []) $ free1 ! $ free0 ! $ by ! (exits iv r u e))))))))))
+        move ! (11 ∷ 12 ∷ []) $ free1 ! $ move ! (9 ∷ 10 ∷ []) $ free1 ! $ move ! (7 ∷ 8 ∷ []) $ free1 ! $ move ! (5 ∷ 6 ∷ []) $ free1 ! $
+        move ! (3 ∷ 4 ∷ []) $ free1 ! $ free0 ! $ by ! (exits iv r u e))))))))))
 
 module _ {M : Type 1} (𝓤 : URA M) (H : Heap 𝓤) (A : Atoms 𝓤) (W : Given 𝓤 H A) (mem : Memory → SProp 𝓤) (run : Routine → Fun 𝓤) where
   current-walks : (C : Calls 𝓤 H) (Λ : Loops 𝓤 H) → FmC 𝓤 H (W .laws) C → Triple 𝓤 (C #records·decode·decode) (Decode 𝓤 H A mem run)
       → Walks 𝓤 H A current.ended stayed (WpFn 𝓤 H C Λ code.function) (current.clauses 𝓤 H A mem run)
-  current-walks C Λ fm known = walked 𝓤 H A current.ended stayed (current.clauses 𝓤 H A mem run) (WpFn 𝓤 H C Λ code.function) (λ κs. (EL.vals N.the-type N′.the-laws, (LL.vals (T.the-type (namedLft 1 0 tt κs)) (T′.the-laws (namedLft 1 0 tt κs)), tt))) (λ κs. (EL.tells N.the-type N′.the-laws, (LL.tells (T.the-type (namedLft 1 0 tt κs)) (T′.the-laws (namedLft 1 0 tt κs)), tt)))
-      (λ κs qs bounds a g are. via 𝓤 _ (fst∗ 𝓤 _ (emp 𝓤)) (walk 𝓤 H A W mem run (κs .0) (qs .0) (a .0) (a .1 .0) C Λ fm known (are .0) (LL.lawful (T.the-type (namedLft 1 0 tt κs)) (T′.the-laws (namedLft 1 0 tt κs)) 𝓤 H A W .typed (a .1 .0) _ (are .1 .0) .0)))
+  current-walks C Λ fm known =
+      walked 𝓤 H A current.ended stayed (current.clauses 𝓤 H A mem run) (WpFn 𝓤 H C Λ code.function)
+      (λ κs. (EL.vals N.the-type N′.the-laws, (LL.vals (T.the-type (namedLft 1 0 tt κs)) (T′.the-laws (namedLft 1 0 tt κs)), tt)))
+      (λ κs. (EL.tells N.the-type N′.the-laws, (LL.tells (T.the-type (namedLft 1 0 tt κs)) (T′.the-laws (namedLft 1 0 tt κs)), tt)))
+      (λ κs qs bounds a g are. via 𝓤 _ (fst∗ 𝓤 _ (emp 𝓤))
+      (walk 𝓤 H A W mem run (κs .0) (qs .0) (a .0) (a .1 .0) C Λ fm known (are .0)
+      (LL.lawful (T.the-type (namedLft 1 0 tt κs)) (T′.the-laws (namedLft 1 0 tt κs)) 𝓤 H A W .typed (a .1 .0) _ (are .1 .0) .0)))
 
-current-meets : {M : Type 1} (𝓤 : URA M) (H : Heap 𝓤) (A : Atoms 𝓤) (W : Given 𝓤 H A) (mem : Memory → SProp 𝓤) (run : Routine → Fun 𝓤) (𝓣 : Tables 𝓤 H)
+current-meets : {M : Type 1} (𝓤 : URA M) (H : Heap 𝓤) (A : Atoms 𝓤) (W : Given 𝓤 H A) (mem : Memory → SProp 𝓤) (run : Routine → Fun 𝓤)
+    (𝓣 : Tables 𝓤 H)
     → Triple 𝓤 (𝓣 .C #records·decode·decode) (Decode 𝓤 H A mem run)
     → Meets 𝓤 H A current.signature (WpFn 𝓤 H (𝓣 .C) (𝓣 .Λ) code.function) (current.spec 𝓤 H A mem run)
-current-meets 𝓤 H A W mem run 𝓣 known-decode = walk-meets 𝓤 H A current.ended stayed W (goes-none 𝓤 H A W 1 (λ _. N.the-row) yes (λ κs x f. refl), (goes-none 𝓤 H A W 1 B yes (λ κs x f. refl), tt)) (current.clauses 𝓤 H A mem run) (WpFn 𝓤 H (𝓣 .C) (𝓣 .Λ) code.function) (WpFn-mono 𝓤 H (W .laws) 𝓣 code.function)
+current-meets 𝓤 H A W mem run 𝓣 known-decode =
+    walk-meets 𝓤 H A current.ended stayed W
+    (goes-none 𝓤 H A W 1 (λ _. N.the-row) yes (λ κs x f. refl), (goes-none 𝓤 H A W 1 B yes (λ κs x f. refl), tt))
+    (current.clauses 𝓤 H A mem run) (WpFn 𝓤 H (𝓣 .C) (𝓣 .Λ) code.function) (WpFn-mono 𝓤 H (W .laws) 𝓣 code.function)
     (current-walks 𝓤 H A W mem run (𝓣 .C) (𝓣 .Λ) (fmOf 𝓤 H (W .laws) 𝓣) known-decode)
 
 pub current-spec : {M : Type 1} → stated.statement M
@@ -173,4 +226,6 @@ current-spec 𝓤 H 𝓜 𝓖 𝓡 =
     entered 𝓤 H (tripleOf 𝓤 H (𝓖 .A) current.signature (current.spec 𝓤 H (𝓖 .A) (𝓜 .mem) (𝓡 .run)))
     (tables 𝓤 H 𝓜 𝓡 code.env .C) (tables 𝓤 H 𝓜 𝓡 code.env .Λ) #records·current code.function (code.unfolded 𝓤 H 𝓜 𝓡)
     (current-meets 𝓤 H (𝓖 .A) (givenOf 𝓤 H 𝓜 𝓖) (𝓜 .mem) (𝓡 .run) (tablesOf 𝓤 H 𝓜 (tables 𝓤 H 𝓜 𝓡 code.env))
-    (cited 𝓤 H (Decode 𝓤 H (𝓖 .A) (𝓜 .mem) (𝓡 .run)) 𝓜 𝓡 code.env #records·decode·decode decode-def.routine code.calls-records·decode·decode (decode-thm.met 𝓤 H 𝓜 𝓖 𝓡)))
+    (cited 𝓤 H
+    (Decode 𝓤 H (𝓖 .A) (𝓜 .mem) (𝓡 .run)) 𝓜 𝓡 code.env #records·decode·decode decode-def.routine code.calls-records·decode·decode
+    (decode-thm.met 𝓤 H 𝓜 𝓖 𝓡)))

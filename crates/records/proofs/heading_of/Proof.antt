@@ -25,11 +25,16 @@ returns c =
     let e = c .before .before .before .fields-at .ensures in
     let fp : SFits w16 (c .before .before .signed16 .result) = search needs in
     let fq : SFits w16 (c .before .signed162 .result) = search needs in
-    let p = widened w16 (c .before .before .signed16 .result) fp (lit≤ tt) ∙ c .before .before .signed16 .ensures ∙ ap (λ (f : Fields). toZ w16 (f .a)) e in
-    let q = widened w16 (c .before .signed162 .result) fq (lit≤ tt) ∙ c .before .signed162 .ensures ∙ ap (λ (f : Fields). toZ w16 (f .b)) e in
+    let p =
+    widened w16 (c .before .before .signed16 .result) fp (lit≤ tt) ∙ c .before .before .signed16 .ensures
+    ∙ ap (λ (f : Fields). toZ w16 (f .a)) e in
+    let q =
+    widened w16 (c .before .signed162 .result) fq (lit≤ tt) ∙ c .before .signed162 .ensures ∙ ap (λ (f : Fields). toZ w16 (f .b)) e in
     let n = ap (λ (f : Fields). f .label) e in
     let l = ap (λ (f : Fields). f .link) e in
-    let z = zero-floors (c .before .before .before .before .before .args .version) (c .before .before .before .before .before .args .book .now) in
+    let z =
+    zero-floors (c .before .before .before .before .before .args .version)
+    (c .before .before .before .before .before .args .book .now) in
     λ j. record {
       fault = c .fault .ensures j;
       terms = record { objective = record { p = p j; q = q j }; floors = z j };

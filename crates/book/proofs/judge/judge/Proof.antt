@@ -76,7 +76,8 @@ returns-4 c =
       answer =
           judged-repeat (layoutOf (a .version)) (a .book .now) (a .marks .now) (a .labels .now) (a .count) (a .at) (a .link)
           (c .before .before .before .before .before .before .before .before .before .before .if1 .left)
-          (sym (c .before .before .before .before .before .before .before .before .noted .ensures) ∙ c .before .before .before .before .before .before .before .if2 .left)
+          (sym (c .before .before .before .before .before .before .before .before .noted .ensures)
+          ∙ c .before .before .before .before .before .before .before .if2 .left)
           (ap numberOf (sym (d .ensures) ∙ e))
           (ap (isNoted (a .labels .now)) (sym label) ∙ sym (c .before .noted2 .ensures) ∙ c .if3 .taken);
       visited = refl;
@@ -84,14 +85,19 @@ returns-4 c =
     }
 
 note-requires : tie.Need-note-requires
-note-requires c κs = sym (c .before .before .before .before .before .before .before .before .before .noted .ensures) ∙ c .before .before .before .before .before .before .before .before .if2 .left
+note-requires c κs =
+    sym (c .before .before .before .before .before .before .before .before .before .noted .ensures)
+    ∙ c .before .before .before .before .before .before .before .before .if2 .left
 
 note-requires-2 : tie.Need-note-requires-2
-note-requires-2 c κs = sym (c .before .before .before .before .before .before .noted2 .ensures) ∙ c .before .before .before .before .before .if3 .left
+note-requires-2 c κs =
+    sym (c .before .before .before .before .before .before .noted2 .ensures) ∙ c .before .before .before .before .before .if3 .left
 
 returns-5 : tie.Need-returns-5
 returns-5 c =
-    let a = c .before .before .before .before .before .before .before .before .before .before .before .before .before .before .before .before .before .before .before .before .before .before .args in
+    let a =
+    c .before .before .before .before .before .before .before .before .before .before .before .before .before .before .before .before
+    .before .before .before .before .before .before .args in
     let d = c .before .before .before .before .before .before .before .before .before .before .before .before .before .before .visit in
     let e = c .before .before .before .before .before .before .before .before .before .before .before .before .decoded .given .1 in
     let held = sound-holds (layoutOf (a .version)) _ _ _ (sym (d .ensures) ∙ e) in
@@ -100,10 +106,17 @@ returns-5 c =
       answer =
           (λ j. Sound (held .0 j) (held .1 j))
           ∙ judged-sound (layoutOf (a .version)) (a .book .now) (a .marks .now) (a .labels .now) (a .count) (a .at) (a .link)
-          (c .before .before .before .before .before .before .before .before .before .before .before .before .before .before .before .before .before .before .if1 .left)
-          (sym (c .before .before .before .before .before .before .before .before .before .before .before .before .before .before .before .before .noted .ensures) ∙ c .before .before .before .before .before .before .before .before .before .before .before .before .before .before .before .if2 .left)
+          (c .before .before .before .before .before .before .before .before .before .before .before .before .before .before .before
+          .before .before .before .if1 .left)
+          (sym
+          (c .before .before .before .before .before .before .before .before .before .before .before .before .before .before .before
+          .before .noted .ensures)
+          ∙ c .before .before .before .before .before .before .before .before .before .before .before .before .before .before
+          .before .if2 .left)
           (ap numberOf (sym (d .ensures) ∙ e))
-          (ap (isNoted (a .labels .now)) (sym label) ∙ sym (c .before .before .before .before .before .before .before .before .before .noted2 .ensures) ∙ c .before .before .before .before .before .before .before .before .if3 .left);
+          (ap (isNoted (a .labels .now)) (sym label)
+          ∙ sym (c .before .before .before .before .before .before .before .before .before .noted2 .ensures)
+          ∙ c .before .before .before .before .before .before .before .before .if3 .left);
       visited = c .before .before .before .before .before .before .note .ensures;
       met = c .before .before .note2 .ensures;
     }

@@ -11,7 +11,8 @@ returns c =
     let f = c .before .fields-at .result in
     let fa : Fits w16 (f .a) = search needs in
     let fb : Fits w16 (f .b) = search needs in
-    header-written (c .record-bytes .result) (c .before .before .before .args .book .now) (c .before .before .before .args .link) (c .before .before .before .args .n) f fa fb
+    header-written (c .record-bytes .result) (c .before .before .before .args .book .now) (c .before .before .before .args .link)
+    (c .before .before .before .args .n) f fa fb
     (c .before .fields-at .ensures) (c .record-bytes .ensures)
 
 pub header-bytes-spec : {M : Type 1} → statement M

@@ -23,10 +23,20 @@ abbrev μ-loop : tie.MeasureT-loop
 μ-loop book out₀ n indices k₀ out k = n - k
 
 loop-holds : tie.Need-loop-holds Inv-loop μ-loop
-loop-holds c = (omega arith, paste-zero (c .before .before .args .out .now) 12 (chainBytes v1 1 (rulesAt v1 (c .before .before .args .book .now) (take (c .before .before .args .n) (c .before .before .args .t3)))), refl, c .before .before .pre, (search needs))
+loop-holds c = (
+  omega arith,
+  paste-zero (c .before .before .args .out .now) 12
+      (chainBytes v1 1
+      (rulesAt v1 (c .before .before .args .book .now)
+      (take (c .before .before .args .n) (c .before .before .args .t3)))),
+  refl,
+  c .before .before .pre,
+  (search needs),
+)
 
 cast-link : tie.Need-cast-link Inv-loop μ-loop
-cast-link c = omega (arith, c .next-of .ensures, next-small (c .before .before .loop .k + 1) (c .before .before .before .before .before .args .n))
+cast-link c =
+    omega (arith, c .next-of .ensures, next-small (c .before .before .loop .k + 1) (c .before .before .before .before .before .args .n))
 
 loop-again : tie.Need-loop-again Inv-loop μ-loop
 loop-again c =
@@ -35,10 +45,19 @@ loop-again c =
     let T = chainBytes v1 1 (rulesAt v1 (a .book .now) (take (a .n) (a .t3))) in
     let bytes = c .before .before .before .before .rule-bytes .result in
     let few : a .n ≤ length (a .t3) = omega arith in
-    let long : 12 * l .k ≤ length T = omega (arith, length-chainBytes v1 1 (rulesAt v1 (a .book .now) (take (a .n) (a .t3))), length-rules (a .book .now) (a .t3) (a .n) few) in
+    let long : 12 * l .k ≤ length T =
+    omega (
+      arith,
+      length-chainBytes v1 1 (rulesAt v1 (a .book .now) (take (a .n) (a .t3))),
+      length-rules (a .book .now) (a .t3)
+          (a .n) few,
+    ) in
     let here : 12 * (l .k + 1) ≡ 12 + 12 * l .k = omega arith in
     let next : 12 * l .k + 12 ≡ 12 * (l .k + 1) = omega arith in
-    let copied = rule-copied (a .book .now) (a .t3) bytes (a .n) (l .k) (c .before .before .before .before .before .next-of .result) (c .before .before .before .before .before .before .loop-test .taken) few (c .before .before .before .before .before .next-of .ensures) (c .before .before .before .before .rule-bytes .ensures) in (
+    let copied =
+    rule-copied (a .book .now) (a .t3) bytes (a .n) (l .k) (c .before .before .before .before .before .next-of .result)
+    (c .before .before .before .before .before .before .loop-test .taken) few
+    (c .before .before .before .before .before .next-of .ensures) (c .before .before .before .before .rule-bytes .ensures) in (
       omega arith,
       c .before .before .store .ensures
           ∙ (λ j. paste (l .inv .1 j) (here j) bytes 12)

@@ -14,7 +14,9 @@ returns c =
     let fa : Fits w16 (f .a) = search needs in
     let fb : Fits w16 (f .b) = search needs in
     let fc : Fits w32 (f .c) = search needs in
-    rule-written (c .record-bytes .result) (recordAt v1 (c .before .before .before .args .book .now) (c .before .before .before .args .index)) (c .before .before .before .args .link) f fa fb
+    rule-written (c .record-bytes .result)
+    (recordAt v1 (c .before .before .before .args .book .now) (c .before .before .before .args .index))
+    (c .before .before .before .args .link) f fa fb
     (c .before .fields-at .ensures) fc (c .record-bytes .ensures)
 
 pub rule-bytes-spec : {M : Type 1} → statement M

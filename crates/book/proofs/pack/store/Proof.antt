@@ -23,8 +23,15 @@ loop-again c =
     let l = c .before .loop in
     let a = c .before .before .args in
     let h : a .at + l .i < length (a .out .now) = omega arith in
-    let k : l .i < length (a .t3) = omega arith in
-    (omega arith, l .inv .1, ap (λ o. set o (a .at + l .i) (getD (a .t3) (l .i) 0)) (l .inv .2) ∙ paste-suc (a .out .now) (a .at) (a .t3) (l .i) 0 h k ∙ ap (paste (a .out .now) (a .at) (a .t3)) (sym (add-one (l .i))), length-set (l .out) (a .at + l .i) (getD (a .t3) (l .i) 0) ∙ l .inv .3)
+    let k : l .i < length (a .t3) = omega arith in (
+      omega arith,
+      l .inv .1,
+      ap (λ o. set o (a .at + l .i) (getD (a .t3) (l .i) 0)) (l .inv .2)
+          ∙ paste-suc (a .out .now) (a .at) (a .t3) (l .i) 0 h k
+          ∙ ap (paste (a .out .now) (a .at) (a .t3)) (sym (add-one (l .i))),
+      length-set (l .out) (a .at + l .i) (getD (a .t3) (l .i) 0)
+          ∙ l .inv .3,
+    )
 
 same-length : tie.Need-same-length Inv-loop μ-loop
 same-length c = c .before .loop .inv .3

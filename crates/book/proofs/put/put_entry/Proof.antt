@@ -12,7 +12,9 @@ slice-set-from-b : tie.Need-slice-set-from-b
 slice-set-from-b c = simp length-set (omega arith)
 
 returns : tie.Need-returns
-returns c = rw (lt-ltb (3 * c .before .before .before .before .args .k + 2) (length (c .before .before .before .before .args .run .now)) (c .before .before .before .if1 .taken)) (search needs)
+returns c =
+    rw (lt-ltb (3 * c .before .before .before .before .args .k + 2) (length (c .before .before .before .before .args .run .now))
+    (c .before .before .before .if1 .taken)) (search needs)
 
 returns-2 : tie.Need-returns-2
 returns-2 c = rw (le-ltb (3 * c .before .args .k + 2) (length (c .before .args .run .now)) (c .if1 .left))

@@ -1,4 +1,5 @@
--- `book::tables::note` meets its contract: a bit that is not set is added, and the word keeps to its 64 bits. A number beyond the table has no bit.
+-- `book::tables::note` meets its contract: a bit that is not set is added, and the word keeps to its 64 bits. A number beyond the table
+-- has no bit.
 use borrow.Author.Needs.{needs}
 use native.Mathlib.Omega.{arith}
 use Prim.Native.Nat.{ℕ, _+_, _/_, _%_, _^_, _<_}
@@ -17,7 +18,8 @@ add-table c =
     record {
       fits =
           subst⁻¹ (λ (b : ℕ). getD t (l / 64) 0 + b < 2 ^ 64) (one-shifted (l % 64) (omega arith))
-          (fits-64 (getD t (l / 64) 0) (l % 64) (omega arith) (clear-bit t l (c .before .before .pre)) (c .slice-known .given (l / 64) .fits));
+          (fits-64 (getD t (l / 64) 0) (l % 64) (omega arith) (clear-bit t l (c .before .before .pre))
+          (c .slice-known .given (l / 64) .fits));
     }
 
 returns : tie.Need-returns

@@ -1,4 +1,5 @@
--- `book::tables::noted` meets its contract: the shift is a division by the bit's power of two, and a number beyond the table was not noted.
+-- `book::tables::noted` meets its contract: the shift is a division by the bit's power of two, and a number beyond the table was not
+-- noted.
 use borrow.Author.Needs.{needs}
 use mathlib.Core.Path.{refl, sym}
 use Rattle.book.specs.Tables.{isNoted}
@@ -15,4 +16,5 @@ returns-2 c = sym (noted-out (c .before .args .table .now) (c .before .args .num
 
 pub noted-spec : {M : Type 1} → statement M
 noted-spec =
-    tie.close (tie.spec (λ c. search needs) (λ c. search needs) (λ c. search needs) (λ c. search needs) (λ c. search needs) returns returns-2)
+    tie.close
+    (tie.spec (λ c. search needs) (λ c. search needs) (λ c. search needs) (λ c. search needs) (λ c. search needs) returns returns-2)

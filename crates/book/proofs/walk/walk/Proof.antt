@@ -33,44 +33,98 @@ bytes c = λ i. c .shared-slice-known .given i .fits
 -- what the judged link means for the walk
 told : (c : tie.After-labels2 Inv-loop μ-loop) {j : Judged} →
     c .before .before .judge .result ≡ j →
-    Leads (bytes (c .before .before .before .before .before .before .before .before)) (few-records (c .before .before .before .before .before .before .before .before .before .args .version)) (c .before .before .before .before .before .before .loop .inv .walked) (c .before .before .before .before .before .before .loop .inv .visited)
-    (c .before .before .before .before .before .before .loop .inv .met) (c .before .before .before .before .before .before .loop .inv .held) (c .before .before .before .before .before .loop-test .taken) j
+    Leads (bytes (c .before .before .before .before .before .before .before .before))
+    (few-records (c .before .before .before .before .before .before .before .before .before .args .version))
+    (c .before .before .before .before .before .before .loop .inv .walked)
+    (c .before .before .before .before .before .before .loop .inv .visited)
+    (c .before .before .before .before .before .before .loop .inv .met)
+    (c .before .before .before .before .before .before .loop .inv .held) (c .before .before .before .before .before .loop-test .taken) j
 told c e =
     let l = c .before .before .before .before .before .before .loop in
     let a = c .before .before .before .before .before .before .before .before .before .args in
     let n = ap (λ (h : Heading). h .count) (c .before .before .before .before .before .before .before .before .before .pre .heading) in
-    leads-to (bytes (c .before .before .before .before .before .before .before .before)) (few-records (a .version)) (l .inv .walked) (l .inv .visited) (l .inv .met) (l .inv .held) (c .before .before .before .before .before .loop-test .taken)
+    leads-to (bytes (c .before .before .before .before .before .before .before .before)) (few-records (a .version)) (l .inv .walked)
+    (l .inv .visited) (l .inv .met) (l .inv .held) (c .before .before .before .before .before .loop-test .taken)
     (c .before .before .judge .ensures .answer
     ∙ ap (λ k. judged (layoutOf (a .version)) (a .book .now) (l .marks) (l .labels) k (l .at) (l .link)) n)
     e
 
 returns : tie.Need-returns Inv-loop μ-loop
-returns c = finished (c .before .before .before .before .before .before .before .before .before .before .loop .inv) (told (c .before .before .before .before) (c .before .before .number .given .1)) (c .refused .ensures)
+returns c =
+    finished (c .before .before .before .before .before .before .before .before .before .before .loop .inv)
+    (told (c .before .before .before .before) (c .before .before .number .given .1)) (c .refused .ensures)
 
 -- a sound record that was not visited
 reached : (c : tie.After-known-told2 Inv-loop μ-loop) →
-    NewRule (layoutOf (c .before .before .before .before .before .before .before .before .before .before .before .before .args .version)) (c .before .before .before .before .before .before .before .before .before .before .before .before .args .book .now) (c .before .before .before .before .before .before .before .before .before .loop .inv .done) (c .before .before .before .before .before .before .before .before .before .loop .link)
+    NewRule (layoutOf (c .before .before .before .before .before .before .before .before .before .before .before .before .args .version))
+    (c .before .before .before .before .before .before .before .before .before .before .before .before .args .book .now)
+    (c .before .before .before .before .before .before .before .before .before .loop .inv .done)
+    (c .before .before .before .before .before .before .before .before .before .loop .link)
     (c .before .rule .given .0 .0) (c .before .rule .given .0 .1 .0)
 reached c = told (c .before .before .before) (c .before .rule .given .1)
 
-room : (c : tie.After-known-told2 Inv-loop μ-loop) → c .before .before .before .before .before .before .before .before .before .loop .n < countOf (layoutOf (c .before .before .before .before .before .before .before .before .before .before .before .before .args .version)) (c .before .before .before .before .before .before .before .before .before .before .before .before .args .book .now)
-room c = more-room (c .before .before .before .before .before .before .before .before .before .loop .inv) (bytes (c .before .before .before .before .before .before .before .before .before .before .before)) (few-records (c .before .before .before .before .before .before .before .before .before .before .before .before .args .version)) (c .before .before .before .before .before .before .before .before .loop-test .taken) (reached c)
+room : (c : tie.After-known-told2 Inv-loop μ-loop) →
+    c .before .before .before .before .before .before .before .before .before .loop .n < countOf
+    (layoutOf (c .before .before .before .before .before .before .before .before .before .before .before .before .args .version))
+    (c .before .before .before .before .before .before .before .before .before .before .before .before .args .book .now)
+room c =
+    more-room (c .before .before .before .before .before .before .before .before .before .loop .inv)
+    (bytes (c .before .before .before .before .before .before .before .before .before .before .before))
+    (few-records (c .before .before .before .before .before .before .before .before .before .before .before .before .args .version))
+    (c .before .before .before .before .before .before .before .before .loop-test .taken) (reached c)
 
 put-entry-requires : tie.Need-put-entry-requires Inv-loop μ-loop
-put-entry-requires c κs = omega (arith, room (c .before .before .before .before .before .before), count-few (c .before .before .before .before .before .before .before .before .before .before .before .before .before .before .before .loop .inv), few-records (c .before .before .before .before .before .before .before .before .before .before .before .before .before .before .before .before .before .before .args .version))
+put-entry-requires c κs =
+    omega (
+      arith,
+      room (c .before .before .before .before .before .before),
+      count-few
+          (c .before .before .before .before .before .before .before .before .before .before .before .before .before .before
+          .before .loop .inv),
+      few-records
+          (c .before .before .before .before .before .before .before .before .before .before .before .before .before .before .before .before
+          .before .before .args .version),
+    )
 
 add-n : tie.Need-add-n Inv-loop μ-loop
-add-n c = omega (arith, room (c .before .before .before .before .before .before .before .before), count-few (c .before .before .before .before .before .before .before .before .before .before .before .before .before .before .before .before .before .loop .inv), few-records (c .before .before .before .before .before .before .before .before .before .before .before .before .before .before .before .before .before .before .before .before .args .version))
+add-n c =
+    omega (
+      arith,
+      room (c .before .before .before .before .before .before .before .before),
+      count-few
+          (c .before .before .before .before .before .before .before .before .before .before .before .before .before .before .before .before
+          .before .loop .inv),
+      few-records
+          (c .before .before .before .before .before .before .before .before .before .before .before .before .before .before .before .before
+          .before .before .before .before .args .version),
+    )
 
 loop-less : tie.Need-loop-less Inv-loop μ-loop
-loop-less c = omega (arith, room (c .before .before .before .before .before .before .before .before), count-few (c .before .before .before .before .before .before .before .before .before .before .before .before .before .before .before .before .before .loop .inv))
+loop-less c =
+    omega (
+      arith,
+      room (c .before .before .before .before .before .before .before .before),
+      count-few
+          (c .before .before .before .before .before .before .before .before .before .before .before .before .before .before .before .before
+          .before .loop .inv),
+    )
 
 loop-again : tie.Need-loop-again Inv-loop μ-loop
 loop-again c =
-    let l = c .before .before .before .before .before .before .before .before .before .before .before .before .before .before .before .before .before .loop in
+    let l =
+    c .before .before .before .before .before .before .before .before .before .before .before .before .before .before .before .before
+    .before .loop in
     let e = c .before .before .before .before .before .before .before .before .before .rule .given .1 in
     let judge = c .before .before .before .before .before .before .before .before .before .before .before .before .before .judge in
-    steps (l .inv) (bytes (c .before .before .before .before .before .before .before .before .before .before .before .before .before .before .before .before .before .before .before)) (few-records (c .before .before .before .before .before .before .before .before .before .before .before .before .before .before .before .before .before .before .before .before .args .version)) (c .before .before .before .before .before .before .before .before .before .before .before .before .before .before .before .before .loop-test .taken) (reached (c .before .before .before .before .before .before .before .before))
+    steps (l .inv)
+    (bytes
+    (c .before .before .before .before .before .before .before .before .before .before .before .before .before .before .before .before
+    .before .before .before))
+    (few-records
+    (c .before .before .before .before .before .before .before .before .before .before .before .before .before .before .before .before
+    .before .before .before .before .args .version))
+    (c .before .before .before .before .before .before .before .before .before .before .before .before .before .before .before
+    .before .loop-test .taken) (reached (c .before .before .before .before .before .before .before .before))
     (judge .ensures .visited ∙ ap (λ (r : Judged). marksAfter r (l .marks) (l .link)) e)
     (judge .ensures .met ∙ ap (λ (r : Judged). labelsAfter r (l .labels)) e)
     (c .before .before .before .before .before .before .put-record .ensures)

@@ -6,7 +6,10 @@ use Rattle.records.proofs.bytes.number4.Statement.{statement}
 use Rattle.records.proofs.bytes.number4.Tie as tie
 
 returns : tie.Need-returns
-returns c = c .quad .ensures ∙ four-bytes (c .before .before .before .before .before .before .args .s .now) (c .before .before .before .before .before .before .args .at)
+returns c =
+    c .quad .ensures
+    ∙ four-bytes (c .before .before .before .before .before .before .args .s .now)
+    (c .before .before .before .before .before .before .args .at)
 
 pub number4-spec : {M : Type 1} → statement M
 number4-spec =

@@ -27,7 +27,8 @@ loop-again c =
       omega arith,
       l .inv .1,
       length-set (l .bytes) (l .i) (c .byte-at .result) ∙ l .inv .2,
-      copied-more (c .before .before .before .before .args .s .now) (l .bytes) (c .before .before .before .before .args .at) (l .i) (c .byte-at .result)
+      copied-more (c .before .before .before .before .args .s .now) (l .bytes) (c .before .before .before .before .args .at) (l .i)
+          (c .byte-at .result)
           (l .inv .3) (omega (arith, l .inv .2)) (c .byte-at .ensures),
     )
 

@@ -9,11 +9,19 @@ returns c = rw (eq-eqb (c .before .args .rule .kind) 1 (c .if1 .taken))
 
 returns-2 : tie.Need-returns-2
 returns-2 c =
-    rw (ne-eqb (c .before .before .args .rule .kind) 1 (c .before .if1 .left), eq-eqb (c .before .before .args .rule .kind) 2 (c .if2 .taken))
+    rw (
+      ne-eqb (c .before .before .args .rule .kind) 1 (c .before .if1 .left),
+      eq-eqb (c .before .before .args .rule .kind) 2
+          (c .if2 .taken),
+    )
 
 returns-3 : tie.Need-returns-3
 returns-3 c =
-    rw (ne-eqb (c .before .before .args .rule .kind) 1 (c .before .if1 .left), ne-eqb (c .before .before .args .rule .kind) 2 (c .if2 .left))
+    rw (
+      ne-eqb (c .before .before .args .rule .kind) 1 (c .before .if1 .left),
+      ne-eqb (c .before .before .args .rule .kind) 2
+          (c .if2 .left),
+    )
 
 pub bad-kind-spec : {M : Type 1} → statement M
 bad-kind-spec =

@@ -16,9 +16,14 @@ returns c =
 
 returns-2 : tie.Need-returns-2
 returns-2 c =
-    let d : toZ w16 (ofZ w16 (c .before .before .before .before .before .args .rule .a)) ≡ c .before .before .before .before .before .args .rule .a = search needs in
-    let e : toZ w16 (ofZ w16 (c .before .before .before .before .before .args .rule .b)) ≡ c .before .before .before .before .before .args .rule .b = search needs in
-    let h : isLeast (c .before .before .before .before .before .args .rule .a) ≡ false = sym (c .before .before .before .least .ensures ∙ ap isLeast d) ∙ c .before .before .if1 .left in
+    let d : toZ w16
+    (ofZ w16 (c .before .before .before .before .before .args .rule .a)) ≡ c .before .before .before .before .before .args .rule .a =
+    search needs in
+    let e : toZ w16
+    (ofZ w16 (c .before .before .before .before .before .args .rule .b)) ≡ c .before .before .before .before .before .args .rule .b =
+    search needs in
+    let h : isLeast (c .before .before .before .before .before .args .rule .a) ≡ false =
+    sym (c .before .before .before .least .ensures ∙ ap isLeast d) ∙ c .before .before .if1 .left in
     rw h (c .least2 .ensures ∙ ap isLeast e)
 
 pub bad-slope-spec : {M : Type 1} → statement M

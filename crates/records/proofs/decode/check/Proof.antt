@@ -7,25 +7,29 @@ use Rattle.records.proofs.decode.check.Tie as tie
 
 returns : tie.Need-returns
 returns c =
-    kind-first (c .before .before .before .before .args .clear) (c .before .before .before .before .args .rule) (c .before .before .before .before .args .next)
+    kind-first (c .before .before .before .before .args .clear) (c .before .before .before .before .args .rule)
+    (c .before .before .before .before .args .next)
     (sym (c .before .before .before .bad-kind .ensures) ∙ c .if1 .taken)
 
 returns-2 : tie.Need-returns-2
 returns-2 c =
-    slope-next (c .before .before .before .before .before .args .clear) (c .before .before .before .before .before .args .rule) (c .before .before .before .before .before .args .next)
+    slope-next (c .before .before .before .before .before .args .clear) (c .before .before .before .before .before .args .rule)
+    (c .before .before .before .before .before .args .next)
     (sym (c .before .before .before .before .bad-kind .ensures) ∙ c .before .if1 .left)
     (sym (c .before .before .before .bad-slope .ensures) ∙ c .if2 .taken)
 
 returns-3 : tie.Need-returns-3
 returns-3 c =
-    bound-last (c .before .before .before .before .before .before .args .clear) (c .before .before .before .before .before .before .args .rule) (c .before .before .before .before .before .before .args .next)
+    bound-last (c .before .before .before .before .before .before .args .clear)
+    (c .before .before .before .before .before .before .args .rule) (c .before .before .before .before .before .before .args .next)
     (sym (c .before .before .before .before .before .bad-kind .ensures) ∙ c .before .before .if1 .left)
     (sym (c .before .before .before .before .bad-slope .ensures) ∙ c .before .if2 .left)
     (sym (c .before .before .before .bad-bound .ensures) ∙ c .if3 .taken)
 
 returns-4 : tie.Need-returns-4
 returns-4 c =
-    sound (c .before .before .before .before .before .before .args .clear) (c .before .before .before .before .before .before .args .rule) (c .before .before .before .before .before .before .args .next)
+    sound (c .before .before .before .before .before .before .args .clear) (c .before .before .before .before .before .before .args .rule)
+    (c .before .before .before .before .before .before .args .next)
     (sym (c .before .before .before .before .before .bad-kind .ensures) ∙ c .before .before .if1 .left)
     (sym (c .before .before .before .before .bad-slope .ensures) ∙ c .before .if2 .left)
     (sym (c .before .before .before .bad-bound .ensures) ∙ c .if3 .left)

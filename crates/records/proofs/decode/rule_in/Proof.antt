@@ -14,7 +14,13 @@ returns c =
     let pa = va ∙ c .before .before .signed16 .ensures in
     let pb = vb ∙ c .before .signed162 .ensures in
     let pc = vc ∙ c .signed32 .ensures in
-    λ j. record { kind = c .before .before .before .args .f .kind; a = pa j; b = pb j; c = pc j; label = c .before .before .before .args .f .label }
+    λ j. record {
+      kind = c .before .before .before .args .f .kind;
+      a = pa j;
+      b = pb j;
+      c = pc j;
+      label = c .before .before .before .args .f .label;
+    }
 
 pub rule-in-spec : {M : Type 1} → statement M
 rule-in-spec =

@@ -1,4 +1,5 @@
--- `records::fields::fields_at` meets its contract: each version has its own offsets; a record that is not there in full is read from a copy.
+-- `records::fields::fields_at` meets its contract: each version has its own offsets; a record that is not there in full is read from a
+-- copy.
 use mathlib.Core.Path.{_∙_}
 use lib.Dec.{lit≤}
 use Rattle.records.specs.Layout.{v1, v2}
@@ -14,7 +15,9 @@ returns c = rw (c .before .before .enum-told .given .1) (c .fields-one .ensures)
 
 returns-2 : tie.Need-returns-2
 unfolding recordAt
-returns-2 c = rw (c .before .before .before .before .enum-told .given .1) (c .fields-one2 .ensures ∙ fields-copied v1 (c .before .before .window .ensures) (lit≤ tt))
+returns-2 c =
+    rw (c .before .before .before .before .enum-told .given .1)
+    (c .fields-one2 .ensures ∙ fields-copied v1 (c .before .before .window .ensures) (lit≤ tt))
 
 returns-3 : tie.Need-returns-3
 unfolding recordAt
@@ -22,7 +25,9 @@ returns-3 c = rw (c .before .before .enum-told2 .given .1) (c .fields-two .ensur
 
 returns-4 : tie.Need-returns-4
 unfolding recordAt
-returns-4 c = rw (c .before .before .before .before .enum-told2 .given .1) (c .fields-two2 .ensures ∙ fields-copied v2 (c .before .before .window2 .ensures) (lit≤ tt))
+returns-4 c =
+    rw (c .before .before .before .before .enum-told2 .given .1)
+    (c .fields-two2 .ensures ∙ fields-copied v2 (c .before .before .window2 .ensures) (lit≤ tt))
 
 pub fields-at-spec : {M : Type 1} → statement M
 fields-at-spec =

@@ -16,7 +16,8 @@ returns c =
     let s = c .before .before .before .before .before .before .before .args .s .now in
     let at = c .before .before .before .before .before .before .before .args .at in
     fields-read v1 s at (one-byte s at) (one-byte s _) (sym (number-none _))
-    (c .before .before .before .number2 .ensures) (c .before .before .number22 .ensures) (c .before .number23 .ensures) (c .number4 .ensures)
+    (c .before .before .before .number2 .ensures) (c .before .before .number22 .ensures) (c .before .number23 .ensures)
+    (c .number4 .ensures)
 
 pub fields-one-spec : {M : Type 1} → statement M
 fields-one-spec =

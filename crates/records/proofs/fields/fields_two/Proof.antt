@@ -11,7 +11,8 @@ returns c =
     let s = c .before .before .before .before .before .before .before .before .args .s .now in
     let at = c .before .before .before .before .before .before .before .before .args .at in
     fields-read v2 s at (c .before .before .before .before .before .before .number2 .ensures) (one-byte s _) (one-byte s _)
-    (c .before .before .before .number22 .ensures) (c .before .before .number23 .ensures) (c .before .number24 .ensures) (c .number4 .ensures)
+    (c .before .before .before .number22 .ensures) (c .before .before .number23 .ensures) (c .before .number24 .ensures)
+    (c .number4 .ensures)
 
 pub fields-two-spec : {M : Type 1} → statement M
 fields-two-spec =

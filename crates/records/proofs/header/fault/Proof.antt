@@ -14,21 +14,33 @@ use Rattle.records.proofs.header.fault.Statement.{statement}
 use Rattle.records.proofs.header.fault.Tie as tie
 
 -- what each call found, in the definitions' words
-length-good : (c : tie.Else1) → badLength (layoutOf (c .before .before .before .args .version)) (c .before .before .before .args .book .now) ≡ false
+length-good : (c : tie.Else1) →
+    badLength (layoutOf (c .before .before .before .args .version)) (c .before .before .before .args .book .now) ≡ false
 length-good c = sym (c .before .bad-length .ensures) ∙ c .if1 .left
 
-kind : (c : tie.Else2) → c .before .before .before .before .before .before .args .f .kind ≡ layoutOf (c .before .before .before .before .before .before .args .version) .version
+kind : (c : tie.Else2) →
+    c .before .before .before .before .before .before .args .f .kind ≡ layoutOf
+    (c .before .before .before .before .before .before .args .version) .version
 kind c = c .if2 .left ∙ c .before .before .version-number .ensures
 
-count : (c : tie.Else4) → c .before .before .before .before .before .before .before .before .before .before .before .args .f .label ≡ length (c .before .before .before .before .before .before .before .before .before .before .before .args .book .now) / width (layoutOf (c .before .before .before .before .before .before .before .before .before .before .before .args .version)) - 1
+count : (c : tie.Else4) →
+    c .before .before .before .before .before .before .before .before .before .before .before .args .f .label ≡ length
+    (c .before .before .before .before .before .before .before .before .before .before .before .args .book .now) / width
+    (layoutOf (c .before .before .before .before .before .before .before .before .before .before .before .args .version)) - 1
 count c = c .if4 .left ∙ c .before .after-header .ensures
 
-goal-p : (c : tie.After-least) → c .least .result ≡ isLeast (toZ w16 (c .before .before .before .before .before .before .before .before .before .before .before .before .before .args .f .a))
+goal-p : (c : tie.After-least) →
+    c .least .result ≡ isLeast
+    (toZ w16 (c .before .before .before .before .before .before .before .before .before .before .before .before .before .args .f .a))
 goal-p c =
     let e : toZ w16 (ofZ w16 (c .before .signed16 .result)) ≡ c .before .signed16 .result = search needs in
     c .least .ensures ∙ ap isLeast (e ∙ c .before .signed16 .ensures)
 
-goal-q : (c : tie.After-least2) → c .least2 .result ≡ isLeast (toZ w16 (c .before .before .before .before .before .before .before .before .before .before .before .before .before .before .before .before .args .f .b))
+goal-q : (c : tie.After-least2) →
+    c .least2 .result ≡ isLeast
+    (toZ w16
+    (c .before .before .before .before .before .before .before .before .before .before .before .before .before .before .before
+    .before .args .f .b))
 goal-q c =
     let e : toZ w16 (ofZ w16 (c .before .signed162 .result)) ≡ c .before .signed162 .result = search needs in
     c .least2 .ensures ∙ ap isLeast (e ∙ c .before .signed162 .ensures)
@@ -75,7 +87,9 @@ returns-5 c =
 
 returns-6 : tie.Need-returns-6
 returns-6 c =
-    let start = c .before .before .before .before .before .before .before .before .before .before .before .before .before .before .before .before .before in
+    let start =
+    c .before .before .before .before .before .before .before .before .before .before .before .before .before .before .before .before
+    .before in
     least-q (start .args .version) (start .args .book .now) (start .args .f) (start .pre)
     (length-good (c .before .before .before .before .before .before .before .before .before .before .before .before .before .before))
     (kind (c .before .before .before .before .before .before .before .before .before .before .before))
@@ -86,9 +100,12 @@ returns-6 c =
 
 returns-7 : tie.Need-returns-7
 returns-7 c =
-    let start = c .before .before .before .before .before .before .before .before .before .before .before .before .before .before .before .before .before .before .before in
+    let start =
+    c .before .before .before .before .before .before .before .before .before .before .before .before .before .before .before .before
+    .before .before .before in
     set-tail (start .args .version) (start .args .book .now) (start .args .f) (start .pre)
-    (length-good (c .before .before .before .before .before .before .before .before .before .before .before .before .before .before .before .before))
+    (length-good
+    (c .before .before .before .before .before .before .before .before .before .before .before .before .before .before .before .before))
     (kind (c .before .before .before .before .before .before .before .before .before .before .before .before .before))
     (c .before .before .before .before .before .before .before .before .before .before .before .if3 .left)
     (count (c .before .before .before .before .before .before .before .before))
@@ -98,9 +115,12 @@ returns-7 c =
 
 returns-8 : tie.Need-returns-8
 returns-8 c =
-    let start = c .before .before .before .before .before .before .before .before .before .before .before .before .before .before .before .before .before .before .before in
+    let start =
+    c .before .before .before .before .before .before .before .before .before .before .before .before .before .before .before .before
+    .before .before .before in
     no-fault (start .args .version) (start .args .book .now) (start .args .f) (start .pre)
-    (length-good (c .before .before .before .before .before .before .before .before .before .before .before .before .before .before .before .before))
+    (length-good
+    (c .before .before .before .before .before .before .before .before .before .before .before .before .before .before .before .before))
     (kind (c .before .before .before .before .before .before .before .before .before .before .before .before .before))
     (c .before .before .before .before .before .before .before .before .before .before .before .if3 .left)
     (count (c .before .before .before .before .before .before .before .before))

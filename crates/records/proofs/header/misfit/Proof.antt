@@ -9,11 +9,19 @@ returns c = rw (lt-ltb (c .before .args .length) (c .before .args .shortest) (c 
 
 returns-2 : tie.Need-returns-2
 returns-2 c =
-    rw (le-ltb (c .before .before .args .length) (c .before .before .args .shortest) (c .before .if1 .left), lt-ltb (c .before .before .args .longest) (c .before .before .args .length) (c .if2 .taken))
+    rw (
+      le-ltb (c .before .before .args .length) (c .before .before .args .shortest) (c .before .if1 .left),
+      lt-ltb
+          (c .before .before .args .longest) (c .before .before .args .length) (c .if2 .taken),
+    )
 
 returns-3 : tie.Need-returns-3
 returns-3 c =
-    rw (le-ltb (c .before .before .args .length) (c .before .before .args .shortest) (c .before .if1 .left), le-ltb (c .before .before .args .longest) (c .before .before .args .length) (c .if2 .left))
+    rw (
+      le-ltb (c .before .before .args .length) (c .before .before .args .shortest) (c .before .if1 .left),
+      le-ltb
+          (c .before .before .args .longest) (c .before .before .args .length) (c .if2 .left),
+    )
 
 pub misfit-spec : {M : Type 1} → statement M
 misfit-spec =
