@@ -20,7 +20,7 @@ use Rattle.forms.specs.declared.Pair.the-variants.{Forms, First}
 use Rattle.forms.specs.declared.Written.{Written}
 use Rattle.forms.specs.declared.Typed.{Typed}
 use Rattle.forms.specs.declared.Typed.the-variants.{Rule}
-use Rattle.forms.specs.Value.{inside, bounded, limit, form, limited, numeral, negForm, mulForms, constant, combine, written, final, conclude, refusal}
+use Rattle.forms.specs.Value.{inside, bounded, limit, form, limited, numeral, negForm, mulForms, constant, combine, written, final, conclude, noRule}
 use Rattle.forms.specs.Small.{SmallForm, SmallForms, Small, pairOf, SmallIn, Paired, Valued}
 
 -- ---- numbers
@@ -168,7 +168,7 @@ combine-pair op (Linear f) (Linear g) = refl
 combine-pair op (Linear f) (Beyond n) = refl
 combine-pair op (Beyond n) w = refl
 
-conclude-pair : (k : ℕ) (v w : Value) → conclude k v w ≡ joined (λ f g. final (written k f g)) (λ n. refusal n) (pairOf v w)
+conclude-pair : (k : ℕ) (v w : Value) → conclude k v w ≡ joined (λ f g. final (written k f g)) (λ n. noRule n) (pairOf v w)
 unfolding conclude
 conclude-pair k (Linear f) (Linear g) = refl
 conclude-pair k (Linear f) (Beyond n) = refl
@@ -186,9 +186,9 @@ module _ {v w : Value} {p : Pair} (x : Paired v w p) where
 
   pub concluded : (k : ℕ) {q : Pair} {r : Typed} →
       p ≡ q →
-      r ≡ joined (λ f g. final (written k f g)) (λ n. refusal n) q →
+      r ≡ joined (λ f g. final (written k f g)) (λ n. noRule n) q →
       r ≡ conclude k v w
-  concluded k e h = h ∙ sym (conclude-pair k v w ∙ ap (joined (λ f g. final (written k f g)) (λ n. refusal n)) (sym (x .same) ∙ e))
+  concluded k e h = h ∙ sym (conclude-pair k v w ∙ ap (joined (λ f g. final (written k f g)) (λ n. noRule n)) (sym (x .same) ∙ e))
 
 pub refused : {n : ℕ} → Valued (Beyond n) (Beyond n)
 refused = record { same = refl; small = tt }
@@ -214,8 +214,8 @@ module _ {w w′ : Written} {t : Bool} (p : w ≡ w′) (e : t ≡ bounded 32767
   pub final-yes : t ≡ true → Rule w ≡ final w′
   unfolding final
   final-yes q =
-      subst (λ (x : Written). Rule w ≡ final x) p (sym (ap (λ (u : Bool). cond u (Rule w) (refusal 15)) (sym e ∙ q)))
+      subst (λ (x : Written). Rule w ≡ final x) p (sym (ap (λ (u : Bool). cond u (Rule w) (noRule 15)) (sym e ∙ q)))
 
-  pub final-no : t ≡ false → refusal 15 ≡ final w′
+  pub final-no : t ≡ false → noRule 15 ≡ final w′
   unfolding final
-  final-no q = subst (λ (x : Written). refusal 15 ≡ final x) p (sym (ap (λ (u : Bool). cond u (Rule w) (refusal 15)) (sym e ∙ q)))
+  final-no q = subst (λ (x : Written). noRule 15 ≡ final x) p (sym (ap (λ (u : Bool). cond u (Rule w) (noRule 15)) (sym e ∙ q)))

@@ -5,6 +5,7 @@ use mathlib.Core.Bool.{Bool, _&&_, cond}
 use Prim.Native.Nat.{ℕ}
 use lib.Dec.{leb}
 use lib.IntN.{ℤ, pos, natAbs, _+ℤ_, _-ℤ_, _*ℤ_}
+use Rattle.answers.specs.Refusal.{refusal}
 use Rattle.forms.specs.declared.Form.{Form}
 use Rattle.forms.specs.declared.Value.{Value}
 use Rattle.forms.specs.declared.Value.the-variants.{Linear, Beyond}
@@ -84,9 +85,9 @@ held v = after limited v
 
 -- ---- rules
 
--- a refusal names no record
-abbrev pub refusal : ℕ → Typed
-refusal n = Refused (record { number = n; at = 0 })
+-- no rule, for the cause of that number; it names no record
+abbrev pub noRule : ℕ → Typed
+noRule n = Refused (refusal n 0)
 
 -- a and b are the left coefficients less the right, c the right constant less the left
 abbrev pub written : ℕ → Form → Form → Written
@@ -94,11 +95,11 @@ written k f g = record { kind = k; a = f .a -ℤ g .a; b = f .b -ℤ g .b; c = g
 
 -- a and b at most 32,767 and c at most 1,000,000,000 either way, else 15
 unfoldable pub final : Written → Typed
-final w = cond (bounded 32767 limit (form (w .a) (w .b) (w .c))) (Rule w) (refusal 15)
+final w = cond (bounded 32767 limit (form (w .a) (w .b) (w .c))) (Rule w) (noRule 15)
 
 abbrev pub then : (Form → Typed) → Value → Typed
 then op (Linear f) = op f
-then op (Beyond n) = refusal n
+then op (Beyond n) = noRule n
 
 unfoldable pub conclude : ℕ → Value → Value → Typed
 conclude k l r = then (λ f. then (λ g. final (written k f g)) r) l

@@ -151,7 +151,8 @@ first-run {A} {c = c} o (suc (suc k)) d s a r e l h =
       enough = omega (arith, e, l);
     }
 
-next-run : {A B : Type 0} {c : Chain A B} {byte : ℕ} {join : B → ℕ → A → B} {op : Value → Value → Value} (j : Joins c byte join op) (k d : ℕ) (s : List ℕ) (b : B) (i : ℕ) (a : A) (q r : List ℕ) →
+next-run : {A B : Type 0} {c : Chain A B} {byte : ℕ} {join : B → ℕ → A → B} {op : Value → Value → Value} →
+    (j : Joins c byte join op) (k d : ℕ) (s : List ℕ) (b : B) (i : ℕ) (a : A) (q r : List ℕ) →
     ReadUpTo c k d s b (pad i (byte ∷ q)) →
     Takes c d q a r →
     length r ≤ length q →

@@ -10,7 +10,7 @@ use lib.Dec.{leb}
 use lib.ListN.{length}
 use borrow.Author.Tests.{leb-true, leb-false, le-leb}
 use Rattle.language.specs.Grammar.{Rule, spell, LawfulRule}
-use Rattle.forms.specs.Value.{refusal}
+use Rattle.forms.specs.Value.{noRule}
 use Rattle.language.specs.Value.{valueRule}
 use Rattle.language.specs.Parser.{Parsed, fail, got, parse, judged, answer}
 use Rattle.language.proofs.Sound.{SoundRule, parse-sound}
@@ -20,7 +20,7 @@ use Rattle.language.proofs.Complete.{parse-complete}
 pub answered : (r : Rule) → LawfulRule r → answer (spell r) ≡ valueRule r
 unfolding answer
 answered r l =
-    ap (λ (t : Bool). cond t (judged (parse (spell r))) (refusal 13)) (le-leb (length (spell r)) 120 (l .short))
+    ap (λ (t : Bool). cond t (judged (parse (spell r))) (noRule 13)) (le-leb (length (spell r)) 120 (l .short))
     ∙ ap judged (parse-complete r (l .left) (l .right))
 
 -- a text of the language: the tree that spells it, and the answer
@@ -33,7 +33,7 @@ pub record Reads (s : List ℕ) : Type 0 where
 -- a text that no lawful tree spells
 pub record Refuses (s : List ℕ) : Type 0 where
   pub nothing : (r : Rule) → LawfulRule r → s ≡ spell r → ⊥
-  pub answer : answer s ≡ refusal 13
+  pub answer : answer s ≡ noRule 13
 
 too-long : (s : List ℕ) → leb (length s) 120 ≡ false → (r : Rule) → LawfulRule r → s ≡ spell r → ⊥
 too-long s e r l p = absurd (omega (arith, leb-false (length s) 120 e, ap length p, l .short))

@@ -14,12 +14,13 @@ use Rattle.forms.specs.declared.Value.{Value}
 use Rattle.forms.specs.declared.Value.the-variants.{Linear, Beyond}
 use Rattle.forms.specs.declared.Written.{Written}
 use Rattle.answers.specs.declared.Refusal.{Refusal}
+use Rattle.answers.specs.Refusal.{refusal}
 use Rattle.forms.specs.declared.Typed.{Typed}
 use Rattle.forms.specs.declared.Typed.the-variants.{Rule, Refused}
 use Rattle.language.specs.Grammar as G
 use Rattle.language.specs.Grammar.{number, rate-x, rate-y, minus, group, factor, times, term, plus, less, at-most, at-least}
 use Rattle.text.specs.Number.{valueFrom}
-use Rattle.forms.specs.Value.{inside, limit, form, limited, numeral, constant, multiplied, mulForms, addForms, subForms, negated, sum, difference, product, combine, refusal, written, final, conclude}
+use Rattle.forms.specs.Value.{inside, limit, form, limited, numeral, constant, multiplied, mulForms, addForms, subForms, negated, sum, difference, product, combine, noRule, written, final, conclude}
 use Rattle.language.specs.Value.{valueFactor, valueTerm, valueSide, kindOf, valueRule}
 use Rattle.language.specs.Parser.{answer}
 use Rattle.language.proofs.Language.{answered, Reads, Refuses, language}
@@ -127,7 +128,7 @@ final-sound w k = go (inside 32767 (w .a)) refl (inside 32767 (w .b)) refl (insi
         inside 32767 (w .b) ≡ t →
         (u : Bool) →
         inside limit (w .c) ≡ u →
-        Sound (cond (s && (t && u)) (Rule w) (refusal 15))
+        Sound (cond (s && (t && u)) (Rule w) (noRule 15))
     go true e true f true g =
         record {
           kind = k;
@@ -158,14 +159,14 @@ value-sound r =
     conclude-sound (kindOf (r .relation)) (kind-of (r .relation)) (valueSide (r .left)) (valueSide (r .right)) (side-plain (r .left))
     (side-plain (r .right))
 
-thirteen : (t : Typed) → Sound t → t ≡ refusal 13 → ⊥
+thirteen : (t : Typed) → Sound t → t ≡ noRule 13 → ⊥
 thirteen (Rule w) h e = let z : _≡_ {A = ℕ} 0 1 = cc in omega arith
 thirteen (Refused r) (inl h, k) e =
-    let same : r ≡ record { number = 13; at = 0 } = cc in
+    let same : r ≡ refusal 13 0 = cc in
     let z : r .number ≡ 13 = ap (λ (s : Refusal). s .number) same in
     omega arith
 thirteen (Refused r) (inr h, k) e =
-    let same : r ≡ record { number = 13; at = 0 } = cc in
+    let same : r ≡ refusal 13 0 = cc in
     let z : r .number ≡ 13 = ap (λ (s : Refusal). s .number) same in
     omega arith
 
@@ -184,9 +185,9 @@ read-exactly s = ((λ h. tree h (language s)), (λ t. spelt-sound s (t .0) (t .1
     tree h (inr n) = absurd (thirteen (answer s) h (n .answer))
 
 -- 13 exactly if no lawful tree spells the text
-pub refused-13-exactly : (s : List ℕ) → (answer s ≡ refusal 13) ↔ ((r : G.Rule) → G.LawfulRule r → s ≡ G.spell r → ⊥)
+pub refused-13-exactly : (s : List ℕ) → (answer s ≡ noRule 13) ↔ ((r : G.Rule) → G.LawfulRule r → s ≡ G.spell r → ⊥)
 refused-13-exactly s = ((λ e r l p. thirteen (answer s) (spelt-sound s r l p) e), (λ none. refused none (language s)))
   where
-    refused : ((r : G.Rule) → G.LawfulRule r → s ≡ G.spell r → ⊥) → Reads s ⊎ Refuses s → answer s ≡ refusal 13
+    refused : ((r : G.Rule) → G.LawfulRule r → s ≡ G.spell r → ⊥) → Reads s ⊎ Refuses s → answer s ≡ noRule 13
     refused none (inl r) = absurd (none (r .tree) (r .lawful) (r .text))
     refused none (inr n) = n .answer

@@ -7,7 +7,7 @@ use lib.Dec.{leb, eqb}
 use lib.ListN.{length}
 use Rattle.forms.specs.declared.Typed.{Typed}
 use Rattle.language.specs.Grammar.{Factor, Term, Side, Relation, Rule, number, rate-x, rate-y, minus, group, factor, times, term, plus, less, at-most, at-least}
-use Rattle.forms.specs.Value.{refusal}
+use Rattle.forms.specs.Value.{noRule}
 use Rattle.language.specs.Value.{valueRule}
 
 -- what was read, with the text after it
@@ -126,9 +126,9 @@ unfoldable pub parse : List ℕ → Parsed Rule
 parse s = bind (sideOf s) (λ a r. relationOf a r)
 
 abbrev pub judged : Parsed Rule → Typed
-judged fail = refusal 13
+judged fail = noRule 13
 judged (got r s) = valueRule r
 
 -- what a text reads as: 13 if it is too long or spells no rule, else the value of its rule
 unfoldable pub answer : List ℕ → Typed
-answer s = cond (leb (length s) 120) (judged (parse s)) (refusal 13)
+answer s = cond (leb (length s) 120) (judged (parse s)) (noRule 13)

@@ -8,6 +8,7 @@ use Rattle.lp.specs.declared.Outcome.{Outcome}
 use Rattle.lp.specs.declared.Outcome.the-variants.{Infeasible, Unbounded, Optimal}
 use Rattle.lp.specs.declared.Certificate.{Certificate}
 use Rattle.lp.specs.Program.{point, ray}
+use Rattle.answers.specs.Refusal.{refusal}
 use Rattle.answers.specs.declared.Answer.{Answer}
 use Rattle.answers.specs.declared.Answer.the-variants.{Refused, Planned}
 use Rattle.report.specs.declared.panel.Row.{Row}
@@ -45,9 +46,6 @@ abbrev none : ℕ → ℕ → ℕ → Certificate → Answer
 none place moves opened witness =
     Planned (record { outcome = Infeasible; moves = moves; opened = opened; place = place; witness = witness })
 
-abbrev refusal : ℕ → ℕ → Answer
-refusal number at = Refused (record { number = number; at = at })
-
 abbrev pub examples : List Example
 examples =
     row (planned (Optimal (point (pos 2) (pos 3) (pos 1))) 1 1) "best 2 3 1 1 1\n"
@@ -57,9 +55,9 @@ examples =
     ∷ row (none 2 1 0 (weights 0 (pos 5) 2 (pos 1) 3 (pos 10))) "impossible 2 1 0 3 X 5 1 1 2 10\n"
     ∷ row (none 9 3 1 (weights 0 (pos 7) 1 (pos 8) 256 (pos 9))) "impossible 9 3 1 3 X 7 Y 8 255 9\n"
     ∷ row (none 1 1 0 (weights 2 (pos 1) 0 (pos 0) 0 (pos 0))) "impossible 1 1 0 1 1 1\n"
-    ∷ row (refusal 7 0) "refused 7 0\n"
-    ∷ row (refusal 10 255) "refused 10 255\n"
-    ∷ row (refusal 255 65535) "refused 255 65535\n"
+    ∷ row (Refused (refusal 7 0)) "refused 7 0\n"
+    ∷ row (Refused (refusal 10 255)) "refused 10 255\n"
+    ∷ row (Refused (refusal 255 65535)) "refused 255 65535\n"
     ∷ []
 
 -- ---- a panel's rows: label, numerator and denominator of the slack

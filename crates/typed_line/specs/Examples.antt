@@ -5,7 +5,7 @@ use Prim.Native.String.{String}
 use lib.IntN.{ℤ, pos, negsuc}
 use Rattle.forms.specs.declared.Typed.{Typed}
 use Rattle.forms.specs.declared.Typed.the-variants.{Rule}
-use Rattle.forms.specs.Value.{refusal}
+use Rattle.forms.specs.Value.{noRule}
 
 pub record Example : Type 0 where
   pub typed : Typed
@@ -18,5 +18,5 @@ abbrev pub examples : List Example
 examples =
     record { typed = rule 1 (pos 1) (pos 5) (pos 40); line = "rule 1 1 5 40\n" }
     ∷ record { typed = rule 2 (negsuc 32766) (pos 0) (negsuc 999999999); line = "rule 2 -32767 0 -1000000000\n" }
-    ∷ record { typed = refusal 13; line = "refused 13 0\n" }
+    ∷ record { typed = noRule 13; line = "refused 13 0\n" }
     ∷ []

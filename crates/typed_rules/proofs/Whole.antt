@@ -13,7 +13,7 @@ use Rattle.typed_rules.specs.declared.Step.{Step}
 use Rattle.typed_rules.specs.declared.Step.the-variants.{Got, Fail}
 use Rattle.forms.specs.declared.Typed.{Typed}
 use Rattle.language.specs.Grammar.{Side, Relation, Rule, at-most, at-least}
-use Rattle.forms.specs.Value.{conclude, refusal}
+use Rattle.forms.specs.Value.{conclude, noRule}
 use Rattle.language.specs.Value.{kindOf, valueSide, valueRule}
 use Rattle.language.specs.Parser.{Parsed, fail, got, bind, first, tail, lead, skip, next, beyond, sideOf, ended, rightOf, relationOf, parse, judged}
 use Rattle.typed_rules.specs.Contracts.{Skips, Lexes, valued, view, ReadsSide, JudgesRight, Judges}
@@ -69,7 +69,7 @@ module _ {text : List ℕ} {at kind : ℕ} {v : Value} {b : ℕ} (x : b ≡ firs
       ReadsSide text (at + 1) 8 s →
       Skips text n e →
       e < length text →
-      JudgesRight text at kind v (refusal 13)
+      JudgesRight text at kind v (noRule 13)
   right-more {e = e} y g f k h =
       record {
         same = λ a i r p q. sym
@@ -100,7 +100,7 @@ module _ {text : List ℕ} {at kind : ℕ} {v : Value} {b : ℕ} (x : b ≡ firs
       b ≡ 61 →
       s ≡ Fail →
       ReadsSide text (at + 1) 8 s →
-      JudgesRight text at kind v (refusal 13)
+      JudgesRight text at kind v (noRule 13)
   right-fails {s} y g f =
       record {
         same = λ a i r p q.
@@ -108,7 +108,7 @@ module _ {text : List ℕ} {at kind : ℕ} {v : Value} {b : ℕ} (x : b ≡ firs
             sym (ap judged (right-none a i r (drop at text) (equals text at x y) (ap sideOf (sym (right-tail text at x y)) ∙ z)));
       }
 
-  pub right-no : (b ≡ 61 → ⊥) → JudgesRight text at kind v (refusal 13)
+  pub right-no : (b ≡ 61 → ⊥) → JudgesRight text at kind v (noRule 13)
   right-no y =
       record { same = λ a i r p q. sym (ap judged (right-other a i r (drop at text) (ap (λ (z : ℕ). eqb z 61) (sym x) ∙ ne-eqb b 61 y))) }
 
@@ -139,7 +139,7 @@ module _ {text : List ℕ} {at : ℕ} {v : Value} {l : Lexed} (x : Lexes text at
       Judges text at v t
   judges-least b = judges at-least (λ a. relation-least a (drop at text) (sym (x .same) ∙ b))
 
-  pub judges-other : (l .byte ≡ 60 → ⊥) → (l .byte ≡ 62 → ⊥) → Judges text at v (refusal 13)
+  pub judges-other : (l .byte ≡ 60 → ⊥) → (l .byte ≡ 62 → ⊥) → Judges text at v (noRule 13)
   judges-other b c = record { same = λ a y. sym (ap judged (relation-other a (drop at text) (other x 60 b) (other x 62 c))) }
 
 -- ---- the whole
@@ -157,7 +157,7 @@ text-got {text} {s} g f j =
 pub text-fails : {text : List ℕ} {s : Step} →
     s ≡ Fail →
     ReadsSide text 0 8 s →
-    refusal 13 ≡ judged (parse text)
+    noRule 13 ≡ judged (parse text)
 unfolding parse
 text-fails {text} {s} g f =
     let z = inv-fail valueSide (sideOf (drop 0 text)) (side-of text 0 s f ∙ ap (view text) g) in

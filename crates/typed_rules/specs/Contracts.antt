@@ -65,7 +65,8 @@ abbrev pub Enough : List ℕ → ℕ → ℕ → ℕ → Type 0
 Enough text at more k = 3 * (length text - at) + more < k
 
 -- a reader of a part: `by` is the parser's, which needs so much fuel more, and `worth` the value of its tree
-pub record ReadsPart {A : Type 0} (worth : A → Value) (by : ℕ → ℕ → List ℕ → Parsed A) (more : ℕ) (text : List ℕ) (at depth : ℕ) (r : Step) : Type 0 where
+pub record ReadsPart {A : Type 0} (worth : A → Value) (by : ℕ → ℕ → List ℕ → Parsed A) (more : ℕ)
+    (text : List ℕ) (at depth : ℕ) (r : Step) : Type 0 where
   pub same : (k : ℕ) → Enough text at more k → valued worth (by k depth (drop at text)) ≡ view text r
   pub moved : Moved text (suc at) r
 
