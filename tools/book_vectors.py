@@ -1,8 +1,8 @@
 #!/usr/bin/env python3
 """Writes the stored books of crates/book_vectors (stdin) and what the program must say of them (stdout).
 
-The reader and the repacker below are written from documents 01 and 02 alone, over Python's bytes: nothing is shared with the crate
-`book`. Run from the repository's root: python3 tools/book_vectors.py"""
+The reader and the repacker below are written from documents 01 and 02 alone, over Python's bytes: nothing is shared with the crates
+`records` and `book`. Run from the repository's root: python3 tools/book_vectors.py"""
 import random
 import struct
 

@@ -206,6 +206,9 @@ module _ (L : Layout) (s : List ℕ) where
     pub count-room : countOf L s < L .records
     count-room = walked-count L s (meant .walked)
 
+    pub chain-few : length es < L .records
+    chain-few = omega (arith, chain-count, count-room)
+
     pub terms-small : SmallTerms t
     terms-small = subst⁻¹ SmallTerms (meant .terms) (walked-terms (meant .walked))
 

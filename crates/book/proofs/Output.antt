@@ -14,8 +14,8 @@ use Rattle.records.specs.Record.{recordAt, ruleOf}
 use Rattle.records.specs.Header.{termsOf}
 use Rattle.book.specs.declared.Head.{Head}
 use Rattle.book.specs.Reading.{refused, accepted, recordsOf, entryAt, readOf}
-use Rattle.book.specs.Repacking.{headerBytes, nextOf, chainBytes, bookOf, Packing, packed, ruleIn, packOf, rulesAt}
-use Rattle.book.specs.Promises.{ReadInto, repackedOf, outputOf, Repacks}
+use Rattle.book.specs.Repacking.{headerBytes, nextOf, chainBytes, bookOf, Packing, declined, packed, ruleIn, packOf, rulesAt}
+use Rattle.book.specs.Promises.{headOf, ReadInto, repackedOf, outputOf, Repacks}
 use Rattle.book.proofs.Causes.{acceptance-means, walked-length, walked-count}
 use Rattle.book.proofs.Said.{none-said, said-count}
 use Rattle.book.proofs.Links.{indices}
@@ -85,13 +85,24 @@ module _ (s out : List ℕ) where
   packs-refused k i e = record { answer = rw e; output = rw e }
 
   module _ {ch : Head} {run : List ℕ} (c : ChainRead s ch run) where
-    pub packs-declined : length out < 12 * (ch .n + 1) →
-        Repacks v1 s out (record { refusal = record { number = 11; at = 0 }; filled = 0 }) out
+    pub packs-declined : {h : Head} →
+        h ≡ headOf (refused 11 0) →
+        length out < 12 * (ch .n + 1) →
+        Repacks v1 s out (record { refusal = h .refusal; filled = 0 }) out
     unfolding packOf
-    packs-declined h = record { answer = rw (c .reads, short); output = rw (c .reads, short) }
+    packs-declined {h} e l =
+        record {
+          answer =
+              (λ j. record { refusal = e j .refusal; filled = 0 })
+              ∙ ap repackedOf (sym declines);
+          output = ap (λ (k : Packing). outputOf k out) (sym declines);
+        }
       where
         short : ltb (length out) (12 * (length (map (entryAt v1 s) (c .done)) + 1)) ≡ true
-        short = lt-ltb (length out) (12 * (length (map (entryAt v1 s) (c .done)) + 1)) (rw (length-map, ← c .count) h)
+        short = lt-ltb (length out) (12 * (length (map (entryAt v1 s) (c .done)) + 1)) (rw (length-map, ← c .count) l)
+
+        declines : packOf v1 (readOf v1 s) (length out) ≡ declined 11 0
+        declines = rw (c .reads, short)
 
     rules-long : length (rulesAt v1 s (c .done)) ≡ ch .n
     rules-long = length-map (c .done) (λ (i : ℕ). ruleOf v1 (recordAt v1 s i)) ∙ sym (c .count)

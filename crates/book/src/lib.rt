@@ -78,7 +78,8 @@ pub fn repack(book: &[u8], out: &mut [u8]) -> Repacked
     let n = head.n;
     let filled = 12 * (n + 1);
     if out.len() < filled {
-        let refusal = Refusal { number: 11, at: 0 };
+        let declined = refused(11, 0);
+        let refusal = declined.refusal;
         return Repacked { refusal, filled: 0 };
     }
     let rules = n as u16;

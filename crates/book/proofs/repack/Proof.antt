@@ -34,9 +34,9 @@ mul-filled c = omega (arith, few c)
 
 returns-2 : tie.Need-returns-2
 returns-2 c =
-    packs-declined (c .before .before .before .before .before .before .before .before .before .before .before .args .book .now)
-    (c .before .before .before .before .before .before .before .before .before .before .before .args .out .now) (chained (c .before))
-    (c .if2 .taken)
+    let start = c .before .before .before .before .before .before .before .before .before .before .before .before .before in
+    packs-declined (start .args .book .now) (start .args .out .now) (chained (c .before .before .before)) (c .before .refused .ensures)
+    (c .before .before .if2 .taken)
 
 cast-rules : tie.Need-cast-rules
 cast-rules c = omega (arith, few (c .before))
@@ -84,6 +84,7 @@ repack-spec =
     returns
     add-filled
     mul-filled
+    (λ c κs. search needs)
     returns-2
     cast-rules
     (λ c κs. search needs)
