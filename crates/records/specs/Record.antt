@@ -1,10 +1,10 @@
 -- A record of the book, from its bytes to its fields, and the causes 8, 9 and 10 by which a rule record is refused.
 -- Signed numbers are in two's complement: `toZ w16` and `toZ w32` are the machine's own readings of 16 and of 32 bits.
-use Prim.Native.Nat.{ℕ, _*_}
+use Prim.Native.Nat.{ℕ, _+_, _*_}
 use mathlib.Core.Bool.{Bool, cond, not, _||_, _&&_}
 use mathlib.Core.List.{List}
-use lib.ListN.{take, drop}
-use lib.Dec.{eqb}
+use lib.ListN.{length, take, drop}
+use lib.Dec.{eqb, leb}
 use lib.IntN.{ℤ, pos, negsuc}
 use lib.Signed.{ltZ}
 use mir.Syntax.{w16, w32}
@@ -59,6 +59,10 @@ module _ (L : Layout) where
         c = cOf r;
       }
 
+  -- whether the bytes of record i are all there
+  abbrev pub holdsRecord : List ℕ → ℕ → Bool
+  holdsRecord s i = leb (i * width L + width L) (length s)
+
   -- a rule record's rule, as written
   abbrev pub ruleOf : List ℕ → Rule
   ruleOf r = ruleWith (kindOf r) (aOf r) (bOf r) (labelOf r) (cOf r)
@@ -84,6 +88,10 @@ badBound r = isBeyond (r .c)
 unfoldable pub decodedWith : Bool → Rule → ℕ → Decoded
 decodedWith clear r next =
     cond (badKind clear r) Kind (cond (badSlope r) Slope (cond (badBound r) Bound (Sound r next)))
+
+-- of a record's fields
+abbrev pub decodedFrom : Fields → Decoded
+decodedFrom f = decodedWith (eqb (f .pad) 0) (ruleWith (f .kind) (f .a) (f .b) (f .label) (f .c)) (f .link)
 
 unfoldable pub decodedOf : Layout → List ℕ → Decoded
 decodedOf L r = decodedWith (eqb (padOf L r) 0) (ruleOf L r) (linkOf L r)

@@ -5,10 +5,12 @@ use crate::Version;
 use crate::bytes::signed16;
 use crate::bytes::signed32;
 use crate::fields::Fields;
-use crate::fields::fields_at;
+use crate::layouts::fields_inside;
+use crate::layouts::fields_past;
+use crate::layouts::is_inside;
 ghost use mathlib.Core.Path.{_≡_};
 ghost use Rattle.records.specs.Layout.{layoutOf};
-ghost use Rattle.records.specs.Record.{recordAt, ruleWith, isLeast, isBeyond, badKind, badSlope, badBound, decodedWith, decodedOf};
+ghost use Rattle.records.specs.Record.{recordAt, ruleWith, isLeast, isBeyond, badKind, badSlope, badBound, decodedWith, decodedFrom, decodedOf};
 
 // A rule, from its fields as they stand.
 pub fn rule_in(f: Fields) -> Rule
@@ -87,10 +89,20 @@ fn check(clear: bool, rule: Rule, next: u16) -> Decoded
     Decoded::Sound(rule, next)
 }
 
+// What a record of these fields comes to.
+fn judged(f: Fields) -> Decoded
+    ensures { λ r. ⌜ r ≡ decodedFrom f ⌝ }
+{
+    check(f.pad == 0, rule_in(f), f.link)
+}
+
 // What the record at an index comes to.
 pub fn decode(version: Version, book: &[u8], index: u16) -> Decoded
     ensures { λ r. ⌜ r ≡ decodedOf (layoutOf version) (recordAt (layoutOf version) (now (book .entry)) index) ⌝ }
 {
-    let f = fields_at(version, book, index);
-    check(f.pad == 0, rule_in(f), f.link)
+    if is_inside(version, book, index) {
+        judged(fields_inside(version, book, index))
+    } else {
+        judged(fields_past(version, book, index))
+    }
 }

@@ -5,6 +5,7 @@ mod bytes;
 mod decode;
 pub mod fields;
 mod header;
+mod layouts;
 
 use bytes::signed16;
 use decode::rule_in;

@@ -1,12 +1,12 @@
--- `records::fields::fields_one` meets its contract: each field is read at its offset (`fields-read`).
+-- `records::layouts::fields_one` meets its contract: each field is read at its offset (`fields-read`).
 use native.Mathlib.Omega.{arith}
 use mathlib.Core.Path.{sym}
 use Rattle.records.specs.Layout.{v1}
 use Rattle.records.proofs.Numbers.{one-byte, number-none}
 use Rattle.records.proofs.Offsets.{fields-read}
 use borrow.Author.Needs.{needs}
-use Rattle.records.proofs.fields.fields_one.Statement.{statement}
-use Rattle.records.proofs.fields.fields_one.Tie as tie
+use Rattle.records.proofs.layouts.fields_one.Statement.{statement}
+use Rattle.records.proofs.layouts.fields_one.Tie as tie
 
 cast-t5 : tie.Need-cast-t5
 cast-t5 c = omega (arith, c .shared-slice-known2 .given (c .before .before .args .at))

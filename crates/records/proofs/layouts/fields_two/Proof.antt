@@ -1,10 +1,10 @@
--- `records::fields::fields_two` meets its contract: each field is read at its offset (`fields-read`).
+-- `records::layouts::fields_two` meets its contract: each field is read at its offset (`fields-read`).
 use Rattle.records.specs.Layout.{v2}
 use Rattle.records.proofs.Numbers.{one-byte}
 use Rattle.records.proofs.Offsets.{fields-read}
 use borrow.Author.Needs.{needs}
-use Rattle.records.proofs.fields.fields_two.Statement.{statement}
-use Rattle.records.proofs.fields.fields_two.Tie as tie
+use Rattle.records.proofs.layouts.fields_two.Statement.{statement}
+use Rattle.records.proofs.layouts.fields_two.Tie as tie
 
 returns : tie.Need-returns
 returns c =
