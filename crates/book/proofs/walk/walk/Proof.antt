@@ -38,12 +38,16 @@ told : (c : tie.After-labels2 Inv-loop μ-loop) {j : Judged} →
     (c .before .before .before .before .before .before .loop .inv .walked)
     (c .before .before .before .before .before .before .loop .inv .visited)
     (c .before .before .before .before .before .before .loop .inv .met)
-    (c .before .before .before .before .before .before .loop .inv .held) (c .before .before .before .before .before .loop-test .taken) j
+    (c .before .before .before .before .before .before .loop .inv .held)
+    (c .before .before .before .before .before .loop-test .taken) j
 told c e =
     let l = c .before .before .before .before .before .before .loop in
-    leads-to (bytes (c .before .before .before .before .before .before .before .before)) (few-records (c .before .before .before .before .before .before .before .before .before .args .version)) (l .inv .walked) (l .inv .visited) (l .inv .met)
+    leads-to (bytes (c .before .before .before .before .before .before .before .before))
+    (few-records (c .before .before .before .before .before .before .before .before .before .args .version)) (l .inv .walked)
+    (l .inv .visited) (l .inv .met)
     (l .inv .held) (c .before .before .before .before .before .loop-test .taken)
-    (ap (λ (h : Heading). h .count) (c .before .before .before .before .before .before .before .before .before .pre .heading)) (c .before .before .judge .ensures .answer) e
+    (ap (λ (h : Heading). h .count) (c .before .before .before .before .before .before .before .before .before .pre .heading))
+    (c .before .before .judge .ensures .answer) e
 
 returns : tie.Need-returns Inv-loop μ-loop
 returns c =
@@ -52,7 +56,8 @@ returns c =
 
 -- a sound record that was not visited
 reached : (c : tie.After-known-told2 Inv-loop μ-loop) →
-    NewRule (layoutOf (c .before .before .before .before .before .before .before .before .before .before .before .before .args .version))
+    NewRule
+    (layoutOf (c .before .before .before .before .before .before .before .before .before .before .before .before .args .version))
     (c .before .before .before .before .before .before .before .before .before .before .before .before .args .book .now)
     (c .before .before .before .before .before .before .before .before .before .loop .inv .done)
     (c .before .before .before .before .before .before .before .before .before .loop .link)
@@ -78,7 +83,8 @@ put-entry-requires c κs =
           (c .before .before .before .before .before .before .before .before .before .before .before .before .before .before
           .before .loop .inv),
       few-records
-          (c .before .before .before .before .before .before .before .before .before .before .before .before .before .before .before .before
+          (c .before .before .before .before .before .before .before .before .before .before .before .before .before .before
+          .before .before
           .before .before .args .version),
     )
 
@@ -88,10 +94,12 @@ add-n c =
       arith,
       room (c .before .before .before .before .before .before .before .before),
       count-few
-          (c .before .before .before .before .before .before .before .before .before .before .before .before .before .before .before .before
+          (c .before .before .before .before .before .before .before .before .before .before .before .before .before .before
+          .before .before
           .before .loop .inv),
       few-records
-          (c .before .before .before .before .before .before .before .before .before .before .before .before .before .before .before .before
+          (c .before .before .before .before .before .before .before .before .before .before .before .before .before .before
+          .before .before
           .before .before .before .before .args .version),
     )
 
@@ -101,23 +109,27 @@ loop-less c =
       arith,
       room (c .before .before .before .before .before .before .before .before),
       count-few
-          (c .before .before .before .before .before .before .before .before .before .before .before .before .before .before .before .before
+          (c .before .before .before .before .before .before .before .before .before .before .before .before .before .before
+          .before .before
           .before .loop .inv),
     )
 
 loop-again : tie.Need-loop-again Inv-loop μ-loop
 loop-again c =
     let l =
-    c .before .before .before .before .before .before .before .before .before .before .before .before .before .before .before .before
+    c .before .before .before .before .before .before .before .before .before .before .before .before .before .before .before
+    .before
     .before .loop in
     let e = c .before .before .before .before .before .before .before .before .before .rule .given .1 in
     let judge = c .before .before .before .before .before .before .before .before .before .before .before .before .before .judge in
     steps (l .inv)
     (bytes
-    (c .before .before .before .before .before .before .before .before .before .before .before .before .before .before .before .before
+    (c .before .before .before .before .before .before .before .before .before .before .before .before .before .before .before
+    .before
     .before .before .before))
     (few-records
-    (c .before .before .before .before .before .before .before .before .before .before .before .before .before .before .before .before
+    (c .before .before .before .before .before .before .before .before .before .before .before .before .before .before .before
+    .before
     .before .before .before .before .args .version))
     (c .before .before .before .before .before .before .before .before .before .before .before .before .before .before .before
     .before .loop-test .taken) (reached (c .before .before .before .before .before .before .before .before))
