@@ -1,6 +1,6 @@
 -- What a judged link means for the walk: it ends there with a refusal, or it has come to a sound record that is new on the chain.
 use Prim.Native.Nat.{ℕ, suc, _*_, _≤_, _<_}
-use mathlib.Core.Path.{_≡_, refl, sym, _∙_, subst, subst⁻¹}
+use mathlib.Core.Path.{_≡_, refl, sym, ap, _∙_, subst, subst⁻¹}
 use mathlib.Core.Bool.{Bool, true, false}
 use mathlib.Core.List.{List, map}
 use native.Mathlib.Omega.{arith}
@@ -118,6 +118,10 @@ module _
           (walked-next L s w ∙ walk-over L s _ done at i held some h)
       go (no h) = by-mark (omega arith) (isNoted marks i) refl
 
-  -- of an answer that is one of its cases
-  pub leads-to : {r j : Judged} → r ≡ verdict → r ≡ j → Leads j
-  leads-to e q = subst Leads (sym e ∙ q) leads
+  -- of an answer that is one of its cases, where the header's count was handed over
+  pub leads-to : {r j : Judged} {count : ℕ} →
+      count ≡ countOf L s →
+      r ≡ judged L s marks labels count at i →
+      r ≡ j →
+      Leads j
+  leads-to n e q = subst Leads (sym (e ∙ ap (λ k. judged L s marks labels k at i) n) ∙ q) leads

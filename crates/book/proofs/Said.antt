@@ -7,6 +7,7 @@ use native.Mathlib.Omega.{arith}
 use lib.ListN.{length, getD}
 use lib.IntN.{ℤ}
 use Rattle.lp.specs.declared.Terms.{Terms}
+use Rattle.answers.specs.Refusal.{refusal}
 use Rattle.records.specs.Layout.{Layout}
 use Rattle.book.specs.declared.Head.{Head}
 use Rattle.book.specs.Reading.{Reading, refused, accepted, Entry, recordsOf, rulesOf, readOf}
@@ -44,7 +45,7 @@ module _
   pub said-applies : (h .refusal .number ≡ 0 → ⊥) → Applies L s (h .refusal .number) (h .refusal .at)
   said-applies n = refusal-applies L s (said-refused n)
 
-  pub applies-said : {k i : ℕ} → Applies L s k i → h .refusal ≡ record { number = k; at = i }
+  pub applies-said : {k i : ℕ} → Applies L s k i → h .refusal ≡ refusal k i
   applies-said a = ap (λ (x : Head). x .refusal) (r .answer ∙ ap headOf (applies-refused L s a))
 
   -- ---- no refusal

@@ -5,6 +5,7 @@ use mathlib.Core.List.{List, _++_}
 use lib.ListN.{length, drop}
 use lib.IntN.{ℤ, pos}
 use Rattle.lp.specs.declared.Terms.{Terms}
+use Rattle.answers.specs.Refusal.{refusal, notRefused}
 use Rattle.records.specs.Layout.{Layout}
 use Rattle.book.specs.declared.Head.{Head}
 use Rattle.book.specs.declared.Repacked.{Repacked}
@@ -17,8 +18,8 @@ noTerms = record { objective = record { p = pos 0; q = pos 0 }; floors = record 
 
 -- what a book reads as, but for its chain
 abbrev pub headOf : Reading → Head
-headOf (refused n r) = record { refusal = record { number = n; at = r }; terms = noTerms; n = 0 }
-headOf (accepted t es) = record { refusal = record { number = 0; at = 0 }; terms = t; n = length es }
+headOf (refused n r) = record { refusal = refusal n r; terms = noTerms; n = 0 }
+headOf (accepted t es) = record { refusal = notRefused; terms = t; n = length es }
 
 -- the promise of `read`
 pub record ReadInto
@@ -30,8 +31,8 @@ pub record ReadInto
 
 -- what repacking answers, and what the output then holds
 abbrev pub repackedOf : Packing → Repacked
-repackedOf (declined n r) = record { refusal = record { number = n; at = r }; filled = 0 }
-repackedOf (packed bs) = record { refusal = record { number = 0; at = 0 }; filled = length bs }
+repackedOf (declined n r) = record { refusal = refusal n r; filled = 0 }
+repackedOf (packed bs) = record { refusal = notRefused; filled = length bs }
 
 abbrev pub outputOf : Packing → List ℕ → List ℕ
 outputOf (declined n r) out = out

@@ -70,7 +70,8 @@ pub fn store(out: &mut [u8], at: usize, bytes: [u8; 12])
 // The rules of the chain into the records 1 to n of the output.
 pub fn put_rules(book: &[u8], out: &mut [u8], indices: [u16; 255], n: u16)
     requires { ⌜ OutputRoom n (now out) ⌝ }
-    ensures { λ r. ⌜ now (out .exit) ≡ paste (now (out .entry)) 12 (chainBytes v1 1 (rulesAt v1 (now (book .entry)) (take n indices))) (12 * n) ⌝ }
+    ensures { λ r. ⌜ now (out .exit) ≡ paste (now (out .entry)) 12
+        (chainBytes v1 1 (rulesAt v1 (now (book .entry)) (take n indices))) (12 * n) ⌝ }
 {
     let mut k: u16 = 0;
     while k < n {

@@ -35,7 +35,8 @@ mul-filled c = omega (arith, few c)
 returns-2 : tie.Need-returns-2
 returns-2 c =
     let start = c .before .before .before .before .before .before .before .before .before .before .before .before .before in
-    packs-declined (start .args .book .now) (start .args .out .now) (chained (c .before .before .before)) (c .before .refused .ensures)
+    packs-declined (start .args .book .now) (start .args .out .now) (chained (c .before .before .before))
+    (c .before .refused .ensures)
     (c .before .before .if2 .taken)
 
 cast-rules : tie.Need-cast-rules
@@ -55,15 +56,19 @@ put-rules-requires : tie.Need-put-rules-requires
 put-rules-requires c κs =
     record {
       few = few (c .before .before .before .before .before .before .before .before);
-      room = omega (arith, c .before .before .before .store .kept .0, c .before .before .before .before .before .before .before .if2 .left);
+      room =
+          omega
+          (arith, c .before .before .before .store .kept .0, c .before .before .before .before .before .before .before .if2 .left);
     }
 
 returns-3 : tie.Need-returns-3
 returns-3 c =
     packs-packed
-    (c .before .before .before .before .before .before .before .before .before .before .before .before .before .before .before .before
+    (c .before .before .before .before .before .before .before .before .before .before .before .before .before .before .before
+    .before
     .before .before .before .before .before .args .book .now)
-    (c .before .before .before .before .before .before .before .before .before .before .before .before .before .before .before .before
+    (c .before .before .before .before .before .before .before .before .before .before .before .before .before .before .before
+    .before
     .before .before .before .before .before .args .out .now)
     (chained (c .before .before .before .before .before .before .before .before .before .before .before))
     (c .before .before .before .before .before .before .before .before .before .before .if2 .left)

@@ -8,7 +8,7 @@ use Rattle.records.specs.Number.{Bytes}
 use Rattle.records.specs.Header.{countOf}
 use Rattle.book.specs.declared.judge.Judged.{Judged}
 use Rattle.book.specs.Runs.{putEntry}
-use Rattle.book.specs.Judging.{judged, marksAfter, labelsAfter}
+use Rattle.book.specs.Judging.{marksAfter, labelsAfter}
 use Rattle.book.proofs.Leading.{NewRule, Leads, leads-to}
 use Rattle.book.proofs.Underway.{Underway, few-records, starts, finished, same-indices, same-rules, chain-ends, chain-length, more-room, count-few, steps}
 use borrow.Author.Needs.{needs}
@@ -38,16 +38,16 @@ told : (c : tie.After-labels2 Inv-loop μ-loop) {j : Judged} →
     (c .before .before .before .before .before .before .loop .inv .walked)
     (c .before .before .before .before .before .before .loop .inv .visited)
     (c .before .before .before .before .before .before .loop .inv .met)
-    (c .before .before .before .before .before .before .loop .inv .held) (c .before .before .before .before .before .loop-test .taken) j
+    (c .before .before .before .before .before .before .loop .inv .held)
+    (c .before .before .before .before .before .loop-test .taken) j
 told c e =
     let l = c .before .before .before .before .before .before .loop in
-    let a = c .before .before .before .before .before .before .before .before .before .args in
-    let n = ap (λ (h : Heading). h .count) (c .before .before .before .before .before .before .before .before .before .pre .heading) in
-    leads-to (bytes (c .before .before .before .before .before .before .before .before)) (few-records (a .version)) (l .inv .walked)
-    (l .inv .visited) (l .inv .met) (l .inv .held) (c .before .before .before .before .before .loop-test .taken)
-    (c .before .before .judge .ensures .answer
-    ∙ ap (λ k. judged (layoutOf (a .version)) (a .book .now) (l .marks) (l .labels) k (l .at) (l .link)) n)
-    e
+    leads-to (bytes (c .before .before .before .before .before .before .before .before))
+    (few-records (c .before .before .before .before .before .before .before .before .before .args .version)) (l .inv .walked)
+    (l .inv .visited) (l .inv .met)
+    (l .inv .held) (c .before .before .before .before .before .loop-test .taken)
+    (ap (λ (h : Heading). h .count) (c .before .before .before .before .before .before .before .before .before .pre .heading))
+    (c .before .before .judge .ensures .answer) e
 
 returns : tie.Need-returns Inv-loop μ-loop
 returns c =
@@ -56,7 +56,8 @@ returns c =
 
 -- a sound record that was not visited
 reached : (c : tie.After-known-told2 Inv-loop μ-loop) →
-    NewRule (layoutOf (c .before .before .before .before .before .before .before .before .before .before .before .before .args .version))
+    NewRule
+    (layoutOf (c .before .before .before .before .before .before .before .before .before .before .before .before .args .version))
     (c .before .before .before .before .before .before .before .before .before .before .before .before .args .book .now)
     (c .before .before .before .before .before .before .before .before .before .loop .inv .done)
     (c .before .before .before .before .before .before .before .before .before .loop .link)
@@ -82,7 +83,8 @@ put-entry-requires c κs =
           (c .before .before .before .before .before .before .before .before .before .before .before .before .before .before
           .before .loop .inv),
       few-records
-          (c .before .before .before .before .before .before .before .before .before .before .before .before .before .before .before .before
+          (c .before .before .before .before .before .before .before .before .before .before .before .before .before .before
+          .before .before
           .before .before .args .version),
     )
 
@@ -92,10 +94,12 @@ add-n c =
       arith,
       room (c .before .before .before .before .before .before .before .before),
       count-few
-          (c .before .before .before .before .before .before .before .before .before .before .before .before .before .before .before .before
+          (c .before .before .before .before .before .before .before .before .before .before .before .before .before .before
+          .before .before
           .before .loop .inv),
       few-records
-          (c .before .before .before .before .before .before .before .before .before .before .before .before .before .before .before .before
+          (c .before .before .before .before .before .before .before .before .before .before .before .before .before .before
+          .before .before
           .before .before .before .before .args .version),
     )
 
@@ -105,23 +109,27 @@ loop-less c =
       arith,
       room (c .before .before .before .before .before .before .before .before),
       count-few
-          (c .before .before .before .before .before .before .before .before .before .before .before .before .before .before .before .before
+          (c .before .before .before .before .before .before .before .before .before .before .before .before .before .before
+          .before .before
           .before .loop .inv),
     )
 
 loop-again : tie.Need-loop-again Inv-loop μ-loop
 loop-again c =
     let l =
-    c .before .before .before .before .before .before .before .before .before .before .before .before .before .before .before .before
+    c .before .before .before .before .before .before .before .before .before .before .before .before .before .before .before
+    .before
     .before .loop in
     let e = c .before .before .before .before .before .before .before .before .before .rule .given .1 in
     let judge = c .before .before .before .before .before .before .before .before .before .before .before .before .before .judge in
     steps (l .inv)
     (bytes
-    (c .before .before .before .before .before .before .before .before .before .before .before .before .before .before .before .before
+    (c .before .before .before .before .before .before .before .before .before .before .before .before .before .before .before
+    .before
     .before .before .before))
     (few-records
-    (c .before .before .before .before .before .before .before .before .before .before .before .before .before .before .before .before
+    (c .before .before .before .before .before .before .before .before .before .before .before .before .before .before .before
+    .before
     .before .before .before .before .args .version))
     (c .before .before .before .before .before .before .before .before .before .before .before .before .before .before .before
     .before .loop-test .taken) (reached (c .before .before .before .before .before .before .before .before))
