@@ -1,11 +1,11 @@
 // One link of the chain judged.
 use crate::tables::note;
 use crate::tables::noted;
+use reader::visit;
 use records::Decoded;
 use records::Rule;
 use records::Version;
 use records::number_of;
-use records::visit;
 ghost use Rattle.records.specs.Layout.{layoutOf};
 ghost use Rattle.book.specs.Judging.{Judges};
 

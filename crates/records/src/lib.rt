@@ -1,6 +1,5 @@
-// The records of a rule book, of either version of the format: the header and what it says, a rule record and what turns it back, and a
-// reader that is held while a chain is walked. A function takes the version and any bytes, and answers; a byte that is not there reads as
-// zero.
+// The records of a rule book, of either version of the format: the header and what it says, a rule record and what turns it back. A
+// function takes the version and any bytes, and answers; a byte that is not there reads as zero.
 mod bytes;
 mod decode;
 pub mod fields;
@@ -50,13 +49,6 @@ pub struct Heading {
     pub terms: Terms,
     pub count: u16,
     pub link: u16,
-}
-
-// A book that is held on to while it is walked from record to record, and the record that the walk has come to. What is found there is
-// worked out by a function of the slice and the index.
-pub struct Reader<'a> {
-    pub book: &'a [u8],
-    pub at: u16,
 }
 
 // What a book's header says.
@@ -115,30 +107,9 @@ pub fn number_of(decoded: Decoded) -> u8
     }
 }
 
-// A reader at a record.
-pub fn stand<'a>(book: &'a [u8], at: u16) -> Reader<'a>
-    ensures { λ r. ⌜ (r .book ≡ book .entry) × (r .at ≡ at) ⌝ }
+// What the record at an index comes to.
+pub fn inspect(version: Version, book: &[u8], index: u16) -> Decoded
+    ensures { λ d. ⌜ d ≡ decodedOf (layoutOf version) (recordAt (layoutOf version) (now (book .entry)) index) ⌝ }
 {
-    Reader { book, at }
-}
-
-// A reader moved to another record.
-pub fn moved<'a>(r: Reader<'a>, at: u16) -> Reader<'a>
-    ensures { λ q. ⌜ (q .book ≡ r .entry .book) × (q .at ≡ at) ⌝ }
-{
-    Reader { book: r.book, at }
-}
-
-// What the record holds that a reader stands at.
-pub fn current<'a>(version: Version, r: Reader<'a>) -> Decoded
-    ensures { λ d. ⌜ d ≡ decodedOf (layoutOf version) (recordAt (layoutOf version) (now (r .entry .book)) (r .entry .at)) ⌝ }
-{
-    decode::decode(version, r.book, r.at)
-}
-
-// The record at an index, through a reader: for callers that hold none.
-pub fn visit(version: Version, book: &[u8], at: u16) -> Decoded
-    ensures { λ d. ⌜ d ≡ decodedOf (layoutOf version) (recordAt (layoutOf version) (now (book .entry)) at) ⌝ }
-{
-    current(version, stand(book, at))
+    decode::decode(version, book, index)
 }

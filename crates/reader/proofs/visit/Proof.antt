@@ -1,4 +1,4 @@
--- `records::visit` meets its contract: a walk of its MIR, by hand. A `Reader` that one call returns is held in a local and passed to the
+-- `reader::visit` meets its contract: a walk of its MIR, by hand. A `Reader` that one call returns is held in a local and passed to the
 -- current. All that the proof knows of `stand` and of `current` is that each meets its contract.
 -- The machine value that `stand` returns is stored and passed on as it is. In a local of a body MIR erases the lifetime of the struct's
 -- type, so the value is shown to have the type at `erased`: what the struct owns does not say the lifetime's name.
@@ -40,29 +40,29 @@ use denote.Triple.Table.{entered, cited}
 use denote.Triple.Walked.{says, Stays, stay-none, stay-none-slice, walkOf, goes-none, goes-none-slice, Walks, ends-at, walked, walk-meets}
 use denote.Exit.{yes}
 use denote.Triple.Clauses.{ensured, lasts}
 use Rattle.records.specs.Layout.{layoutOf}
 use Rattle.records.specs.Record.{recordAt, decodedOf}
-use Rattle.records.specs.declared.Reader.{Reader}
+use Rattle.reader.specs.declared.Reader.{Reader}
 use Rattle.records.specs.declared.Decoded.{Decoded}
-use Rattle.records.proofs.Reader as T
-use Rattle.records.proofs.Reader.Laws as T′
+use Rattle.reader.proofs.Reader as T
+use Rattle.reader.proofs.Reader.Laws as T′
 use Rattle.records.specs.declared.Version.{Version}
 use Rattle.records.proofs.Version as N
 use Rattle.records.proofs.Version.Laws as N′
 use Rattle.records.proofs.Decoded as S
 use Rattle.records.proofs.Decoded.Laws as S′
-use Rattle.records.proofs.stand as stand
-use Rattle.records.proofs.stand.Symbol as stand-def
-use Rattle.records.proofs.stand.Symbol.{name as #records·stand}
-use Rattle.records.proofs.stand.Met as stand-thm
-use Rattle.records.proofs.current as current
-use Rattle.records.proofs.current.Symbol as current-def
-use Rattle.records.proofs.current.Symbol.{name as #records·current}
-use Rattle.records.proofs.current.Met as current-thm
-use Rattle.records.proofs.visit.Key.{name as #records·visit}
-use Rattle.records.proofs.visit as visit
-use Rattle.records.proofs.visit.Statement as stated
-use Rattle.records.proofs.visit.Code as code
+use Rattle.reader.proofs.stand as stand
+use Rattle.reader.proofs.stand.Symbol as stand-def
+use Rattle.reader.proofs.stand.Symbol.{name as #reader·stand}
+use Rattle.reader.proofs.stand.Met as stand-thm
+use Rattle.reader.proofs.current as current
+use Rattle.reader.proofs.current.Symbol as current-def
+use Rattle.reader.proofs.current.Symbol.{name as #reader·current}
+use Rattle.reader.proofs.current.Met as current-thm
+use Rattle.reader.proofs.visit.Key.{name as #reader·visit}
+use Rattle.reader.proofs.visit as visit
+use Rattle.reader.proofs.visit.Statement as stated
+use Rattle.reader.proofs.visit.Code as code
 
 -- the struct's type, over the signature's lifetimes
 abbrev B : Lfts 1 → RattleType
@@ -162,8 +162,8 @@ module _
       owned ! N.the-row (Is N.the-row) (EL.makes N.the-type N′.the-plain 𝓤 H A) ver _ iv $ fjoin ! $ frame ! $ done !
 
   module _
-      (C : Calls 𝓤 H) (Λ : Loops 𝓤 H) (fm : FmC 𝓤 H (W .laws) C) (known-stand : Triple 𝓤 (C #records·stand) (Stand 𝓤 H A mem run))
-      (known-current : Triple 𝓤 (C #records·current) (Current 𝓤 H A mem run)) where
+      (C : Calls 𝓤 H) (Λ : Loops 𝓤 H) (fm : FmC 𝓤 H (W .laws) C) (known-stand : Triple 𝓤 (C #reader·stand) (Stand 𝓤 H A mem run))
+      (known-current : Triple 𝓤 (C #reader·current) (Current 𝓤 H A mem run)) where
     walk : Is N.the-row ver (mv ∷ []) →
         Is (ShrSlice (named 0) κ u8) s (v ∷ []) →
         ent 𝓤 (onEntry 𝓤 H A visit.signature (κ, tt) (q, tt) (ver, (s, (n, tt))) at)
@@ -218,8 +218,8 @@ module _
 module _ {M : Type 1} (𝓤 : URA M) (H : Heap 𝓤) (A : Atoms 𝓤) (W : Given 𝓤 H A) (mem : Memory → SProp 𝓤) (run : Routine → Fun 𝓤) where
   visit-walks : (C : Calls 𝓤 H) (Λ : Loops 𝓤 H) →
       FmC 𝓤 H (W .laws) C →
-      Triple 𝓤 (C #records·stand) (Stand 𝓤 H A mem run) →
-      Triple 𝓤 (C #records·current) (Current 𝓤 H A mem run)
+      Triple 𝓤 (C #reader·stand) (Stand 𝓤 H A mem run) →
+      Triple 𝓤 (C #reader·current) (Current 𝓤 H A mem run)
       → Walks 𝓤 H A visit.ended stayed (WpFn 𝓤 H C Λ code.function) (visit.clauses 𝓤 H A mem run)
   visit-walks C Λ fm known-stand known-current =
       walked 𝓤 H A visit.ended stayed (visit.clauses 𝓤 H A mem run) (WpFn 𝓤 H C Λ code.function)
@@ -231,7 +231,7 @@ module _ {M : Type 1} (𝓤 : URA M) (H : Heap 𝓤) (A : Atoms 𝓤) (W : Given
 
 visit-meets : {M : Type 1} (𝓤 : URA M) (H : Heap 𝓤) (A : Atoms 𝓤) (W : Given 𝓤 H A) (mem : Memory → SProp 𝓤) (run : Routine → Fun 𝓤)
     (𝓣 : Tables 𝓤 H)
-    → Triple 𝓤 (𝓣 .C #records·stand) (Stand 𝓤 H A mem run) → Triple 𝓤 (𝓣 .C #records·current) (Current 𝓤 H A mem run)
+    → Triple 𝓤 (𝓣 .C #reader·stand) (Stand 𝓤 H A mem run) → Triple 𝓤 (𝓣 .C #reader·current) (Current 𝓤 H A mem run)
     → Meets 𝓤 H A visit.signature (WpFn 𝓤 H (𝓣 .C) (𝓣 .Λ) code.function) (visit.spec 𝓤 H A mem run)
 visit-meets 𝓤 H A W mem run 𝓣 known-stand known-current =
     walk-meets 𝓤 H A visit.ended stayed W (
@@ -245,9 +245,9 @@ pub visit-spec : {M : Type 1} → stated.statement M
 unfolding code.routine tablesOf
 visit-spec 𝓤 H 𝓜 𝓖 𝓡 =
     entered 𝓤 H (tripleOf 𝓤 H (𝓖 .A) visit.signature (visit.spec 𝓤 H (𝓖 .A) (𝓜 .mem) (𝓡 .run)))
-    (tables 𝓤 H 𝓜 𝓡 code.env .C) (tables 𝓤 H 𝓜 𝓡 code.env .Λ) #records·visit code.function (code.unfolded 𝓤 H 𝓜 𝓡)
+    (tables 𝓤 H 𝓜 𝓡 code.env .C) (tables 𝓤 H 𝓜 𝓡 code.env .Λ) #reader·visit code.function (code.unfolded 𝓤 H 𝓜 𝓡)
     (visit-meets 𝓤 H (𝓖 .A) (givenOf 𝓤 H 𝓜 𝓖) (𝓜 .mem) (𝓡 .run) (tablesOf 𝓤 H 𝓜 (tables 𝓤 H 𝓜 𝓡 code.env))
-    (cited 𝓤 H (Stand 𝓤 H (𝓖 .A) (𝓜 .mem) (𝓡 .run)) 𝓜 𝓡 code.env #records·stand stand-def.routine code.calls-records·stand
+    (cited 𝓤 H (Stand 𝓤 H (𝓖 .A) (𝓜 .mem) (𝓡 .run)) 𝓜 𝓡 code.env #reader·stand stand-def.routine code.calls-reader·stand
     (stand-thm.met 𝓤 H 𝓜 𝓖 𝓡))
-    (cited 𝓤 H (Current 𝓤 H (𝓖 .A) (𝓜 .mem) (𝓡 .run)) 𝓜 𝓡 code.env #records·current current-def.routine code.calls-records·current
+    (cited 𝓤 H (Current 𝓤 H (𝓖 .A) (𝓜 .mem) (𝓡 .run)) 𝓜 𝓡 code.env #reader·current current-def.routine code.calls-reader·current
     (current-thm.met 𝓤 H 𝓜 𝓖 𝓡)))

@@ -1,4 +1,4 @@
--- `records::stand` meets its contract: a walk of its MIR, by hand. A `Reader` is made of the slice and the index passed, in the result's
+-- `reader::stand` meets its contract: a walk of its MIR, by hand. A `Reader` is made of the slice and the index passed, in the result's
 -- local.
 -- A `&[u8]` is Copy, so what it owns is had twice: once for book at exit, and once inside the result, beside the facts of at.
 -- Assumes nothing.
@@ -35,13 +35,13 @@ use denote.Triple.Spec.{Meets, tripleOf}
 use denote.Triple.Table.{entered}
 use denote.Triple.Walked.{says, Stays, stay-none, stay-none-slice, walkOf, goes-none, goes-none-slice, Walks, ends-at, walked, walk-meets}
 use denote.Exit.{yes}
-use Rattle.records.specs.declared.Reader.{Reader}
-use Rattle.records.proofs.Reader as T
-use Rattle.records.proofs.Reader.Laws as T′
-use Rattle.records.proofs.stand.Key.{name as #records·stand}
-use Rattle.records.proofs.stand as stand
-use Rattle.records.proofs.stand.Statement as stated
-use Rattle.records.proofs.stand.Code as code
+use Rattle.reader.specs.declared.Reader.{Reader}
+use Rattle.reader.proofs.Reader as T
+use Rattle.reader.proofs.Reader.Laws as T′
+use Rattle.reader.proofs.stand.Key.{name as #reader·stand}
+use Rattle.reader.proofs.stand as stand
+use Rattle.reader.proofs.stand.Statement as stated
+use Rattle.reader.proofs.stand.Code as code
 
 abbrev stayed : Stays (stand.ended .signature .params) (stand.ended .kept)
 stayed = (stay-none-slice (0 ∷ []) tt (plain (λ _. u8)) yes, (stay-none (λ _. u16) yes, tt))
@@ -121,5 +121,5 @@ pub stand-spec : {M : Type 1} → stated.statement M
 unfolding code.routine tablesOf
 stand-spec 𝓤 H 𝓜 𝓖 𝓡 =
     entered 𝓤 H (tripleOf 𝓤 H (𝓖 .A) stand.signature (stand.spec 𝓤 H (𝓖 .A) (𝓜 .mem) (𝓡 .run)))
-    (tables 𝓤 H 𝓜 𝓡 code.env .C) (tables 𝓤 H 𝓜 𝓡 code.env .Λ) #records·stand code.function (code.unfolded 𝓤 H 𝓜 𝓡)
+    (tables 𝓤 H 𝓜 𝓡 code.env .C) (tables 𝓤 H 𝓜 𝓡 code.env .Λ) #reader·stand code.function (code.unfolded 𝓤 H 𝓜 𝓡)
     (stand-meets 𝓤 H (𝓖 .A) (givenOf 𝓤 H 𝓜 𝓖) (𝓜 .mem) (𝓡 .run) (tablesOf 𝓤 H 𝓜 (tables 𝓤 H 𝓜 𝓡 code.env)))

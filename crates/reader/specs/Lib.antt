@@ -1,0 +1,1 @@
+-- The reader has no definitions of its own: its promises are those of the records.
