@@ -1,6 +1,6 @@
--- Demand 3 in the textbook's words, of any list of rules and whatever plan it is promised: impossible, unlimited and best exactly when they are so over all pairs of
--- fractions, of any size; the pair, the direction, the place and the witness; and the bounds of numbers and counts. Each theorem takes `PlannedAs` and, where it
--- speaks of a witness's codes or of ranges, that the rules are named and in range.
+-- Demand 3 in the textbook's words, of any list of rules and whatever plan it is promised: impossible, unlimited and best exactly when
+-- they are so over all pairs of fractions, of any size; the pair, the direction, the place and the witness; and the bounds of numbers and
+-- counts. Each theorem takes `PlannedAs` and, where it speaks of a witness's codes or of ranges, that the rules are named and in range.
 use mathlib.Core.Path.{_≡_, sym, _∙_, subst}
 use mathlib.Core.List.{List}
 use mathlib.Core.Logic.{_↔_}

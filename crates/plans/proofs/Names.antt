@@ -57,7 +57,8 @@ second-in k u = named-here (k .second) (k .«second_weight») (weighted (k .thir
 
 third-in : (k : Certificate) → Used (k .«third_weight») → List·Memᴰ (entry (k .third) (k .«third_weight»)) (later k)
 third-in k u =
-    named-later (entry (k .third) (k .«third_weight»)) (k .second) (k .«second_weight») (weighted (k .third) (k .«third_weight»)) (named-last (k .third) (k .«third_weight») u)
+    named-later (entry (k .third) (k .«third_weight»)) (k .second) (k .«second_weight») (weighted (k .third) (k .«third_weight»))
+    (named-last (k .third) (k .«third_weight») u)
 
 -- each place in use is named
 pub slots-named : (k : Certificate) → Slots (λ e w. List·Memᴰ (entry e w) (named k)) k
@@ -103,7 +104,8 @@ one-to-three k u =
     let c : List Weighted = weighted (k .third) (k .«third_weight») in
     let one : length a ≡ 1 = just-one (k .first) (k .«first_weight») u in (
       omega (arith, one, length-append a (b ++ c)),
-      omega (arith, one, length-append a (b ++ c), length-append b c, at-most-one (k .second) (k .«second_weight»), at-most-one (k .third) (k .«third_weight»)),
+      omega
+          (arith, one, length-append a (b ++ c), length-append b c, at-most-one (k .second) (k .«second_weight»), at-most-one (k .third) (k .«third_weight»)),
     )
 
 -- ---- the parts of the test
@@ -118,11 +120,14 @@ first-three a b c d e f g h t =
 module _ (S : List Constraint) (l : List Weighted) (t : T (certifies S l)) where
   abbrev shaped : T (ltb 0 (length l) && leb (length l) 3 && distinct l)
   shaped =
-      first-three (ltb 0 (length l)) (leb (length l) 3) (distinct l) (every (λ w. ltb (w .entry) (length S)) l) (every (λ w. leZ (pos 1) (w .weight) && leZ (w .weight) greatestWeight) l) (isZero (total (λ r. r .a) S l)) (isZero (total (λ r. r .b) S l)) (ltZ (total (λ r. r .c) S l) (pos 0)) t
+      first-three (ltb 0 (length l)) (leb (length l) 3) (distinct l) (every (λ w. ltb (w .entry) (length S)) l)
+      (every (λ w. leZ (pos 1) (w .weight) && leZ (w .weight) greatestWeight) l) (isZero (total (λ r. r .a) S l))
+      (isZero (total (λ r. r .b) S l)) (ltZ (total (λ r. r .c) S l) (pos 0)) t
 
   some-named : 0 < length l
   some-named =
-      ltb→lt 0 (length l) (and-left (ltb 0 (length l)) (leb (length l) 3) (and-left (ltb 0 (length l) && leb (length l) 3) (distinct l) shaped))
+      ltb→lt 0 (length l)
+      (and-left (ltb 0 (length l)) (leb (length l) 3) (and-left (ltb 0 (length l) && leb (length l) 3) (distinct l) shaped))
 
   all-apart : T (distinct l)
   all-apart = and-right (ltb 0 (length l) && leb (length l) 3) (distinct l) shaped
@@ -181,20 +186,30 @@ module _ (names : List ℕ) (rules : List Constraint) (n : Named names rules) wh
     -- the first is apart from the others
     first-from : Used (c .«first_weight») → (i : ℕ) (w : ℤ) → List·Memᴰ (entry i w) (later c) → c .first ≡ i → ⊥
     first-from u i w m =
-        unequal (c .first) i (every-at (λ x. not (eqb (c .first) (x .entry))) (later c) (others (c .first) (c .«first_weight») (later c) u (all-apart S (named c) valid)) (entry i w) m)
+        unequal (c .first) i
+        (every-at (λ x. not (eqb (c .first) (x .entry))) (later c) (others (c .first) (c .«first_weight») (later c) u (all-apart S (named c) valid)) (entry i w) m)
 
     second-from : Used (c .«second_weight») → Used (c .«third_weight») → c .second ≡ c .third → ⊥
     second-from u v =
         unequal (c .second) (c .third)
         (every-at (λ x. not (eqb (c .second) (x .entry))) (weighted (c .third) (c .«third_weight»))
-        (others (c .second) (c .«second_weight») (weighted (c .third) (c .«third_weight»)) u (rest (c .first) (c .«first_weight») (later c) (all-apart S (named c) valid))) (entry (c .third) (c .«third_weight»)) (named-last (c .third) (c .«third_weight») v))
+        (others (c .second) (c .«second_weight») (weighted (c .third) (c .«third_weight»)) u (rest (c .first) (c .«first_weight») (later c) (all-apart S (named c) valid)))
+        (entry (c .third) (c .«third_weight»)) (named-last (c .third) (c .«third_weight») v))
 
     -- a valid certificate names some entry, and no two by the same code
     pub coded-apart : Apart (coded names c)
     coded-apart =
         record {
-          some = λ x y z. omega (arith, some-named S (named c) valid, length-append (weighted (c .first) (c .«first_weight»)) (later c), length-append (weighted (c .second) (c .«second_weight»)) (weighted (c .third) (c .«third_weight»)), not-named (c .first) (c .«first_weight») x, not-named (c .second) (c .«second_weight») y, not-named (c .third) (c .«third_weight») z);
-          first-second = λ u v. two-codes (c .first) (c .second) (c .«first_weight») (c .«second_weight») (slots-named c .first u) (slots-named c .second v) u v (first-from u (c .second) (c .«second_weight») (second-in c v));
-          first-third = λ u v. two-codes (c .first) (c .third) (c .«first_weight») (c .«third_weight») (slots-named c .first u) (slots-named c .third v) u v (first-from u (c .third) (c .«third_weight») (third-in c v));
-          second-third = λ u v. two-codes (c .second) (c .third) (c .«second_weight») (c .«third_weight») (slots-named c .second u) (slots-named c .third v) u v (second-from u v);
+          some =
+              λ x y z. omega
+              (arith, some-named S (named c) valid, length-append (weighted (c .first) (c .«first_weight»)) (later c), length-append (weighted (c .second) (c .«second_weight»)) (weighted (c .third) (c .«third_weight»)), not-named (c .first) (c .«first_weight») x, not-named (c .second) (c .«second_weight») y, not-named (c .third) (c .«third_weight») z);
+          first-second =
+              λ u v. two-codes (c .first) (c .second) (c .«first_weight») (c .«second_weight») (slots-named c .first u)
+              (slots-named c .second v) u v (first-from u (c .second) (c .«second_weight») (second-in c v));
+          first-third =
+              λ u v. two-codes (c .first) (c .third) (c .«first_weight») (c .«third_weight») (slots-named c .first u)
+              (slots-named c .third v) u v (first-from u (c .third) (c .«third_weight») (third-in c v));
+          second-third =
+              λ u v. two-codes (c .second) (c .third) (c .«second_weight») (c .«third_weight») (slots-named c .second u)
+              (slots-named c .third v) u v (second-from u v);
         }

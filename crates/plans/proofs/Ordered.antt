@@ -1,5 +1,5 @@
--- A witness's entries are in the printed order: no entry goes before the one ahead of it, so used entries come first and their codes rise. Where no two used
--- entries have one code, they rise strictly: none is named twice.
+-- A witness's entries are in the printed order: no entry goes before the one ahead of it, so used entries come first and their codes
+-- rise. Where no two used entries have one code, they rise strictly: none is named twice.
 use mathlib.Core.Path.{_≡_, refl, sym, subst}
 use mathlib.Core.Bool.{Bool, true, false, not, _&&_, _||_}
 use Prim.Native.Nat.{ℕ, _≤_, _<_}
@@ -25,7 +25,10 @@ not-both true e z′ e′ t = absurd t
 not-both false e true e′ t = tt
 not-both false e false e′ t = not-T (ltb e′ e) (λ u. omega (arith, ltb→lt e e′ t, ltb→lt e′ e u))
 
-through : (za : Bool) (ea : ℕ) (zb : Bool) (eb : ℕ) (zc : Bool) (ec : ℕ) → T (not (before zb eb za ea)) → T (not (before zc ec zb eb)) → T (not (before zc ec za ea))
+through : (za : Bool) (ea : ℕ) (zb : Bool) (eb : ℕ) (zc : Bool) (ec : ℕ) →
+    T (not (before zb eb za ea)) →
+    T (not (before zc ec zb eb)) →
+    T (not (before zc ec za ea))
 through za ea zb eb true ec p q = tt
 through za ea true eb false ec p q = absurd q
 through true ea false eb false ec p q = absurd p
@@ -45,7 +48,9 @@ one-three k = T (not (goesBefore (k .third) (k .«third_weight») (k .first) (k 
 first-in-order : (k : Certificate) → one-two (orderFirst k)
 first-in-order k = go (goesBefore (k .second) (k .«second_weight») (k .first) (k .«first_weight»)) refl
   where
-    go : (b : Bool) → goesBefore (k .second) (k .«second_weight») (k .first) (k .«first_weight») ≡ b → one-two (elim b [ true ↦ record { first = k .second; «first_weight» = k .«second_weight»; second = k .first; «second_weight» = k .«first_weight»; third = k .third; «third_weight» = k .«third_weight» } | false ↦ k ])
+    go : (b : Bool) →
+        goesBefore (k .second) (k .«second_weight») (k .first) (k .«first_weight») ≡ b →
+        one-two (elim b [ true ↦ record { first = k .second; «first_weight» = k .«second_weight»; second = k .first; «second_weight» = k .«first_weight»; third = k .third; «third_weight» = k .«third_weight» } | false ↦ k ])
     go true e =
         not-both (isZero (k .«second_weight»)) (k .second) (isZero (k .«first_weight»)) (k .first) (subst T (sym e) tt)
     go false e = subst (λ b. T (not b)) (sym e) tt
@@ -54,19 +59,23 @@ first-in-order k = go (goesBefore (k .second) (k .«second_weight») (k .first) 
 greatest-last : (k : Certificate) → one-two k → two-three (orderLast k) × one-three (orderLast k)
 greatest-last k h = go (goesBefore (k .third) (k .«third_weight») (k .second) (k .«second_weight»)) refl
   where
-    go : (b : Bool) → goesBefore (k .third) (k .«third_weight») (k .second) (k .«second_weight») ≡ b → two-three (elim b [ true ↦ record { first = k .first; «first_weight» = k .«first_weight»; second = k .third; «second_weight» = k .«third_weight»; third = k .second; «third_weight» = k .«second_weight» } | false ↦ k ]) × one-three (elim b [ true ↦ record { first = k .first; «first_weight» = k .«first_weight»; second = k .third; «second_weight» = k .«third_weight»; third = k .second; «third_weight» = k .«second_weight» } | false ↦ k ])
+    go : (b : Bool) →
+        goesBefore (k .third) (k .«third_weight») (k .second) (k .«second_weight») ≡ b →
+        two-three (elim b [ true ↦ record { first = k .first; «first_weight» = k .«first_weight»; second = k .third; «second_weight» = k .«third_weight»; third = k .second; «third_weight» = k .«second_weight» } | false ↦ k ]) × one-three (elim b [ true ↦ record { first = k .first; «first_weight» = k .«first_weight»; second = k .third; «second_weight» = k .«third_weight»; third = k .second; «third_weight» = k .«second_weight» } | false ↦ k ])
     go true e =
         (not-both (isZero (k .«third_weight»)) (k .third) (isZero (k .«second_weight»)) (k .second) (subst T (sym e) tt), h)
     go false e = (
       subst (λ b. T (not b)) (sym e) tt,
-      through (isZero (k .«first_weight»)) (k .first) (isZero (k .«second_weight»)) (k .second) (isZero (k .«third_weight»)) (k .third) h (subst (λ b. T (not b)) (sym e) tt),
+      through (isZero (k .«first_weight»)) (k .first) (isZero (k .«second_weight»)) (k .second) (isZero (k .«third_weight»)) (k .third) h
+          (subst (λ b. T (not b)) (sym e) tt),
     )
 
 -- and stays last when the first two are put in order
 last-stays : (k : Certificate) → two-three k → one-three k → two-three (orderFirst k)
 last-stays k p q = go (goesBefore (k .second) (k .«second_weight») (k .first) (k .«first_weight»))
   where
-    go : (b : Bool) → two-three (elim b [ true ↦ record { first = k .second; «first_weight» = k .«second_weight»; second = k .first; «second_weight» = k .«first_weight»; third = k .third; «third_weight» = k .«third_weight» } | false ↦ k ])
+    go : (b : Bool) →
+        two-three (elim b [ true ↦ record { first = k .second; «first_weight» = k .«second_weight»; second = k .first; «second_weight» = k .«first_weight»; third = k .third; «third_weight» = k .«third_weight» } | false ↦ k ])
     go true = q
     go false = p
 
@@ -74,7 +83,9 @@ pub rising-in-order : (k : Certificate) → InOrder (rising k)
 rising-in-order k =
     record {
       first-two = first-in-order (orderLast (orderFirst k));
-      last-two = last-stays (orderLast (orderFirst k)) (greatest-last (orderFirst k) (first-in-order k) .0) (greatest-last (orderFirst k) (first-in-order k) .1);
+      last-two =
+          last-stays (orderLast (orderFirst k)) (greatest-last (orderFirst k) (first-in-order k) .0)
+          (greatest-last (orderFirst k) (first-in-order k) .1);
     }
 
 -- ---- what neither exchange changes, putting in order does not
@@ -85,7 +96,8 @@ firstExchanged k = certificate (k .second) (k .«second_weight») (k .first) (k 
 abbrev pub lastExchanged : Certificate → Certificate
 lastExchanged k = certificate (k .first) (k .«first_weight») (k .third) (k .«third_weight») (k .second) (k .«second_weight»)
 
-module _ (Q : Certificate → Type 0) (first : (k : Certificate) → Q k → Q (firstExchanged k)) (last : (k : Certificate) → Q k → Q (lastExchanged k)) where
+module _ (Q : Certificate → Type 0) (first : (k : Certificate) → Q k → Q (firstExchanged k))
+    (last : (k : Certificate) → Q k → Q (lastExchanged k)) where
   first-keeps : (k : Certificate) → Q k → Q (orderFirst k)
   first-keeps k h = go (goesBefore (k .second) (k .«second_weight») (k .first) (k .«first_weight»))
     where
@@ -147,7 +159,11 @@ ahead true e false e′ t u = absurd t
 ahead false e false e′ t u = (tt, nltb→le e′ e t)
 
 -- and where some are in use the first is
-in-use : (za : Bool) (ea : ℕ) (zb : Bool) (eb : ℕ) (zc : Bool) (ec : ℕ) → T (not (before zb eb za ea)) → T (not (before zc ec zb eb)) → (T za → T zb → T zc → ⊥) → T (not za)
+in-use : (za : Bool) (ea : ℕ) (zb : Bool) (eb : ℕ) (zc : Bool) (ec : ℕ) →
+    T (not (before zb eb za ea)) →
+    T (not (before zc ec zb eb)) →
+    (T za → T zb → T zc → ⊥) →
+    T (not za)
 in-use false ea zb eb zc ec p q h = tt
 in-use true ea true eb true ec p q h = absurd (h tt tt tt)
 in-use true ea true eb false ec p q h = absurd q
@@ -159,7 +175,9 @@ below m n h d = omega arith
 none-twice : (k : Certificate) → InOrder k → Apart k → NoneTwice k
 none-twice k r h =
     record {
-      first-used = in-use (isZero (k .«first_weight»)) (k .first) (isZero (k .«second_weight»)) (k .second) (isZero (k .«third_weight»)) (k .third) (r .first-two) (r .last-two) (h .some);
+      first-used =
+          in-use (isZero (k .«first_weight»)) (k .first) (isZero (k .«second_weight»)) (k .second) (isZero (k .«third_weight»)) (k .third)
+          (r .first-two) (r .last-two) (h .some);
       second-above = λ u. below (k .first) (k .second) (one u .1) (h .first-second (one u .0) u);
       third-above = λ u. (two u .0, below (k .second) (k .third) (two u .1) (h .second-third (two u .0) u));
     }

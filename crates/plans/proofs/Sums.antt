@@ -1,5 +1,5 @@
--- A witness as it is handed over adds up: looked up by code, its entries with their weights sum to what the certificate by index sums to. Naming entries
--- changes no product, putting them in order changes no sum, and an entry that is not in use adds 0.
+-- A witness as it is handed over adds up: looked up by code, its entries with their weights sum to what the certificate by index sums to.
+-- Naming entries changes no product, putting them in order changes no sum, and an entry that is not in use adds 0.
 use mathlib.Core.Path.{_≡_, refl, sym, _∙_, ap, ap₂, subst}
 use mathlib.Core.List.{List, [], _∷_, _++_, List·Memᴰ, List·Memᴰ·not-nil, append-nil}
 use mathlib.Core.Bool.{Bool, true, false, not}
@@ -34,7 +34,8 @@ module _ (value : ℕ → ℤ) where
   three k =
       k .«first_weight» *ℤ value (k .first) +ℤ (k .«second_weight» *ℤ value (k .second) +ℤ (k .«third_weight» *ℤ value (k .third) +ℤ pos 0))
 
-  module _ (sum : List Weighted → ℤ) (empty : sum [] ≡ pos 0) (more : (w : Weighted) (l : List Weighted) → sum (w ∷ l) ≡ w .weight *ℤ value (w .entry) +ℤ sum l) where
+  module _ (sum : List Weighted → ℤ) (empty : sum [] ≡ pos 0)
+      (more : (w : Weighted) (l : List Weighted) → sum (w ∷ l) ≡ w .weight *ℤ value (w .entry) +ℤ sum l) where
     one : (e : ℕ) (w : ℤ) (l : List Weighted) → sum (weighted e w ++ l) ≡ w *ℤ value e +ℤ sum l
     one e (pos zero) l = ring 2 (λ x t. t ≐ con (pos 0) ⊗ x ⊕ t) refl (value e) (sum l)
     one e (pos (suc n)) l = more (entry e (pos (suc n))) l
@@ -54,12 +55,14 @@ module _ (value : ℕ → ℤ) where
   -- the order of the places is free
   first-sum : (z : ℤ) (k : Certificate) → three k ≡ z → three (firstExchanged k) ≡ z
   first-sum z k e =
-      ring 3 (λ x y z. y ⊕ (x ⊕ (z ⊕ con (pos 0))) ≐ x ⊕ (y ⊕ (z ⊕ con (pos 0)))) refl (k .«first_weight» *ℤ value (k .first)) (k .«second_weight» *ℤ value (k .second)) (k .«third_weight» *ℤ value (k .third))
+      ring 3 (λ x y z. y ⊕ (x ⊕ (z ⊕ con (pos 0))) ≐ x ⊕ (y ⊕ (z ⊕ con (pos 0)))) refl (k .«first_weight» *ℤ value (k .first))
+      (k .«second_weight» *ℤ value (k .second)) (k .«third_weight» *ℤ value (k .third))
       ∙ e
 
   last-sum : (z : ℤ) (k : Certificate) → three k ≡ z → three (lastExchanged k) ≡ z
   last-sum z k e =
-      ring 3 (λ x y z. x ⊕ (z ⊕ (y ⊕ con (pos 0))) ≐ x ⊕ (y ⊕ (z ⊕ con (pos 0)))) refl (k .«first_weight» *ℤ value (k .first)) (k .«second_weight» *ℤ value (k .second)) (k .«third_weight» *ℤ value (k .third))
+      ring 3 (λ x y z. x ⊕ (z ⊕ (y ⊕ con (pos 0))) ≐ x ⊕ (y ⊕ (z ⊕ con (pos 0)))) refl (k .«first_weight» *ℤ value (k .first))
+      (k .«second_weight» *ℤ value (k .second)) (k .«third_weight» *ℤ value (k .third))
       ∙ e
 
   rising-sum : (k : Certificate) → three (rising k) ≡ three k
@@ -73,7 +76,8 @@ module _ (records : List ℕ) (value value′ : ℕ → ℤ) where
       go : (b : Bool) → isZero w ≡ b → w *ℤ value′ (codeOf records e w) ≡ w *ℤ value e
       go true q =
           let z : w ≡ pos 0 = is-zero w (subst T (sym q) tt) in
-          ap (λ u. u *ℤ value′ (codeOf records e w)) z ∙ zero-*ℤ (value′ (codeOf records e w)) ∙ sym (ap (λ u. u *ℤ value e) z ∙ zero-*ℤ (value e))
+          ap (λ u. u *ℤ value′ (codeOf records e w)) z ∙ zero-*ℤ (value′ (codeOf records e w)) ∙ sym
+          (ap (λ u. u *ℤ value e) z ∙ zero-*ℤ (value e))
       go false q =
           let u : Used w = subst (λ b. T (not b)) (sym q) tt in
           ap (λ c. w *ℤ value′ c) (code-used records e w u) ∙ ap (λ z. w *ℤ z) (same u)
@@ -92,7 +96,8 @@ above-zero n = not-T (isZero (pos (suc n))) (λ z. clashℤ (pos-nat n) (le-of-e
 module _ (P : ℕ → ℤ → Type 0) where
   rising-slots : (k : Certificate) → Slots P k → Slots P (rising k)
   rising-slots =
-      rising-keeps (Slots P) (λ k h. record { first = h .second; second = h .first; third = h .third }) (λ k h. record { first = h .first; second = h .third; third = h .second })
+      rising-keeps (Slots P) (λ k h. record { first = h .second; second = h .first; third = h .third })
+      (λ k h. record { first = h .first; second = h .third; third = h .second })
 
   coded-slots : (records : List ℕ) (k : Certificate) → Slots (λ e w. P (codeAt records e) w) k → Slots P (coded records k)
   coded-slots records k h =
@@ -105,7 +110,12 @@ module _ (P : ℕ → ℤ → Type 0) where
   abbrev Of : Weighted → Type 0
   Of x = P (x .entry) (x .weight)
 
-  of-one : (e : ℕ) (w : ℤ) (l : List Weighted) → (Used w → P e w) → ((x : Weighted) → List·Memᴰ x l → Of x) → (x : Weighted) → List·Memᴰ x (weighted e w ++ l) → Of x
+  of-one : (e : ℕ) (w : ℤ) (l : List Weighted) →
+      (Used w → P e w) →
+      ((x : Weighted) → List·Memᴰ x l → Of x) →
+      (x : Weighted) →
+      List·Memᴰ x (weighted e w ++ l) →
+      Of x
   of-one e (pos zero) l h others = others
   of-one e (pos (suc n)) l h others = for-members Of (entry e (pos (suc n))) l (h (above-zero n)) others
   of-one e (negsuc n) l h others = for-members Of (entry e (negsuc n)) l (h tt) others
@@ -116,7 +126,8 @@ module _ (P : ℕ → ℤ → Type 0) where
 
   of-named : (k : Certificate) → Slots P k → (x : Weighted) → List·Memᴰ x (named k) → Of x
   of-named k h =
-      of-one (k .first) (k .«first_weight») (weighted (k .second) (k .«second_weight») ++ weighted (k .third) (k .«third_weight»)) (h .first)
+      of-one (k .first) (k .«first_weight») (weighted (k .second) (k .«second_weight») ++ weighted (k .third) (k .«third_weight»))
+      (h .first)
       (of-one (k .second) (k .«second_weight») (weighted (k .third) (k .«third_weight»)) (h .second) (of-last (k .third) (k .«third_weight») (h .third)))
 
 -- ---- a list of rules with a name for each
@@ -141,58 +152,59 @@ module _ (t : Terms) (names : List ℕ) (rules : List Constraint) (n : Named nam
   index-codes (suc (suc j)) h = rule j (low j h) (high j h)
 
   -- the code of an index stands for what is there
-  module _ (looked : (i : ℕ) → i < length S → look (codeAt names i) ≡ getD S i none) (w : Certificate) (proof : Proves t names rules k w) where
-    abbrev c : Certificate
-    c = proof .certificate
+  module _ (looked : (i : ℕ) → i < length S → look (codeAt names i) ≡ getD S i none) (w : Certificate) (proof : Proves t names rules k w)
+    where
+      abbrev c : Certificate
+      c = proof .certificate
 
-    refutes : Refutes S (named c)
-    refutes = certificate-refutes S (named c) (proof .valid)
+      refutes : Refutes S (named c)
+      refutes = certificate-refutes S (named c) (proof .valid)
 
-    -- a fact of the entries that c names is one of its places in use
-    slots-of : (P : ℕ → ℤ → Type 0) → ((x : Weighted) → List·Memᴰ x (named c) → P (x .entry) (x .weight)) → Slots P c
-    slots-of P h =
-        record {
-          first = λ u. h (entry (c .first) (c .«first_weight»)) (slots-named c .first u);
-          second = λ u. h (entry (c .second) (c .«second_weight»)) (slots-named c .second u);
-          third = λ u. h (entry (c .third) (c .«third_weight»)) (slots-named c .third u);
-        }
+      -- a fact of the entries that c names is one of its places in use
+      slots-of : (P : ℕ → ℤ → Type 0) → ((x : Weighted) → List·Memᴰ x (named c) → P (x .entry) (x .weight)) → Slots P c
+      slots-of P h =
+          record {
+            first = λ u. h (entry (c .first) (c .«first_weight»)) (slots-named c .first u);
+            second = λ u. h (entry (c .second) (c .«second_weight»)) (slots-named c .second u);
+            third = λ u. h (entry (c .third) (c .«third_weight»)) (slots-named c .third u);
+          }
 
-    of-witness : (P : ℕ → ℤ → Type 0) →
-        ((x : Weighted) → List·Memᴰ x (named c) → P (codeAt names (x .entry)) (x .weight)) →
-        (x : Weighted) →
-        List·Memᴰ x (named w) →
-        P (x .entry) (x .weight)
-    of-witness P h =
-        subst (λ v. (x : Weighted) → List·Memᴰ x (named v) → P (x .entry) (x .weight)) (sym (proof .same-entries))
-        (of-named P (rising (coded names c))
-        (rising-slots P (coded names c) (coded-slots P names c (slots-of (λ i u. P (codeAt names i) u) h))))
+      of-witness : (P : ℕ → ℤ → Type 0) →
+          ((x : Weighted) → List·Memᴰ x (named c) → P (codeAt names (x .entry)) (x .weight)) →
+          (x : Weighted) →
+          List·Memᴰ x (named w) →
+          P (x .entry) (x .weight)
+      of-witness P h =
+          subst (λ v. (x : Weighted) → List·Memᴰ x (named v) → P (x .entry) (x .weight)) (sym (proof .same-entries))
+          (of-named P (rising (coded names c))
+          (rising-slots P (coded names c) (coded-slots P names c (slots-of (λ i u. P (codeAt names i) u) h))))
 
-    same-sum : (part : Constraint → ℤ) → sumOf look part (named w) ≡ total part S (named c)
-    same-sum part =
-        ap (λ v. sumOf look part (named v)) (proof .same-entries)
-        ∙ sum-of-three named-value (sumOf look part) refl (λ x l. refl) (rising (coded names c))
-        ∙ rising-sum named-value (coded names c)
-        ∙ coded-sum names index-value named-value c same
-        ∙ sym (sum-of-three index-value (total part S) refl (λ x l. refl) c)
-      where
-        named-value : ℕ → ℤ
-        named-value i = part (look i)
+      same-sum : (part : Constraint → ℤ) → sumOf look part (named w) ≡ total part S (named c)
+      same-sum part =
+          ap (λ v. sumOf look part (named v)) (proof .same-entries)
+          ∙ sum-of-three named-value (sumOf look part) refl (λ x l. refl) (rising (coded names c))
+          ∙ rising-sum named-value (coded names c)
+          ∙ coded-sum names index-value named-value c same
+          ∙ sym (sum-of-three index-value (total part S) refl (λ x l. refl) c)
+        where
+          named-value : ℕ → ℤ
+          named-value i = part (look i)
 
-        index-value : ℕ → ℤ
-        index-value i = part (getD S i none)
+          index-value : ℕ → ℤ
+          index-value i = part (getD S i none)
 
-        same : Slots (λ i u. named-value (codeAt names i) ≡ index-value i) c
-        same =
-            slots-of (λ i u. named-value (codeAt names i) ≡ index-value i)
-            (λ x i. ap part (looked (x .entry) (refutes .sound x i .entered)))
+          same : Slots (λ i u. named-value (codeAt names i) ≡ index-value i) c
+          same =
+              slots-of (λ i u. named-value (codeAt names i) ≡ index-value i)
+              (λ x i. ap part (looked (x .entry) (refutes .sound x i .entered)))
 
-    pub witness-adds-up : AddsUp look names k w
-    witness-adds-up =
-        record {
-          entries = of-witness (λ i u. Codes names k i) (λ x i. index-codes (x .entry) (refutes .sound x i .entered));
-          weights =
-              of-witness (λ i u. (pos 1 ≤ᶻ u) × (u ≤ᶻ greatestWeight)) (λ x i. certificate-weights S (named c) (proof .valid) x i);
-          cancels-a = same-sum (λ r. r .a) ∙ refutes .cancels-a;
-          cancels-b = same-sum (λ r. r .b) ∙ refutes .cancels-b;
-          falls = subst (λ z. z <ᶻ pos 0) (sym (same-sum (λ r. r .c))) (refutes .falls);
-        }
+      pub witness-adds-up : AddsUp look names k w
+      witness-adds-up =
+          record {
+            entries = of-witness (λ i u. Codes names k i) (λ x i. index-codes (x .entry) (refutes .sound x i .entered));
+            weights =
+                of-witness (λ i u. (pos 1 ≤ᶻ u) × (u ≤ᶻ greatestWeight)) (λ x i. certificate-weights S (named c) (proof .valid) x i);
+            cancels-a = same-sum (λ r. r .a) ∙ refutes .cancels-a;
+            cancels-b = same-sum (λ r. r .b) ∙ refutes .cancels-b;
+            falls = subst (λ z. z <ᶻ pos 0) (sym (same-sum (λ r. r .c))) (refutes .falls);
+          }

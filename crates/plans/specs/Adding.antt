@@ -1,5 +1,6 @@
--- What a partner adds up: each entry that a witness names is looked up, as it is planned, and multiplied by its weight. A code is a floor's, 0 or 1, or one more
--- than a rule's name; what it stands for is looked up where the rules come from, so that is a parameter here.
+-- What a partner adds up: each entry that a witness names is looked up, as it is planned, and multiplied by its weight. A code is a
+-- floor's, 0 or 1, or one more than a rule's name; what it stands for is looked up where the rules come from, so that is a parameter
+-- here.
 use mathlib.Core.Path.{_≡_}
 use mathlib.Core.List.{List, [], _∷_, List·Memᴰ}
 use Prim.Native.Nat.{ℕ, _+_, _<_}

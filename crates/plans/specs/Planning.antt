@@ -1,5 +1,5 @@
--- What a list of rules is planned as: document 01's answer. Everything but the witness is equated with a defined value; the witness is any that proves the
--- conflict. Each rule has a name, by which a witness speaks of it; in a single book that is the index of its record.
+-- What a list of rules is planned as: document 01's answer. Everything but the witness is equated with a defined value; the witness is
+-- any that proves the conflict. Each rule has a name, by which a witness speaks of it; in a single book that is the index of its record.
 use mathlib.Core.Path.{_≡_}
 use mathlib.Core.List.{List}
 use Prim.Native.Nat.{ℕ, _≤_, _<_}
