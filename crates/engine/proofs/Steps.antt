@@ -3,9 +3,11 @@
 use mathlib.Core.Path.{_≡_, refl, sym, _∙_, ap, ap₂, subst}
 use mathlib.Core.List.{List, [], _∷_}
 use mathlib.Core.Bool.{Bool, true, false, not, _&&_}
-use Prim.Native.Nat.{ℕ, _+_, _-_}
+use Prim.Native.Nat.{ℕ, _+_, _-_, _^_, _<_}
 use lib.IntN.{ℤ, pos}
-use lib.Signed.{ltZ}
+use lib.Signed.{ltZ, mag}
+use Rattle.ints.proofs.Bits.{read}
+use Rattle.fraction.proofs.Quotients.{unread}
 use Rattle.lp.specs.declared.Constraint.{Constraint}
 use Rattle.lp.specs.declared.Functional.{Functional}
 use Rattle.lp.specs.declared.Tie.{Tie}
@@ -65,6 +67,23 @@ cone-rays s e = subst SmallCone e s
 
 pub best-point : {b : Best} → SmallBest b → {v : Point} → b ≡ best.At v → SmallPoint v
 best-point s e = subst SmallBest e s
+
+-- a point whose numbers were read one by one
+pub same-point :
+    (v : Point) →
+    mag (v .x) < 2 ^ 63 →
+    mag (v .y) < 2 ^ 63 →
+    mag (v .d) < 2 ^ 63 →
+    record { x = read (v .x); y = read (v .y); d = read (v .d) } ≡ v
+same-point v hx hy hd i = record { x = unread {z = v .x} hx i; y = unread {z = v .y} hy i; d = unread {z = v .d} hd i }
+
+-- whether the best pair keeps a constraint, from whether it breaks it
+kept-of : (k : Bool) (t : Bool) → t ≡ elim k [ true ↦ false | false ↦ true ] → k ≡ not t
+kept-of true t e = ap not (sym e)
+kept-of false t e = ap not (sym e)
+
+pub asked-keeps : (h : Constraint) {b : Best} {t : Bool} → t ≡ breaks h b → {v : Point} → b ≡ best.At v → keeps h v ≡ not t
+asked-keeps h {b} {t} a {v} e = kept-of (keeps h v) t (a ∙ ap (breaks h) e)
 
 pub state-parts :
     {w : State} →

@@ -1,6 +1,7 @@
 -- What the engine's private functions ask of numbers, one record for each: that they are within document 01's bounds. No function that is
 -- called from outside asks anything.
 use mathlib.Core.Path.{_≡_}
+use mathlib.Core.Bool.{Bool}
 use mathlib.Core.List.{List}
 use Prim.Native.Nat.{ℕ, _+_, _*_, _^_, _≤_, _<_}
 use lib.ListN.{length}
@@ -17,6 +18,7 @@ use Rattle.model.specs.declared.Found.{Found}
 use Rattle.model.specs.declared.Cone.{Cone}
 use Rattle.model.specs.declared.Best.{Best}
 use Rattle.model.specs.declared.Walk.{Walk}
+use Rattle.model.specs.Step.{breaks}
 use Rattle.model.specs.Bounds.{SmallPoint, SmallRay, SmallFound, SmallCone, SmallBest, SmallState}
 use Rattle.lp.specs.Range.{SmallConstraint, SmallFunctional, SmallTie, SmallFloors}
 use Rattle.engine.specs.declared.scan.Held.{Held}
@@ -117,10 +119,12 @@ pub record Moving (f : Functional) (t : Tie) (l : List ℤ) (n : ℕ) (h : Const
   pub objective : SmallFunctional f
   pub restarting : Restarting t l n h
 
-pub record Improving (f : Functional) (t : Tie) (l : List ℤ) (n : ℕ) (h : Constraint) (cone : Cone) (b : Best) : Type 0 where
+-- whether the best pair broke the constraint was found out before
+pub record Improving (f : Functional) (t : Tie) (l : List ℤ) (n : ℕ) (h : Constraint) (cone : Cone) (b : Best) (broken : Bool) : Type 0 where
   pub moving : Moving f t l n h
   pub rays : SmallCone cone
   pub best : SmallBest b
+  pub asked : broken ≡ breaks h b
 
 pub record Breaking (h : Constraint) (b : Best) : Type 0 where
   pub h-small : SmallConstraint h

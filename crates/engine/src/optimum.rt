@@ -32,6 +32,8 @@ fn moved(objective: Functional, tie: Tie, entries: &[i64], n: usize, h: Constrai
     }
 }
 
+// The best pair after one more constraint. Whether it broke the constraint is handed in, since the walk counts that too. A pair that stays
+// is put together from its numbers: so the walk's loop holds them in registers, where a copied pair goes through memory.
 pub fn improved(
     objective: Functional,
     tie: Tie,
@@ -40,8 +42,9 @@ pub fn improved(
     h: Constraint,
     cone: Cone,
     best: Best,
+    broken: bool,
 ) -> Best
-    requires { ⌜ Improving objective tie (now entries) n h cone best ⌝ }
+    requires { ⌜ Improving objective tie (now entries) n h cone best broken ⌝ }
     ensures { λ r. ⌜ r ≡ improvedOf (gainOrder objective tie) objective (entriesOf (now (entries .entry)) 0 n) h cone best ⌝ }
 {
     match best {
@@ -50,10 +53,14 @@ pub fn improved(
             Gain::Nowhere => Best::At(moved(objective, tie, entries, n, h)),
         },
         Best::At(v) => {
-            if keeps(h, v) {
-                Best::At(v)
-            } else {
+            if broken {
                 Best::At(moved(objective, tie, entries, n, h))
+            } else {
+                Best::At(Point {
+                    x: v.x,
+                    y: v.y,
+                    d: v.d,
+                })
             }
         }
     }

@@ -81,7 +81,7 @@ fn step(
     match start(tie, entries, n, h, s, kept) {
         Restart::Moved(p) => {
             let wedge = narrow(h, cone);
-            let next = improved(objective, tie, entries, n, h, wedge, best);
+            let next = improved(objective, tie, entries, n, h, wedge, best, broken);
             going(p, wedge, next, moves, opened, restarts)
         }
         Restart::Failed(c) => Walk {

@@ -36,6 +36,10 @@ pub most-rules : (v : Version) (s : List ℕ) → Few (layoutOf v) s 4095
 most-rules One s clear = omega (arith, count-small v1 s clear)
 most-rules Two s clear = omega (arith, count-small v2 s clear)
 
+-- nor one of version 1 more than 255
+pub few-of-one : (s : List ℕ) → Few v1 s 255
+few-of-one s clear = omega (arith, count-small v1 s clear)
+
 -- nor one of so many records' bytes more than one record less
 few-of-width : (v : Version) (s : List ℕ) (n : ℕ) → length s ≤ (n + 1) * width (layoutOf v) → Few (layoutOf v) s n
 few-of-width One s n h clear = omega (arith, h, count-is v1 s clear)

@@ -8,7 +8,7 @@ use answers::Answer;
 use answers::Refusal;
 use lp::Point;
 use records::Version;
-use told::tell;
+use told::tell_few;
 ghost use Rattle.records.specs.Layout.{v1};
 ghost use Rattle.planner.specs.Planning.{Answers};
 ghost use Rattle.planner.specs.Panel.{Panels};
@@ -28,7 +28,7 @@ pub fn plan(book: &[u8]) -> Answer
     ensures { λ r. ⌜ Answers v1 (now (book .entry)) r ⌝ }
 {
     let mut none = [0u8; 0];
-    tell(Version::One, book, 65535, false, &mut none).answer
+    tell_few(Version::One, book, 65535, false, &mut none).answer
 }
 
 // The lines of a book's panel, how far its best pair is from each rule, at the start of a buffer of at least 16,384 bytes, and how many bytes they have. A smaller
@@ -36,7 +36,7 @@ pub fn plan(book: &[u8]) -> Answer
 pub fn panel_lines(book: &[u8], out: &mut [u8]) -> usize
     ensures { λ r. ⌜ Panels v1 (now (book .entry)) (now (out .entry)) (now (out .exit)) r ⌝ }
 {
-    tell(Version::One, book, 65535, true, out).count
+    tell_few(Version::One, book, 65535, true, out).count
 }
 
 // The view of a book's first `prefix` rules, along its chain. A prefix longer than the chain is the whole chain.
@@ -44,5 +44,5 @@ pub fn start_after(book: &[u8], prefix: usize) -> StartView
     ensures { λ r. ⌜ Views v1 (now (book .entry)) prefix r ⌝ }
 {
     let mut none = [0u8; 0];
-    tell(Version::One, book, prefix, false, &mut none).view
+    tell_few(Version::One, book, prefix, false, &mut none).view
 }

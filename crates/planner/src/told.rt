@@ -135,15 +135,25 @@ fn width(version: Version) -> usize
     }
 }
 
+// Of one with 255 at most, as every book of version 1 is. What is asked of version 1 comes here straight: a function that also knows the
+// long runs has them in its frame, and takes as long to lay that out as a short book takes to be planned.
+pub fn tell_few(version: Version, book: &[u8], prefix: usize, panel: bool, out: &mut [u8]) -> Told
+    requires { ⌜ Few (layoutOf version) (now book) 255 ⌝ }
+    ensures { λ r. ⌜ Tells (layoutOf version) (now (book .entry)) prefix panel (now (out .entry)) r (now (out .exit)) ⌝ }
+{
+    if book.len() <= 31 * width(version) {
+        tell_short(version, book, prefix, panel, out)
+    } else {
+        tell_middle(version, book, prefix, panel, out)
+    }
+}
+
 // What is told of any bytes.
 pub fn tell(version: Version, book: &[u8], prefix: usize, panel: bool, out: &mut [u8]) -> Told
     ensures { λ r. ⌜ Tells (layoutOf version) (now (book .entry)) prefix panel (now (out .entry)) r (now (out .exit)) ⌝ }
 {
-    let bytes = width(version);
-    if book.len() <= 31 * bytes {
-        tell_short(version, book, prefix, panel, out)
-    } else if book.len() <= 256 * bytes {
-        tell_middle(version, book, prefix, panel, out)
+    if book.len() <= 256 * width(version) {
+        tell_few(version, book, prefix, panel, out)
     } else {
         tell_long(version, book, prefix, panel, out)
     }

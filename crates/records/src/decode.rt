@@ -39,18 +39,12 @@ fn beyond(x: i32) -> bool
     x < -1000000000 || x > 1000000000
 }
 
-// Cause 8; a record's padding must be clear.
+// Cause 8; a record's padding must be clear. The tests are joined without a branch, since nobody can foresee a rule's kind.
 fn bad_kind(clear: bool, rule: Rule) -> bool
     ensures { λ r. ⌜ r ≡ badKind clear rule ⌝ }
 {
     let kind = rule.kind;
-    if kind == 1 {
-        return !clear;
-    }
-    if kind == 2 {
-        return !clear;
-    }
-    true
+    !(((kind == 1) | (kind == 2)) & clear)
 }
 
 // Cause 9.

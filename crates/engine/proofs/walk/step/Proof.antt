@@ -60,6 +60,7 @@ improved-requires c κs =
           (narrow-small (h .moving .restarting .h-small)
           (c .before .before .before .before .before .before .before .before .before .before .state .given .0 .1 .0) (s .1));
       best = s .2;
+      asked = c .before .before .before .before .before .before .before .before .breaks .ensures;
     }
 
 enum-known-c : tie.Need-enum-known-c

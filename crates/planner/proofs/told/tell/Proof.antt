@@ -8,18 +8,10 @@ use Rattle.planner.proofs.told.tell.Tie as tie
 mul-if1 : tie.Need-mul-if1
 mul-if1 c = omega (arith, c .width .ensures, short-width (c .before .before .before .args .version))
 
-tell-short-requires : tie.Need-tell-short-requires
-tell-short-requires c κs =
+tell-few-requires : tie.Need-tell-few-requires
+tell-few-requires c κs =
     let start = c .before .before .before .before .before in
-    few-by-length (start .args .version) (start .args .book .now) 30 (c .before .before .width .ensures) (c .before .if1 .taken)
-
-mul-if2 : tie.Need-mul-if2
-mul-if2 c = omega (arith, c .before .width .ensures, short-width (c .before .before .before .before .args .version))
-
-tell-middle-requires : tie.Need-tell-middle-requires
-tell-middle-requires c κs =
-    let start = c .before .before .before .before .before .before in
-    few-by-length (start .args .version) (start .args .book .now) 255 (c .before .before .before .width .ensures) (c .before .if2 .taken)
+    few-by-length (start .args .version) (start .args .book .now) 255 (c .before .before .width .ensures) (c .before .if1 .taken)
 
 pub tell-spec : {M : Type 1} → statement M
 tell-spec =
@@ -27,12 +19,8 @@ tell-spec =
     (tie.spec
     (λ c κs. search needs)
     mul-if1
-    tell-short-requires
-    mul-if2
-    tell-middle-requires
+    tell-few-requires
     (λ c κs. search needs)
-    (λ c. search needs)
-    (λ c. search needs)
     (λ c. search needs)
     (λ c. search needs)
     (λ c. search needs)
