@@ -1,5 +1,6 @@
-/* A controller in miniature: reads a book from standard input and prints its plan, its panel, and the start pair after each prefix of its chain.
- * A prefix longer than the chain is the whole chain: a book with spare records prints its last start pair again. */
+/* A controller in miniature: reads a book from standard input and prints its plan, its panel, the start pair after each prefix of its
+ * chain, and then the plan of its repacked form, which is a book of version 2. A prefix longer than the chain is the whole chain: a
+ * book with spare records prints its last start pair again. */
 #include <inttypes.h>
 #include <stdio.h>
 #include <string.h>
@@ -17,6 +18,13 @@ static void print_starts(const uint8_t *book, size_t length, size_t rules) {
     }
 }
 
+static void print_repacked(const uint8_t *book, size_t length) {
+    static uint8_t packed[VISHALNEQ_REPACKED], line[VISHALNEQ_LINE];
+    size_t bytes = vishalneq_repack(book, length, packed, sizeof packed);
+    printf("repacked %zu bytes\n", bytes);
+    fwrite(line, 1, vishalneq_plan_line2(packed, bytes, line, sizeof line), stdout);
+}
+
 int main(void) {
     static uint8_t book[INPUT], lines[VISHALNEQ_PANEL];
     size_t length = fread(book, 1, sizeof book, stdin);
@@ -29,5 +37,6 @@ int main(void) {
     fwrite(lines, 1, end, stdout);
     /* of an accepted book, whose header counts the records that follow it */
     print_starts(book, length, length / 12 - 1);
+    print_repacked(book, length);
     return 0;
 }

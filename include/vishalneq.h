@@ -1,7 +1,15 @@
 /* What a controller loads: the functions of libvishalneq.a, which `rt staticlib vishalneq` leaves under target/staticlib.
  *
- * Each takes any bytes as a book and returns. A pointer is lent for the call, with the number of elements that it points to; it is not null, even
- * where that number is 0, and the buffer does not overlap the book. Nothing else is read or written, and nothing is kept between calls. */
+ * Each takes any bytes as a book and returns. A pointer is lent for the call, with the number of elements that it points to; it is not
+ * null, even where that number is 0, and the buffer does not overlap the book. Nothing else is read or written, and nothing is kept
+ * between calls.
+ *
+ * A book is of version 1, records of 12 bytes and at most 255 rules, or of version 2, records of 14 bytes and at most 4,095 rules. Each
+ * version has its own functions, those of version 2 with a 2 at the end of their names; a book of the other version is refused.
+ *
+ * Stack: a call takes at most VISHALNEQ_STACK bytes, whatever the book; a call of a repacker at most VISHALNEQ_REPACK_STACK. Measured
+ * on x86-64: 116,648 for a plan's line, 116,488 for a panel, 116,520 for a start pair, 17,368 for a repacked form. No memory is
+ * allocated. */
 #ifndef VISHALNEQ_H
 #define VISHALNEQ_H
 
@@ -12,25 +20,42 @@
 extern "C" {
 #endif
 
-/* Room for every line of a plan, and for every panel. */
+/* Room for every line of a plan; for every panel, by version; and for every repacked form, by the version of the book. */
 #define VISHALNEQ_LINE 256
 #define VISHALNEQ_PANEL 16384
+#define VISHALNEQ_PANEL2 262144
+#define VISHALNEQ_REPACKED 3584
+#define VISHALNEQ_REPACKED2 57344
 
-/* What vishalneq_start_after hands back is a count below this, or a refusal: its number is the quotient by this, its record the remainder. */
+#define VISHALNEQ_STACK 131072
+#define VISHALNEQ_REPACK_STACK 20480
+
+/* What vishalneq_start_after and vishalneq_repack hand back is a count below this, or a refusal: its number is the quotient by this,
+ * its record the remainder. */
 #define VISHALNEQ_REFUSED 65536
 
 /* The line of a book's plan, or of its refusal, with its line feed, at the start of `out`. Hands back its length. A buffer of less than
  * VISHALNEQ_LINE bytes is left as it is, and 0 handed back. */
 size_t vishalneq_plan_line(const uint8_t *book, size_t book_length, uint8_t *out, size_t out_length);
+size_t vishalneq_plan_line2(const uint8_t *book, size_t book_length, uint8_t *out, size_t out_length);
 
-/* The lines of a book's panel, or the line of its refusal, at the start of `out`. Hands back their length, 0 for a panel without rules. A buffer of
- * less than VISHALNEQ_PANEL bytes is left as it is, and 0 handed back. */
+/* The lines of a book's panel, or the line of its refusal, at the start of `out`. Hands back their length, 0 for a panel without rules.
+ * A buffer of less than VISHALNEQ_PANEL bytes, for version 2 of less than VISHALNEQ_PANEL2, is left as it is, and 0 handed back. */
 size_t vishalneq_panel_lines(const uint8_t *book, size_t book_length, uint8_t *out, size_t out_length);
+size_t vishalneq_panel_lines2(const uint8_t *book, size_t book_length, uint8_t *out, size_t out_length);
 
-/* The start pair after the first `prefix` rules of a book's chain, the whole chain if it has fewer: X, Y and D in out[0], out[1] and out[2], three zeros where
- * no pair is allowed. Hands back how many of those rules the start pair before them did not keep, at most 255. A buffer of less than three numbers is left as
- * it is. A refused book leaves every buffer as it is, and VISHALNEQ_REFUSED times its number plus its record is handed back. */
+/* The start pair after the first `prefix` rules of a book's chain, the whole chain if it has fewer: X, Y and D in out[0], out[1] and
+ * out[2], three zeros where no pair is allowed. Hands back how many of those rules the start pair before them did not keep, at most as
+ * many as the chain has. A buffer of less than three numbers is left as it is. A refused book leaves every buffer as it is, and
+ * VISHALNEQ_REFUSED times its number plus its record is handed back. */
 size_t vishalneq_start_after(const uint8_t *book, size_t book_length, size_t prefix, int64_t *out, size_t out_length);
+size_t vishalneq_start_after2(const uint8_t *book, size_t book_length, size_t prefix, int64_t *out, size_t out_length);
+
+/* The repacked form of a book, always a book of version 2: its n rules in chain order in records 1 to n, at the start of `out`. Hands
+ * back how many bytes that takes, 14 times n + 1, and leaves the bytes after them as they are. A refused book, and an output of fewer
+ * bytes (number 11, record 0), leave `out` as it is, and VISHALNEQ_REFUSED times the number plus the record is handed back. */
+size_t vishalneq_repack(const uint8_t *book, size_t book_length, uint8_t *out, size_t out_length);
+size_t vishalneq_repack2(const uint8_t *book, size_t book_length, uint8_t *out, size_t out_length);
 
 #ifdef __cplusplus
 }

@@ -8,27 +8,46 @@ import struct
 
 CASES = []
 
-
-def header(first, count, p=1, q=1, version=1, tail=0):
-    return struct.pack("<BBhhHI", first, version, p, q, count, tail)
-
-
-def rule(nxt, a=1, b=1, c=1, kind=1, label=0):
-    return struct.pack("<BBhhHi", nxt, kind, a, b, label, c)
+# what differs between the versions: a record's first bytes, up to the kind and the padding, and how many records a book has at most
+HEAD = {1: "<BB", 2: "<HBB"}
+WIDTH = {1: 12, 2: 14}
+MOST = {1: 256, 2: 4096}
 
 
-def read(book):
-    n = len(book)
-    if n < 12 or n > 3072 or n % 12:
+def record(layout, link, kind, rest, pad=0):
+    """A record of a version: its link, its kind (in the header the version), in version 2 a byte of padding, and the last ten bytes."""
+    return struct.pack(HEAD[layout], *((link, kind) if layout == 1 else (link, kind, pad))) + rest
+
+
+def header(first, count, p=1, q=1, version=None, tail=0, layout=1, pad=0):
+    return record(layout, first, layout if version is None else version, struct.pack("<hhHI", p, q, count, tail), pad)
+
+
+def rule(nxt, a=1, b=1, c=1, kind=1, label=0, layout=1, pad=0):
+    return record(layout, nxt, kind, struct.pack("<hhHi", a, b, label, c), pad)
+
+
+def fields(layout, book, index):
+    """A record's link, kind and padding, and its last ten bytes."""
+    width = WIDTH[layout]
+    found = book[width * index:width * (index + 1)]
+    link, kind, pad = (*struct.unpack(HEAD[layout], found[:-10]), 0)[:3]
+    return link, kind, pad, found[-10:]
+
+
+def read(book, layout=1):
+    n, width = len(book), WIDTH[layout]
+    if n < width or n > width * MOST[layout] or n % width:
         return ("refused", 1, 0)
-    first, version, p, q, count = struct.unpack("<BBhhH", book[:8])
-    if version != 1:
+    first, version, pad, rest = fields(layout, book, 0)
+    p, q, count, tail = struct.unpack("<hhHI", rest)
+    if version != layout or pad:
         return ("refused", 2, 0)
-    if count != n // 12 - 1:
+    if count != n // width - 1:
         return ("refused", 3, 0)
     if p == -32768 or q == -32768:
         return ("refused", 4, 0)
-    if book[8:12] != bytes(4):
+    if tail:
         return ("refused", 5, 0)
     at, link, seen, labels, chain = 0, first, set(), set(), []
     while link:
@@ -37,8 +56,9 @@ def read(book):
         if link in seen:
             return ("refused", 7, at)
         seen.add(link)
-        nxt, kind, a, b, label, c = struct.unpack("<BBhhHi", book[12 * link:12 * link + 12])
-        if kind not in (1, 2):
+        nxt, kind, pad, rest = fields(layout, book, link)
+        a, b, label, c = struct.unpack("<hhHi", rest)
+        if kind not in (1, 2) or pad:
             return ("refused", 8, link)
         if a == -32768 or b == -32768:
             return ("refused", 9, link)
@@ -52,23 +72,24 @@ def read(book):
     return ("accepted", (p, q), chain)
 
 
-def repack(book, room):
-    got = read(book)
+def repack(book, room, layout=1):
+    """The repacked form, which is of version 2 whatever the book's version."""
+    got = read(book, layout)
     if got[0] == "refused":
         return (got[1], got[2], b"")
     (p, q), chain = got[1], got[2]
     n = len(chain)
-    if room < 12 * (n + 1):
+    if room < 14 * (n + 1):
         return (11, 0, b"")
-    out = header(1 if n else 0, n, p, q)
+    out = header(1 if n else 0, n, p, q, layout=2)
     for k, (_, kind, a, b, c, label) in enumerate(chain, 1):
-        out += rule(k + 1 if k < n else 0, a, b, c, kind, label)
+        out += rule(k + 1 if k < n else 0, a, b, c, kind, label, layout=2)
     return (0, 0, out)
 
 
-def case(name, book, rooms=(4096,)):
+def case(name, book, rooms=(4096,), layout=1):
     for room in rooms:
-        CASES.append((name if len(rooms) == 1 else f"{name}, room {room}", book, room))
+        CASES.append((name if len(rooms) == 1 else f"{name}, room {room}", layout, book, room))
 
 
 def header_edges():
@@ -185,15 +206,15 @@ def spare():
 
 def chains():
     rng = random.Random(4)
-    case("no rules", header(0, 0), (11, 12, 13))
-    case("one rule, scattered", header(7, 9) + b"".join(rule(0, label=7) if k == 7 else bytes(12) for k in range(1, 10)), (23, 24, 25, 100))
+    case("no rules", header(0, 0), (12, 13, 14, 15))
+    case("one rule, scattered", header(7, 9) + b"".join(rule(0, label=7) if k == 7 else bytes(12) for k in range(1, 10)), (24, 27, 28, 29, 100))
     order = list(range(1, 256))
     rng.shuffle(order)
     labels = dict(zip(order, rng.sample(range(65536), 255)))
     nxt = {order[k]: order[k + 1] if k + 1 < 255 else 0 for k in range(255)}
     rules = {k: rule(nxt[k], rng.randint(-32767, 32767), rng.randint(-32767, 32767), rng.randint(-10**9, 10**9), rng.choice((1, 2)), labels[k]) for k in order}
     full = header(order[0], 255, -32767, 32767) + b"".join(rules[k] for k in range(1, 256))
-    case("255 rules, scattered", full, (3071, 3072, 3073))
+    case("255 rules, scattered", full, (3583, 3584))
     broken = bytearray(full)
     broken[12 * order[-1]] = order[100]
     case("255 rules, the last back to the 101st", bytes(broken))
@@ -207,12 +228,63 @@ def chains():
     case("255 labels, each in its own word", header(1, 255) + b"".join(rule((k + 1) % 256, label=64 * k) for k in range(1, 256)))
     case("255 labels, the highest", header(1, 255) + b"".join(rule((k + 1) % 256, label=65536 - k) for k in range(1, 256)))
     three = header(5, 6, -4, 9) + rule(3, c=3, label=3) + bytes(12) + rule(0, a=-1, b=2, c=-3, kind=2, label=65535) + bytes(12) + rule(1, c=5) + bytes(12)
-    case("three rules, scattered", three, (0, 12, 47, 48, 49, 64))
-    case("three rules, repacked", repack(three, 4096)[2], (48, 64))
+    case("three rules, scattered", three, (0, 14, 48, 55, 56, 57, 64))
+    case("three rules, repacked", repack(three, 4096)[2], (55, 56, 64), layout=2)
 
 
-def show(name, book, room):
-    got = read(book)
+def second():
+    """Version 2: what differs from version 1, and each cause."""
+    def head(*args, **named):
+        return header(*args, layout=2, **named)
+
+    def row(*args, **named):
+        return rule(*args, layout=2, **named)
+
+    def book(name, data, rooms=(4096,)):
+        case(f"2: {name}", data, rooms, layout=2)
+
+    book("no bytes", b"")
+    book("13 bytes", head(0, 0)[:13])
+    book("14 bytes", head(0, 0), (13, 14, 15))
+    book("15 bytes", head(0, 0) + b"\0")
+    book("a header of version 1", header(0, 0))
+    book("version 1", head(0, 0, version=1))
+    book("version 2 in the place of version 1", b"\0\2" + head(0, 0)[2:])
+    for pad in (1, 128, 255):
+        book(f"header byte 3 of {pad}", head(0, 0, pad=pad))
+        book(f"byte 3 of {pad} in a rule", head(1, 1) + row(0, pad=pad))
+    book("byte 3 set in a spare record", head(1, 2) + row(0) + row(0, pad=1))
+    book("count by 12 bytes", head(0, 7) + bytes(14 * 6))
+    book("count", head(0, 6) + bytes(14 * 6))
+    book("count one high", head(1, 2) + row(0))
+    book("p lowest", head(0, 0, p=-32768))
+    book("q lowest", head(0, 0, q=-32768))
+    for byte in range(10, 14):
+        data = bytearray(head(0, 0))
+        data[byte] = 128
+        book(f"header byte {byte} set", bytes(data))
+    # records up to 257, and a chain through those whose links need the high byte
+    places = {1: row(255, c=1, label=1), 255: row(256, c=2, label=2), 256: row(257, c=3, label=3), 257: row(0, c=4, label=4, kind=2)}
+    long = head(1, 257) + b"".join(places.get(k, bytes(14)) for k in range(1, 258))
+    book("links 255, 256 and 257", long, (69, 70))
+    book("first link 256", head(256, 257) + long[14:])
+    book("first link 256, above the count", head(256, 1) + row(0))
+    book("first link 4095, above the count", head(4095, 1) + row(0))
+    book("first link 4096, above the count", head(4096, 1) + row(0))
+    book("link to itself by its low byte alone", head(1, 1) + row(257))
+    book("link to itself", head(1, 1) + row(1))
+    for kind in (0, 2, 3):
+        book(f"kind {kind}", head(1, 1) + row(0, kind=kind))
+    book("a lowest", head(1, 1) + row(0, a=-32768))
+    book("c of 1000000001", head(1, 1) + row(0, c=1000000001))
+    book("a label twice", head(1, 2) + row(2, label=7) + row(0, label=7))
+    book("2 before 3", head(0, 1, pad=1))
+    book("8 by byte 3 before 9", head(1, 1) + row(0, pad=1, a=-32768))
+    book("12 before 11", head(1, 2) + row(2, label=7) + row(0, label=7), (0,))
+
+
+def show(name, layout, book, room):
+    got = read(book, layout)
     if got[0] == "refused":
         line = f"{name} refused {got[1]} {got[2]}"
     else:
@@ -220,8 +292,13 @@ def show(name, book, room):
         for i, kind, a, b, c, label in got[2]:
             s = -1 if kind == 2 else 1
             line += f" | {i} {kind} {a} {b} {c} {label} as {s * a} {s * b} {s * c}"
-    number, at, out = repack(book, room)
+    number, at, out = repack(book, room, layout)
     return f"{line}\n  packed {number} {at} {len(out)} {out.hex()} changed 0\n"
+
+
+def stored(name, layout, book, room):
+    name = name.encode()
+    return struct.pack("<H", len(name)) + name + struct.pack("<HH", layout, len(book)) + book + struct.pack("<H", room)
 
 
 def main():
@@ -235,7 +312,8 @@ def main():
     labels()
     spare()
     chains()
-    data = b"".join(struct.pack("<H", len(n.encode())) + n.encode() + struct.pack("<H", len(b)) + b + struct.pack("<H", r) for n, b, r in CASES)
+    second()
+    data = b"".join(stored(*c) for c in CASES)
     assert len(data) <= 65536, len(data)
     open("crates/book_vectors/stdin", "wb").write(data)
     open("crates/book_vectors/stdout", "w").write("".join(show(*c) for c in CASES))

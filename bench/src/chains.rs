@@ -1,35 +1,50 @@
-//! The measured books. All are accepted, repacked, and allow pairs, so that planner and twin must print the same line.
+//! The measured chains. All are accepted and allow pairs, so that planner and twin must print the same line.
 
 use search::book::{Rule, Source};
 use search::random::Random;
 
-/// Books of n rules of one sort.
-pub type Books = fn(&mut Random, usize) -> Vec<Vec<u8>>;
+/// Chains of n rules of one sort.
+pub type Chains = fn(&mut Random, usize) -> Vec<Source>;
 
-pub const SORTS: [(&str, Books); 3] = [("random", random), ("adversarial", adversarial), ("open", open)];
+pub const SORTS: [(&str, Chains); 3] = [("random", random), ("adversarial", adversarial), ("open", open)];
 
-/// How many different books are measured together.
-const DIFFERENT: usize = 32;
+/// How many different chains are measured together. The longest adversarial ones take some 40 ms each.
+fn different(n: usize) -> usize {
+    match n {
+        0..=255 => 32,
+        256..=1_000 => 8,
+        _ => 2,
+    }
+}
 
 /// Any coefficients; c is not negative, so that (0, 0) is allowed. Few rules move the best pair.
-fn random(random: &mut Random, n: usize) -> Vec<Vec<u8>> {
+fn random(random: &mut Random, n: usize) -> Vec<Source> {
     let mut number = |low| random.between(low, 32_767) as i16;
-    let mut book = || {
+    let mut chain = || {
         let rules: Vec<Rule> = (0..n).map(|i| rule(i, number(-32_767), number(-32_767), i32::from(number(0)) * 30_000)).collect();
-        Source { p: number(1), q: number(1), rules }.packed()
+        Source { p: number(1), q: number(1), rules }
     };
-    (0..DIFFERENT).map(|_| book()).collect()
+    (0..different(n)).map(|_| chain()).collect()
 }
 
 /// Every rule moves the best pair and with it the start pair. The objective is least x; the rules are tangents of a parabola that opens to
 /// larger x, from far out towards its tip and from both sides in turn, so that each cuts off the corner of the two before it.
-fn adversarial(random: &mut Random, n: usize) -> Vec<Vec<u8>> {
-    let mut book = || {
-        let (tip_x, tip_y) = (random.between(20_000, 1_000_000), random.between(200, 1_000_000));
+fn adversarial(random: &mut Random, n: usize) -> Vec<Source> {
+    let mut chain = || {
+        let (tip_x, tip_y) = tip(random, n);
         let rules = (0..n).map(|i| tangent(i, n, tip_x, tip_y)).collect();
-        Source { p: -1, q: 0, rules }.packed()
+        Source { p: -1, q: 0, rules }
     };
-    (0..DIFFERENT).map(|_| book()).collect()
+    (0..different(n)).map(|_| chain()).collect()
+}
+
+/// A tip so far out that the tangents farthest from it meet where x and y are positive, and so near that their c is in range.
+fn tip(random: &mut Random, n: usize) -> (i64, i64) {
+    if n <= 255 {
+        (random.between(20_000, 1_000_000), random.between(200, 1_000_000))
+    } else {
+        (random.between(5_000_000, 10_000_000), random.between(3_000, 200_000))
+    }
 }
 
 /// x - 2t(y - tip_y) at least tip_x - t².
@@ -39,7 +54,7 @@ fn tangent(i: usize, n: usize, tip_x: i64, tip_y: i64) -> Rule {
 }
 
 /// The direction (1, 1) keeps every rule, so that every prefix is unlimited; the start pair moves now and then.
-fn open(random: &mut Random, n: usize) -> Vec<Vec<u8>> {
+fn open(random: &mut Random, n: usize) -> Vec<Source> {
     let mut one = |i| {
         let (a, b) = (random.between(-32_767, 32_767) as i16, random.between(-32_767, 32_767) as i16);
         let c = random.between(-1_000_000_000, 1_000_000_000) as i32;
@@ -49,7 +64,7 @@ fn open(random: &mut Random, n: usize) -> Vec<Vec<u8>> {
             rule(i, -a, -b, c)
         }
     };
-    (0..DIFFERENT).map(|_| Source { p: 1, q: 1, rules: (0..n).map(&mut one).collect() }.packed()).collect()
+    (0..different(n)).map(|_| Source { p: 1, q: 1, rules: (0..n).map(&mut one).collect() }).collect()
 }
 
 /// Every other rule is written as kind 2.
@@ -65,30 +80,37 @@ fn rule(i: usize, a: i16, b: i16, c: i32) -> Rule {
 #[cfg(test)]
 mod tests {
     use super::*;
-    use search::judge::expected;
+    use search::judge::expected_as;
+    use search::layout::TWO;
     use search::prefixes::Way;
 
-    fn shown(books: Books, n: usize) -> Vec<String> {
-        let some = if n > 100 { 1 } else { DIFFERENT };
-        books(&mut Random::new(1), n).iter().take(some).map(|b| expected(b, Way::Anew).shown()).collect()
+    fn shown(chains: Chains, n: usize) -> Vec<String> {
+        let (some, way) = if n > 100 { (1, Way::OnePass) } else { (different(n), Way::Anew) };
+        let chains = chains(&mut Random::new(n as u64), n);
+        chains.iter().take(some).map(|chain| expected_as(&TWO, &chain.packed_as(&TWO), way).shown()).collect()
     }
 
     #[test]
     fn adversarial_rules_all_move() {
-        for (n, line) in [16, 64, 255].into_iter().flat_map(|n| shown(adversarial, n).into_iter().map(move |line| (n, line))) {
-            assert!(line.starts_with("best") && line.ends_with(&format!(" {n} 0")), "{line}");
+        for n in [16, 64, 255, 1_000, 4_095] {
+            for line in shown(adversarial, n) {
+                assert!(line.starts_with("best") && line.ends_with(&format!(" {n} 0")), "{line}");
+            }
         }
     }
 
     #[test]
     fn open_chains_stay_open() {
-        for line in shown(open, 40) {
-            assert!(line.starts_with("unlimited") && line.ends_with(" 0 41"), "{line}");
+        for n in [40, 4_095] {
+            for line in shown(open, n) {
+                assert!(line.starts_with("unlimited") && line.ends_with(&format!(" 0 {}", n + 1)), "{line}");
+            }
         }
     }
 
     #[test]
     fn random_chains_allow_pairs() {
-        assert!(shown(random, 40).iter().all(|line| line.starts_with("best") || line.starts_with("unlimited")));
+        let lines = [shown(random, 40), shown(random, 4_095)].concat();
+        assert!(lines.iter().all(|line| line.starts_with("best") || line.starts_with("unlimited")));
     }
 }

@@ -1,4 +1,4 @@
-//! Prints the times of planners as a table, for three sorts of chains and three lengths, and the first one's as a ratio to each other one's.
+//! Prints the times of planners as tables, for three sorts of chains and some lengths, and the first one's as a ratio to each other one's.
 //! The median of the ratios of neighbouring rounds is the verdict; the ratio of the shortest rounds is nearly free of what else the machine
 //! does.
 
@@ -6,40 +6,67 @@ mod chains;
 mod date;
 mod measure;
 
-use chains::Books;
-use measure::{least, measure, median, same_lines, Planner, ROUNDS};
+use chains::Chains;
+use measure::{least, measure, median, same_lines, Planner, FEW_ROUNDS, ROUNDS};
+use search::layout::Layout;
 use search::random::Random;
-use std::process::ExitCode;
 
-const LENGTHS: [usize; 3] = [16, 64, 255];
-
-/// Planners by name, and the table of their times.
-pub fn table<const N: usize>(planners: [(&str, Planner); N]) -> ExitCode {
-    let names = planners.map(|(name, _)| name);
-    let ratios: String = names[1..].iter().map(|name| format!(" to {name}, median | shortest rounds |")).collect();
-    println!("Measured on {}; {ROUNDS} rounds of each; microseconds a book.\n", date::today());
-    println!("| chain | rules | {} |{ratios}", names.join(" | "));
-    println!("|---|---|{}", "---|".repeat(3 * N - 2));
-    let planners = planners.map(|(_, plan)| plan);
-    let mut rows = chains::SORTS.into_iter().flat_map(|sort| LENGTHS.map(|n| (sort, n)));
-    if let Err(message) = rows.try_for_each(|((name, books), n)| row(name, books, n, planners)) {
-        eprintln!("{message}");
-        return ExitCode::FAILURE;
-    }
-    ExitCode::SUCCESS
+/// What a table measures: books of a version, of these lengths, by planners with names, which write into a buffer of so many bytes.
+pub struct Table<'a, const N: usize> {
+    pub layout: Layout,
+    pub lengths: &'a [usize],
+    pub room: usize,
+    pub planners: [(&'a str, Planner); N],
+    /// Whether rows say by what the time grows from 255 rules to the longest.
+    pub growth: bool,
 }
 
-/// Measures books of one sort and length and prints their row.
-fn row<const N: usize>(name: &str, books: Books, n: usize, planners: [Planner; N]) -> Result<(), String> {
-    let books = books(&mut Random::new(n as u64), n);
-    if !same_lines(&planners, &books) {
-        return Err(format!("the planners print different lines for a chain of {n} rules: {name}"));
+/// When and how often it was measured.
+pub fn title() {
+    println!(
+        "Measured on {}; {ROUNDS} rounds of each, {FEW_ROUNDS} of chains of 4,095 rules; microseconds a book.",
+        date::today()
+    );
+}
+
+impl<const N: usize> Table<'_, N> {
+    pub fn print(&self) -> Result<(), String> {
+        let names = self.planners.map(|(name, _)| name);
+        let ratios: String = names[1..].iter().map(|name| format!(" to {name}, median | shortest rounds |")).collect();
+        println!("\n| chain | rules | {} |{ratios}", names.join(" | "));
+        println!("|---|---|{}", "---|".repeat(3 * N - 2));
+        chains::SORTS.into_iter().try_for_each(|(name, chains)| self.rows(name, chains))
     }
-    let times = measure(planners, &books);
-    let ratios: String = times[1..].iter().map(|other| ratio(&times[0], other)).collect();
-    let medians = times.map(|list| format!("{:.2}", median(list))).join(" | ");
-    println!("| {name} | {n} | {medians} |{ratios}");
-    Ok(())
+
+    /// The rows of one sort of chains.
+    fn rows(&self, name: &str, chains: Chains) -> Result<(), String> {
+        let mut known = Vec::new();
+        for &n in self.lengths {
+            known.push((n, self.row(name, chains, n)?));
+        }
+        let base = known.iter().find(|(n, _)| *n == 255);
+        if let (true, Some((_, base)), Some((n, last))) = (self.growth, base, known.last()) {
+            let grown: Vec<String> = last.iter().zip(base).map(|(last, base)| format!("× {:.1}", last / base)).collect();
+            println!("| {name} | 255 to {n} | {} |{}", grown.join(" | "), " |".repeat(2 * N - 2));
+        }
+        Ok(())
+    }
+
+    /// Measures chains of one sort and length and prints their row. Hands back the times of the shortest rounds.
+    fn row(&self, name: &str, chains: Chains, n: usize) -> Result<[f64; N], String> {
+        let chains = chains(&mut Random::new(n as u64), n);
+        let books: Vec<Vec<u8>> = chains.iter().map(|chain| chain.packed_as(&self.layout)).collect();
+        let planners = self.planners.map(|(_, plan)| plan);
+        if !same_lines(&planners, &books, self.room) {
+            return Err(format!("the planners print different lines for a chain of {n} rules: {name}"));
+        }
+        let times = measure(planners, &books, self.room);
+        let ratios: String = times[1..].iter().map(|other| ratio(&times[0], other)).collect();
+        let shortest = std::array::from_fn(|k| least(&times[k]));
+        let medians = times.map(|list| format!("{:.2}", median(list))).join(" | ");
+        println!("| {name} | {n} | {medians} |{ratios}");
+        Ok(shortest)
+    }
 }
 
 /// The median of the ratios of neighbouring rounds, and the ratio of the shortest rounds.

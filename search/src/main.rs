@@ -1,7 +1,8 @@
-//! `search` plans stored and random books, judges each line and ends with one summary line; a mismatch prints the book in hexadecimal with
-//! both lines and fails. The environment's SEED repeats a run; SHORT, LONG, BUSY, DAMAGED, ORDERS, PANELS and STARTS say how many books.
+//! `search` plans stored and random books of both versions, judges each line and ends with three summary lines; a mismatch prints the book
+//! in hexadecimal with both lines and fails. The environment's SEED repeats a run; SHORT, LONG, BUSY, DAMAGED, ORDERS, PANELS, STARTS and
+//! REPACKED say how many books there are of version 1, with a 2 at their ends of version 2, as LONGEST2 does, and ALIKE of both.
 //! `search program PATH [VERSION]` runs the plan program of a version, 1 unless it is named, on stored and some random books.
-//! `search panel PATH [VERSION]` runs the panel program likewise.
+//! `search panel PATH [VERSION]` and `search repacker PATH [VERSION]` run the programs of the panel and of the repacker likewise.
 //! `search repack PATH` puts stored books and REPACKS random ones through the program of the reader and the repacker.
 //! `search look` reads books in hexadecimal, one a line, and prints for each the right line, the planner's and the verdict.
 
@@ -9,11 +10,11 @@ use search::book::from_hex;
 use search::judge::expected;
 use search::layout::Layout;
 use search::panel;
-use search::planner::{self, ONE};
+use search::planner::{ONE, TWO};
 use search::prefixes::Way;
 use search::program::program;
-use search::repack::repacks;
-use search::runs::{busy_books, damaged_books, orders, random_books, stored_books, Lengths, Tally};
+use search::repack;
+use search::runs::{both_versions, busy_books, damaged_books, orders, random_books, short_buffers, stored_lines, Lengths, Tally};
 use std::process::ExitCode;
 use std::time::{Instant, SystemTime, UNIX_EPOCH};
 
@@ -25,9 +26,14 @@ fn main() -> ExitCode {
         ["program", path, version] => run_program(path, version),
         ["panel", path] => run_panel(path, "1"),
         ["panel", path, version] => run_panel(path, version),
+        ["repacker", path] => run_repacker(path, "1"),
+        ["repacker", path, version] => run_repacker(path, version),
         ["repack", path] => seed().and_then(|seed| run_repack(path, seed)),
         ["look"] => look(),
-        _ => Err("usage: search [look | program PATH [VERSION] | panel PATH [VERSION] | repack PATH]".into()),
+        _ => {
+            Err("usage: search [look | program PATH [VERSION] | panel PATH [VERSION] | repacker PATH [VERSION] | repack PATH]"
+                .into())
+        }
     };
     if let Err(message) = &result {
         eprintln!("{message}");
@@ -44,20 +50,55 @@ fn seed() -> Result<u64, String> {
 }
 
 fn run(seed: u64) -> Result<(), String> {
+    println!("search: version 1 all right: {}", run_one(seed)?);
+    println!("search: version 2 all right: {}", run_two(seed.rotate_left(32))?);
+    println!("search: both versions all right: {}; SEED={seed}", run_both(seed.rotate_left(16))?);
+    Ok(())
+}
+
+fn run_one(seed: u64) -> Result<String, String> {
     let mut tally = Tally::default();
-    let stored = stored_books(&mut tally)?;
+    let stored = stored_lines(&ONE, &mut tally)?;
+    short_buffers(&ONE)?;
     let short = timed("SHORT", 200_000, |n| random_books(&ONE, &mut tally, seed, n, Lengths { most: 12, anew: 12 }))?;
     let long = timed("LONG", 4_000, |n| random_books(&ONE, &mut tally, seed ^ 1 << 61, n, Lengths { most: 255, anew: 40 }))?;
-    let busy = timed("BUSY", 1_000, |n| busy_books(&ONE, &mut tally, seed ^ 1 << 58, n))?;
+    let busy = timed("BUSY", 1_000, |n| busy_books(&ONE, &mut tally, seed ^ 1 << 58, n, 200))?;
     let damaged = timed("DAMAGED", 20_000, |n| damaged_books(&ONE, &mut tally, seed ^ 1 << 62, n))?;
     let shuffled = timed("ORDERS", 1_000, |n| orders(&ONE, seed ^ 1 << 63, n))?;
-    let panels = timed("PANELS", 20_000, |n| panel::panels(seed ^ 1 << 60, n))?;
-    let starts = timed("STARTS", 20_000, |n| starts(seed ^ 1 << 59, n))?;
-    println!(
-        "search: all right: {stored} stored books, {short} of 0 to 12 rules, {long} of 0 to 255, {busy} busy ones of 200 to 255, \
-         {damaged} damaged ({tally}), {shuffled} in ten orders, {panels} panels, {starts} start pairs; SEED={seed}"
-    );
-    Ok(())
+    let panels = timed("PANELS", 20_000, |n| panel::panels(&ONE, seed ^ 1 << 60, n))?;
+    let starts = timed("STARTS", 20_000, |n| starts(&ONE, seed ^ 1 << 59, n))?;
+    Ok(format!(
+        "{stored} stored books, {short} of 0 to 12 rules, {long} of 0 to 255, {busy} busy ones of 200 to 255, {damaged} damaged ({tally}), \
+         {shuffled} in ten orders, {panels} panels, {starts} start pairs"
+    ))
+}
+
+/// Fewer books than of version 1, whose planner is the same but for the reader: a book of 4,095 rules takes half a second to search.
+fn run_two(seed: u64) -> Result<String, String> {
+    let mut tally = Tally::default();
+    let stored = stored_lines(&TWO, &mut tally)?;
+    short_buffers(&TWO)?;
+    let short = timed("SHORT2", 20_000, |n| random_books(&TWO, &mut tally, seed, n, Lengths { most: 12, anew: 12 }))?;
+    let long = timed("LONG2", 400, |n| random_books(&TWO, &mut tally, seed ^ 1 << 61, n, Lengths { most: 255, anew: 40 }))?;
+    let longest =
+        timed("LONGEST2", 16, |n| random_books(&TWO, &mut tally, seed ^ 1 << 57, n, Lengths { most: 4_095, anew: 40 }))?;
+    let busy = timed("BUSY2", 16, |n| busy_books(&TWO, &mut tally, seed ^ 1 << 58, n, 1_000))?;
+    let damaged = timed("DAMAGED2", 400, |n| damaged_books(&TWO, &mut tally, seed ^ 1 << 62, n))?;
+    let shuffled = timed("ORDERS2", 100, |n| orders(&TWO, seed ^ 1 << 63, n))?;
+    let panels = timed("PANELS2", 2_000, |n| panel::panels(&TWO, seed ^ 1 << 60, n))?;
+    let starts = timed("STARTS2", 2_000, |n| starts(&TWO, seed ^ 1 << 59, n))?;
+    Ok(format!(
+        "{stored} stored books, {short} of 0 to 12 rules, {long} of 0 to 255, {longest} of 0 to 4,095, {busy} busy ones of 1,000 to 4,095, \
+         {damaged} damaged ({tally}), {shuffled} in ten orders, {panels} panels, {starts} start pairs"
+    ))
+}
+
+fn run_both(seed: u64) -> Result<String, String> {
+    let (repacks, repacks_two) = (count("REPACKED", 4_000)?, count("REPACKED2", 1_000)?);
+    let one = repack::library(&ONE, seed, repacks)?;
+    let two = repack::library(&TWO, seed ^ 1 << 63, repacks_two)?;
+    let alike = timed("ALIKE", 4_000, |n| both_versions(seed ^ 1 << 62, n))?;
+    Ok(format!("version 1, {one}; version 2, {two}; {alike} in version 1, repacked and reordered in version 2"))
 }
 
 fn run_program(path: &str, version: &str) -> Result<(), String> {
@@ -72,8 +113,17 @@ fn run_panel(path: &str, version: &str) -> Result<(), String> {
     Ok(())
 }
 
+fn run_repacker(path: &str, version: &str) -> Result<(), String> {
+    let books = repack::program(&Layout::of_version(version)?, path, seed()?)?;
+    println!("search: all right: {books} by the program that repacks version {version}");
+    Ok(())
+}
+
 fn run_repack(path: &str, seed: u64) -> Result<(), String> {
-    println!("search: all right: {} through the reader and the repacker", repacks(path, seed, count("REPACKS", 20_000)?)?);
+    println!(
+        "search: all right: {} through the reader and the repacker",
+        repack::repacks(path, seed, count("REPACKS", 20_000)?)?
+    );
     Ok(())
 }
 
@@ -81,7 +131,7 @@ fn run_repack(path: &str, seed: u64) -> Result<(), String> {
 #[cfg(not(feature = "standin"))]
 use search::starts::starts;
 #[cfg(feature = "standin")]
-fn starts(_seed: u64, _books: u64) -> Result<u64, String> {
+fn starts(_planner: &search::planner::Planner, _seed: u64, _books: u64) -> Result<u64, String> {
     Ok(0)
 }
 
@@ -112,7 +162,7 @@ fn look() -> Result<(), String> {
         let row = row.map_err(|e| e.to_string())?;
         let book = from_hex(row.trim_matches('-')).ok_or("not hexadecimal")?;
         let right = expected(&book, Way::Anew);
-        let line = planner::line(&book)?;
+        let line = ONE.line(&book)?;
         let verdict = right.judge(&line).map_or_else(|why| why, |()| "right".into());
         println!("{}\t{}\t{verdict}", right.shown(), String::from_utf8_lossy(&line).trim_end());
     }

@@ -6,19 +6,15 @@ use crate::clip;
 use crate::damage::damage;
 use crate::exact::{divisor, outcome, Line, Outcome, Pair};
 use crate::families::source;
-use crate::layout::{Layout, ONE};
-use crate::program::{inputs, printed};
+use crate::layout::Layout;
+use crate::planner::Planner;
+use crate::program::{inputs, printed, stored_books};
 use crate::random::Random;
 use crate::read::{read_as, Accepted, Entry};
-use crate::{planner, stored};
-
-/// What the panel of a book of version 1 must print.
-pub fn right(book: &[u8]) -> String {
-    right_as(&ONE, book)
-}
+use crate::stored;
 
 /// What a book's panel must print: a line a rule for a best outcome, nothing for any other, and the line of a refusal.
-pub fn right_as(layout: &Layout, book: &[u8]) -> String {
+fn right(layout: &Layout, book: &[u8]) -> String {
     let Accepted { p, q, rules } = match read_as(layout, book) {
         Ok(accepted) => accepted,
         Err(r) => return format!("refused {} {}\n", r.number, r.record),
@@ -67,7 +63,7 @@ fn sources() -> impl Iterator<Item = (&'static str, Source)> {
 
 /// Compares what was printed with what is right.
 fn judge(layout: &Layout, name: &str, book: &[u8], printed: Result<Vec<u8>, String>) -> Result<(), String> {
-    let right = right_as(layout, book);
+    let right = right(layout, book);
     match printed {
         Ok(lines) if lines == right.as_bytes() => Ok(()),
         other => {
@@ -77,36 +73,44 @@ fn judge(layout: &Layout, name: &str, book: &[u8], printed: Result<Vec<u8>, Stri
     }
 }
 
-/// The stored panels, the stored books, and random books of 0 to 12 rules, one in fifty of up to 255, one in six damaged.
-pub fn panels(seed: u64, random_books: u64) -> Result<u64, String> {
-    stored_panels()?;
-    stored::books().iter().try_for_each(|s| judge(&ONE, s.name, &s.book, planner::panel(&s.book)))?;
+/// The stored panels, the stored books, and random books of 0 to 12 rules, one in fifty of up to 255, one in five hundred of any length,
+/// one in six damaged.
+pub fn panels(planner: &Planner, seed: u64, random_books: u64) -> Result<u64, String> {
+    stored_panels(planner)?;
+    let try_panel = |name: &str, book: &[u8]| judge(&planner.layout, name, book, planner.panel(book));
+    stored_books(&planner.layout).iter().try_for_each(|(name, book)| try_panel(name, book))?;
     let mut random = Random::new(seed);
-    for i in 0..random_books {
-        let (name, book) = random_book(&mut random, i);
-        judge(&ONE, name, &book, planner::panel(&book))?;
+    for i in 1..=random_books {
+        let (name, book) = random_book(&planner.layout, &mut random, i);
+        try_panel(name, &book)?;
     }
     Ok(random_books)
 }
 
 /// The search itself must find the stored panels.
-fn stored_panels() -> Result<(), String> {
+fn stored_panels(planner: &Planner) -> Result<(), String> {
     for ((name, source), &(_, _, _, panel)) in sources().zip(PANELS) {
-        let book = source.packed();
-        judge(&ONE, name, &book, planner::panel(&book))?;
-        if right(&book) != panel {
-            return Err(format!("mismatch: {name}: stored {panel}, searched {}\nbook    {}", right(&book), to_hex(&book)));
+        let book = source.packed_as(&planner.layout);
+        judge(&planner.layout, name, &book, planner.panel(&book))?;
+        let right = right(&planner.layout, &book);
+        if right != panel {
+            return Err(format!("mismatch: {name}: stored {panel}, searched {right}\nbook    {}", to_hex(&book)));
         }
     }
     Ok(())
 }
 
-fn random_book(random: &mut Random, i: u64) -> (&'static str, Vec<u8>) {
-    let n = random.below(if i % 50 == 0 { MOST_RULES + 1 } else { 13 });
+fn random_book(layout: &Layout, random: &mut Random, i: u64) -> (&'static str, Vec<u8>) {
+    let most = match i {
+        _ if i % 500 == 0 => layout.most_rules(),
+        _ if i % 50 == 0 => MOST_RULES,
+        _ => 12,
+    };
+    let n = random.below(most + 1);
     let (name, source) = source(random, n);
-    let mut book = source.scattered(3, random);
+    let mut book = source.scattered_as(layout, 3, random);
     if random.one_in(6) {
-        damage(&ONE, random, &mut book);
+        damage(layout, random, &mut book);
     }
     (name, book)
 }

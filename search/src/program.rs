@@ -11,14 +11,28 @@ use std::process::{Command, Stdio};
 
 /// What every program of a version is run on: the stored books, inputs that are too long, some random books, and some of the longest.
 pub fn inputs(layout: &Layout, random: &mut Random) -> Vec<(&'static str, Vec<u8>)> {
-    let mut books: Vec<(&str, Vec<u8>)> = stored::books().into_iter().map(|s| (s.name, in_version(layout, &s.book))).collect();
-    books.extend(own_books(layout));
+    let mut books = stored_books(layout);
     let longest = stored::source(0, 0, &vec![(2, 1, 1, 2); layout.most_rules()]).packed_as(layout);
     let longer = |more| ("the longest book or longer", [&longest[..], &vec![0; more]].concat());
     books.extend([0, 1, layout.width(), longest.len(), 70_000, 1_000_000].map(longer));
     books.extend(hundred_books(layout, random));
     books.extend(longest_books(layout, random));
     books
+}
+
+/// The stored books, those of version 1 as this version writes them.
+pub fn stored_books(layout: &Layout) -> Vec<(&'static str, Vec<u8>)> {
+    [stored_books_of_one(layout), own_books(layout)].concat()
+}
+
+/// The stored books of version 1 as another version writes them.
+pub fn stored_books_of_one(layout: &Layout) -> Vec<(&'static str, Vec<u8>)> {
+    stored::books().into_iter().map(|s| (s.name, in_version(layout, &s.book))).collect()
+}
+
+/// Those of them with up to 300 rules.
+pub fn short_stored_books(layout: &Layout) -> Vec<(&'static str, Vec<u8>)> {
+    stored_books(layout).into_iter().filter(|(_, book)| book.len() <= 301 * layout.width()).collect()
 }
 
 /// The stored books that only one version has.
@@ -52,6 +66,15 @@ pub fn program(layout: &Layout, path: &str, seed: u64) -> Result<u64, String> {
 
 /// What the program prints for a book that arrives in two pieces. It must end normally and print no error.
 pub fn printed(path: &str, book: &[u8], first: usize) -> Result<Vec<u8>, String> {
+    let (out, error) = streams(path, book, first)?;
+    if !error.is_empty() {
+        return Err(String::from_utf8_lossy(&error).into());
+    }
+    Ok(out)
+}
+
+/// What the program writes to standard output and to standard error. It must end normally.
+pub fn streams(path: &str, book: &[u8], first: usize) -> Result<(Vec<u8>, Vec<u8>), String> {
     let mut command = Command::new(path);
     command.stdin(Stdio::piped()).stdout(Stdio::piped()).stderr(Stdio::piped());
     let mut child = command.spawn().map_err(|e| format!("{path}: {e}"))?;
@@ -65,8 +88,8 @@ pub fn printed(path: &str, book: &[u8], first: usize) -> Result<Vec<u8>, String>
     }
     drop(input);
     let output = child.wait_with_output().map_err(|e| e.to_string())?;
-    if !output.status.success() || !output.stderr.is_empty() {
+    if !output.status.success() {
         return Err(format!("{}, {}", output.status, String::from_utf8_lossy(&output.stderr)));
     }
-    Ok(output.stdout)
+    Ok((output.stdout, output.stderr))
 }

@@ -1,28 +1,39 @@
-//! Reading and repacking from outside. Books go in batches to the program `book_vectors`, which says of each what it reads as and what its
-//! repacking does to an output, and both lines are compared with a repacker written here from the format's text.
+//! Reading and repacking from outside, compared with a repacker written here from the format's text. Books go in batches to the program
+//! `book_vectors`, which says of each what it reads as and what its repacking does to an output; to the library's repackers; and to the
+//! programs that only repack.
 
 use crate::book::{to_hex, MOST_RULES};
 use crate::damage::damage;
 use crate::families::source;
-use crate::layout::{signed, Layout, Record, ONE};
-use crate::program::printed;
+use crate::layout::{signed, Layout, Record, ONE, TWO};
+use crate::planner::Planner;
+use crate::program::{inputs, printed, stored_books, streams};
 use crate::random::Random;
 use crate::read::{read_as, Accepted, Entry, Refused};
-use crate::stored;
 use std::fmt;
 
 /// The program reads a batch into this many bytes.
 const MOST_BYTES: usize = 65_536;
 
-/// The longest output that the program lends to the repacker.
-const MOST_ROOM: usize = 4_096;
+/// A book of this length is too long in either version, and fits into a batch.
+const MOST_BOOK: usize = 60_000;
 
-/// The version of the books that the program reads, and the version that its repacker writes.
-const READ: Layout = ONE;
-const WRITTEN: Layout = ONE;
+/// The longest chain that the program shows, and the longest output that it lends to the repacker.
+const SHOWN: Limits = Limits { rules: MOST_RULES, room: 4_096 };
 
-/// A book, and the length of the output it is repacked into.
+/// The version that every repacker writes.
+const WRITTEN: Layout = TWO;
+
+/// How many rules a random book has at most, and how long its output may be.
+#[derive(Clone, Copy)]
+struct Limits {
+    rules: usize,
+    room: usize,
+}
+
+/// A book of a version, and the length of the output it is repacked into.
 struct Case {
+    layout: Layout,
     name: &'static str,
     book: Vec<u8>,
     room: usize,
@@ -36,6 +47,16 @@ pub struct Tally {
     without_room: u64,
 }
 
+impl Tally {
+    fn count(&mut self, repacked: &Result<Vec<u8>, Refused>) {
+        *match repacked {
+            Ok(_) => &mut self.repacked,
+            Err(Refused { number: 11, .. }) => &mut self.without_room,
+            Err(_) => &mut self.refused,
+        } += 1;
+    }
+}
+
 impl fmt::Display for Tally {
     fn fmt(&self, f: &mut fmt::Formatter) -> fmt::Result {
         let Tally { repacked, refused, without_room } = self;
@@ -45,7 +66,7 @@ impl fmt::Display for Tally {
 }
 
 /// What repacking a book fills of an output of so many bytes, or why it fills nothing.
-fn repack(layout: &Layout, book: &[u8], room: usize) -> Result<Vec<u8>, Refused> {
+pub fn repack(layout: &Layout, book: &[u8], room: usize) -> Result<Vec<u8>, Refused> {
     let rules = read_as(layout, book)?.rules;
     let n = rules.len();
     if room < WRITTEN.width() * (n + 1) {
@@ -67,19 +88,19 @@ fn packed(link: usize, kind: u8, pair: [&[u8]; 2], word: &[u8], last: &[u8]) -> 
 }
 
 /// A rule of the chain: its record, kind, a, b, c and label, and then a, b and c as they are planned.
-fn shown_rule(book: &[u8], rule: &Entry) -> String {
-    let record = READ.record(book, rule.record);
+fn shown_rule(layout: &Layout, book: &[u8], rule: &Entry) -> String {
+    let record = layout.record(book, rule.record);
     let ([a, b], c) = (record.pair.map(signed), signed(record.last));
     let Entry { line, record: index, label } = rule;
     format!(" | {index} {} {a} {b} {c} {label} as {} {} {}", record.kind, line.a, line.b, line.c)
 }
 
 /// What a book reads as.
-fn shown_reading(book: &[u8]) -> String {
-    match read_as(&READ, book) {
+fn shown_reading(layout: &Layout, book: &[u8]) -> String {
+    match read_as(layout, book) {
         Err(Refused { number, record }) => format!("refused {number} {record}"),
         Ok(Accepted { p, q, rules }) => {
-            let chain: String = rules.iter().map(|r| shown_rule(book, r)).collect();
+            let chain: String = rules.iter().map(|r| shown_rule(layout, book, r)).collect();
             format!("accepted {p} {q} {}{chain}", rules.len())
         }
     }
@@ -87,21 +108,21 @@ fn shown_reading(book: &[u8]) -> String {
 
 /// The two lines that the program must print for a case.
 fn right(case: &Case, tally: &mut Tally) -> [String; 2] {
-    let reading = format!("{} {}", case.name, shown_reading(&case.book));
-    let (count, packed) = match repack(&READ, &case.book, case.room) {
-        Ok(out) => (&mut tally.repacked, format!("0 0 {} {}", out.len(), to_hex(&out))),
-        Err(Refused { number: 11, record }) => (&mut tally.without_room, format!("11 {record} 0 ")),
-        Err(Refused { number, record }) => (&mut tally.refused, format!("{number} {record} 0 ")),
+    let reading = format!("{} {}", case.name, shown_reading(&case.layout, &case.book));
+    let repacked = repack(&case.layout, &case.book, case.room);
+    tally.count(&repacked);
+    let packed = match repacked {
+        Ok(out) => format!("0 0 {} {}", out.len(), to_hex(&out)),
+        Err(Refused { number, record }) => format!("{number} {record} 0 "),
     };
-    *count += 1;
     [reading, format!("  packed {packed} changed 0")]
 }
 
 /// A case as the program reads it.
 fn written(case: &Case) -> Vec<u8> {
     let length = |n: usize| (n as u16).to_le_bytes();
-    let name = case.name.as_bytes();
-    [&length(name.len())[..], name, &length(case.book.len()), &case.book, &length(case.room)].concat()
+    let (name, version) = (case.name.as_bytes(), usize::from(case.layout.version));
+    [&length(name.len())[..], name, &length(version), &length(case.book.len()), &case.book, &length(case.room)].concat()
 }
 
 /// Puts a batch through the program and compares each case's two lines.
@@ -128,38 +149,79 @@ fn try_batch(path: &str, cases: &[Case], random: &mut Random, tally: &mut Tally)
 }
 
 /// A random book, packed or scattered, damaged once or twice in two of five, with an output of about the length that it needs.
-fn random_case(random: &mut Random) -> Case {
-    let most = if random.one_in(16) { MOST_RULES } else { 12 };
+fn random_case(layout: Layout, limits: Limits, random: &mut Random) -> Case {
+    let most = if random.one_in(16) { limits.rules } else { 12 };
     let n = random.below(most + 1);
     let (name, source) = source(random, n);
     let need = WRITTEN.width() * (n + 1);
-    let spare = random.pick(&[0, 3, 9, MOST_RULES]);
-    let mut book = if random.one_in(4) { source.packed_as(&READ) } else { source.scattered_as(&READ, spare, random) };
+    let spare = random.pick(&[0, 3, 9, limits.rules]).min(limits.rules - n);
+    let mut book = if random.one_in(4) { source.packed_as(&layout) } else { source.scattered_as(&layout, spare, random) };
     for _ in 0..random.pick(&[0, 0, 0, 1, 2]) {
-        damage(&READ, random, &mut book);
+        damage(&layout, random, &mut book);
     }
-    let any = random.below(MOST_ROOM + 1);
-    let room = random.pick(&[need, need, need + 1, need - 1, MOST_ROOM, 0, any]);
-    Case { name, book, room }
+    book.truncate(MOST_BOOK);
+    let any = random.below(limits.room + 1);
+    let room = random.pick(&[need, need, need + 1, need - 1, limits.room, 0, any]);
+    Case { layout, name, book, room }
 }
 
-/// The stored books, each with room, and so many random books.
-fn cases(random: &mut Random, random_books: u64) -> Vec<Case> {
-    let with_room = |s: stored::Stored| Case { name: s.name, book: s.book, room: MOST_ROOM };
-    let stored = stored::books().into_iter().map(with_room);
-    stored.chain((0..random_books).map(|_| random_case(random))).collect()
+/// A version's stored books, each with room, and so many random books.
+fn cases(layout: Layout, limits: Limits, random: &mut Random, random_books: u64) -> Vec<Case> {
+    let stored = stored_books(&layout).into_iter().filter(|(_, book)| book.len() <= limits.room);
+    let with_room = stored.map(|(name, book)| Case { layout, name, book, room: limits.room });
+    with_room.chain((0..random_books).map(|_| random_case(layout, limits, random))).collect()
 }
 
-/// Puts all cases through the program, as many at a time as it takes.
+/// Puts all cases of both versions through the program, as many at a time as it takes.
 pub fn repacks(path: &str, seed: u64, random_books: u64) -> Result<Tally, String> {
     let mut random = Random::new(seed);
     let mut tally = Tally::default();
-    let all = cases(&mut random, random_books);
+    let mut all = cases(ONE, SHOWN, &mut random, random_books / 2);
+    all.extend(cases(TWO, SHOWN, &mut random, random_books.div_ceil(2)));
     let mut rest = &all[..];
     while !rest.is_empty() {
         let (batch, others) = rest.split_at(fitting(rest));
         try_batch(path, batch, &mut random, &mut tally)?;
         rest = others;
+    }
+    Ok(tally)
+}
+
+/// Puts a version's cases through the library's repacker, with books as long as the version has them.
+pub fn library(planner: &Planner, seed: u64, random_books: u64) -> Result<Tally, String> {
+    let limits = Limits { rules: planner.layout.most_rules(), room: WRITTEN.width() * WRITTEN.records + 99 };
+    let mut random = Random::new(seed);
+    let mut tally = Tally::default();
+    for Case { layout, name, book, room } in cases(planner.layout, limits, &mut random, random_books) {
+        let (right, told) = (repack(&layout, &book, room), planner.repack(&book, room));
+        if told.as_ref() != Ok(&right) {
+            let book = to_hex(&book);
+            return Err(format!("mismatch: {name}: repacked, room {room}\nbook    {book}\nright   {right:?}\ntold    {told:?}"));
+        }
+        tally.count(&right);
+    }
+    Ok(tally)
+}
+
+/// A version's program that only repacks, on what its plan program is run on: the repacked form on standard output, or the line of the
+/// refusal on standard error, and nothing on the other.
+pub fn program(layout: &Layout, path: &str, seed: u64) -> Result<Tally, String> {
+    let mut random = Random::new(seed);
+    let mut tally = Tally::default();
+    for (name, book) in inputs(layout, &mut random) {
+        let right = repack(layout, &book, WRITTEN.width() * WRITTEN.records);
+        tally.count(&right);
+        let streams = streams(path, &book, random.below(book.len() + 1))?;
+        let expected = match right {
+            Ok(packed) => (packed, Vec::new()),
+            Err(Refused { number, record }) => (Vec::new(), format!("refused {number} {record}\n").into_bytes()),
+        };
+        if streams != expected {
+            return Err(format!(
+                "mismatch: {name}: repacked\nbook    {}\nright   {expected:?}\nprinted {streams:?}",
+                to_hex(&book)
+            ));
+        }
     }
     Ok(tally)
 }
@@ -176,15 +238,16 @@ fn fitting(cases: &[Case]) -> usize {
 #[cfg(test)]
 mod tests {
     use super::*;
-    use crate::layout::TWO;
 
     #[test]
     fn a_repacked_book_is_its_own_repacked_form() {
         let mut random = Random::new(1);
-        let books = (0..2_000).map(|_| random_case(&mut random).book);
-        let packed: Vec<Vec<u8>> = books.filter_map(|book| repack(&READ, &book, MOST_ROOM).ok()).collect();
-        assert!(packed.len() > 1_000);
-        assert!(packed.iter().all(|book| repack(&WRITTEN, book, book.len()).as_ref() == Ok(book)));
+        for layout in [ONE, TWO] {
+            let books = (0..2_000).map(|_| random_case(layout, SHOWN, &mut random).book);
+            let packed: Vec<Vec<u8>> = books.filter_map(|book| repack(&layout, &book, SHOWN.room).ok()).collect();
+            assert!(packed.len() > 1_000);
+            assert!(packed.iter().all(|book| repack(&WRITTEN, book, book.len()).as_ref() == Ok(book)));
+        }
     }
 
     #[test]

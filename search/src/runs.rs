@@ -1,15 +1,16 @@
 //! The parts of the test run. Every book is planned and its line judged; the first mismatch ends the run.
 
-use crate::book::{to_hex, Source};
+use crate::book::{to_hex, Source, MOST_RULES};
 use crate::damage::damage;
 use crate::families::{busy_source, source};
 use crate::judge::expected_as;
-use crate::layout::Layout;
+use crate::layout::{Layout, TWO};
 use crate::planner::{self, Planner};
 use crate::prefixes::Way;
+use crate::program::{short_stored_books, stored_books_of_one};
 use crate::random::Random;
 use crate::read::read_as;
-use crate::stored;
+use crate::{stored, stored_two};
 use std::fmt;
 
 /// How many books came to each end.
@@ -41,7 +42,7 @@ impl fmt::Display for Tally {
 
 /// Plans a book, judges the line, and gives the right one.
 fn try_book(planner: &Planner, name: &str, book: &[u8], way: Way) -> Result<String, String> {
-    try_line_as(&planner.layout, name, book, way, (planner.line)(book))
+    try_line_as(&planner.layout, name, book, way, planner.line(book))
 }
 
 /// Judges what was printed for a book of a version, and gives the right line.
@@ -54,21 +55,34 @@ pub fn try_line_as(layout: &Layout, name: &str, book: &[u8], way: Way, line: Res
     Ok(right.shown())
 }
 
-/// The stored books of version 1; the search itself must find the stored lines.
-pub fn stored_books(tally: &mut Tally) -> Result<u64, String> {
-    let books = stored::books();
+/// The stored books of a version; the search itself must find the stored lines. Those of version 1 are tried in version 2 too, where some
+/// are turned back for other causes.
+pub fn stored_lines(planner: &Planner, tally: &mut Tally) -> Result<u64, String> {
+    let two = planner.layout == TWO;
+    let (books, way) = if two { (stored_two::books(), Way::OnePass) } else { (stored::books(), Way::Anew) };
     for s in &books {
-        let right = try_book(&planner::ONE, s.name, &s.book, Way::Anew)?;
+        let right = try_book(planner, s.name, &s.book, way)?;
         if right != s.line {
             return Err(format!("mismatch: {}: stored {}, searched {right}\nbook    {}", s.name, s.line, to_hex(&s.book)));
         }
         tally.count(&right);
     }
-    Ok(books.len() as u64)
+    let rewritten = if two { stored_books_of_one(&TWO) } else { Vec::new() };
+    for (name, book) in &rewritten {
+        tally.count(&try_book(planner, name, book, Way::OnePass)?);
+    }
+    Ok((books.len() + rewritten.len()) as u64)
+}
+
+/// The stored books of up to 300 rules once more, with buffers that are too short. The twin is not asked: it writes what it has to say.
+pub fn short_buffers(planner: &Planner) -> Result<(), String> {
+    let books = if cfg!(feature = "standin") { Vec::new() } else { short_stored_books(&planner.layout) };
+    let named = |name: &str, book: &[u8], why| format!("mismatch: {name}: {why}\nbook    {}", to_hex(book));
+    books.iter().try_for_each(|(name, book)| planner.short_buffers(book).map_err(|why| named(name, book, why)))
 }
 
 /// How long random books are: at most so many rules, one in four nearly as long as that. Every prefix is searched anew of those with up to
-/// `anew` rules and of one in a hundred of the others, and in one pass of the rest.
+/// `anew` rules and of one in a hundred of the others with up to 255, and in one pass of the rest.
 pub struct Lengths {
     pub most: usize,
     pub anew: usize,
@@ -81,7 +95,7 @@ pub fn random_books(planner: &Planner, tally: &mut Tally, seed: u64, books: u64,
     for i in 0..books {
         let n = if random.one_in(4) { most - random.below(most / 12 + 1) } else { random.below(most + 1) };
         let (name, book) = random_book(&planner.layout, &mut random, n);
-        let way = if n <= anew || i % 100 == 0 { Way::Anew } else { Way::OnePass };
+        let way = if n <= anew || n <= MOST_RULES && i % 100 == 0 { Way::Anew } else { Way::OnePass };
         tally.count(&try_book(planner, name, &book, way)?);
     }
     Ok(books)
@@ -97,11 +111,11 @@ fn random_book(layout: &Layout, random: &mut Random, n: usize) -> (&'static str,
     (name, book)
 }
 
-/// The longest books, or up to 55 rules shorter, whose counts are as great as they can be, or nearly.
-pub fn busy_books(planner: &Planner, tally: &mut Tally, seed: u64, books: u64) -> Result<u64, String> {
+/// Books of so many rules or more, whose counts are as great as they can be, or nearly.
+pub fn busy_books(planner: &Planner, tally: &mut Tally, seed: u64, books: u64, least: usize) -> Result<u64, String> {
     let mut random = Random::new(seed);
     for _ in 0..books {
-        let n = planner.layout.most_rules() - random.below(56);
+        let n = least + random.below(planner.layout.records - least);
         let (name, source) = busy_source(&mut random, n);
         let book = source.scattered_as(&planner.layout, 3, &mut random);
         tally.count(&try_book(planner, name, &book, Way::OnePass)?);
@@ -168,7 +182,7 @@ fn reordered(layout: &Layout, source: &Source, random: &mut Random) -> Vec<u8> {
 
 /// What the planner's line says that no order may change.
 fn order_free(planner: &Planner, book: &[u8]) -> Result<Vec<String>, String> {
-    let line = (planner.line)(book).map_err(|why| format!("mismatch: {why}\nbook    {}", to_hex(book)))?;
+    let line = planner.line(book).map_err(|why| format!("mismatch: {why}\nbook    {}", to_hex(book)))?;
     let text = String::from_utf8_lossy(&line);
     let kept = match text.split(' ').next() {
         Some("best") => 4,
@@ -176,4 +190,44 @@ fn order_free(planner: &Planner, book: &[u8]) -> Result<Vec<String>, String> {
         _ => 1,
     };
     Ok(text.split(' ').take(kept).map(String::from).collect())
+}
+
+/// Books of version 1, and what the planner of version 2 says of their repacked form: the same, but for the witness. The repacked form is
+/// its own, and rules in another order and version have the same outcome, pair and direction.
+pub fn both_versions(seed: u64, books: u64) -> Result<u64, String> {
+    let mut random = Random::new(seed);
+    for i in 0..books {
+        let n = random.below(if i % 10 == 0 { MOST_RULES + 1 } else { 13 });
+        let (name, source) = source(&mut random, n);
+        let book = source.scattered_as(&planner::ONE.layout, 9, &mut random);
+        if read_as(&planner::ONE.layout, &book).is_ok() {
+            let other = reordered(&TWO, &source, &mut random);
+            said_alike(&book, &other).map_err(|why| format!("mismatch: {name}: {why}\nbook    {}", to_hex(&book)))?;
+        }
+    }
+    Ok(books)
+}
+
+/// Compares what is said of an accepted book of version 1, of its repacked form, and of the same rules in another order in version 2.
+fn said_alike(book: &[u8], other: &[u8]) -> Result<(), String> {
+    let (one, two) = (&planner::ONE, &planner::TWO);
+    let packed = one.repack(book, TWO.width() * TWO.records)?.map_err(|r| format!("not repacked: {r:?}"))?;
+    let lines = (one.line(book)?, two.line(&packed)?);
+    if without_witness(&lines.0) != without_witness(&lines.1) {
+        return Err(format!("the repacked form {} has another line", to_hex(&packed)));
+    }
+    if two.repack(&packed, packed.len())? != Ok(packed) {
+        return Err("the repacked form is not its own".into());
+    }
+    if order_free(one, book)? != order_free(two, other)? {
+        return Err(format!("another order in version 2: {}", to_hex(other)));
+    }
+    Ok(())
+}
+
+/// A line up to its counts.
+fn without_witness(line: &[u8]) -> Vec<String> {
+    let text = String::from_utf8_lossy(line);
+    let kept = if text.starts_with("impossible") { 4 } else { usize::MAX };
+    text.split(' ').take(kept).map(String::from).collect()
 }

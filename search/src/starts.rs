@@ -6,11 +6,11 @@ use crate::clip;
 use crate::damage::damage;
 use crate::exact::{start, Line, Outcome, Pair};
 use crate::families::source;
-use crate::layout::ONE;
-use crate::planner::{start_after, Seen};
+use crate::layout::Layout;
+use crate::planner::{Planner, Seen};
+use crate::program::short_stored_books;
 use crate::random::Random;
-use crate::read::{read, Refused};
-use crate::stored;
+use crate::read::read_as;
 
 /// The longest chain whose prefixes are searched anew; those of others are searched in one pass.
 const ANEW: usize = 40;
@@ -28,20 +28,20 @@ fn start_pairs(rules: &[Line]) -> Vec<Option<Pair>> {
 }
 
 /// The start pair and the count after 0, 1, .. n rules.
-fn expected(rules: &[Line]) -> Vec<(Option<Pair>, u64)> {
+fn expected(rules: &[Line]) -> Vec<(Option<Pair>, usize)> {
     let pairs = start_pairs(rules);
     let lost = |i: usize| i > 0 && pairs[i - 1].is_some_and(|v| !rules[i - 1].kept_by(&v));
     let counts = (0..pairs.len()).scan(0, |count, i| {
-        *count += u64::from(lost(i));
+        *count += usize::from(lost(i));
         Some(*count)
     });
     pairs.iter().copied().zip(counts).collect()
 }
 
 /// What must be seen after 0, 1, .. n rules: of a refused book its refusal.
-fn views(book: &[u8]) -> Vec<Seen> {
-    match read(book) {
-        Err(Refused { number, record }) => vec![Seen::Refused { number: number.into(), record: record as u64 }],
+fn views(layout: &Layout, book: &[u8]) -> Vec<Seen> {
+    match read_as(layout, book) {
+        Err(refused) => vec![Seen::Refused(refused)],
         Ok(a) => {
             let rules: Vec<Line> = a.rules.iter().map(|r| r.line).collect();
             expected(&rules).into_iter().map(|(start, count)| Seen::After { start, count }).collect()
@@ -49,13 +49,13 @@ fn views(book: &[u8]) -> Vec<Seen> {
     }
 }
 
-/// Every prefix of a book, and some lengths beyond its chain.
-fn try_starts(name: &str, book: &[u8]) -> Result<u64, String> {
-    let right = views(book);
+/// Every prefix of a book, or some where there are many, and some lengths beyond its chain. Says how many were looked at.
+fn try_starts(planner: &Planner, name: &str, book: &[u8], random: &mut Random) -> Result<u64, String> {
+    let right = views(&planner.layout, book);
     let n = right.len() - 1;
-    let beyond = [n + 1, n + 256, usize::MAX];
-    for k in (0..=n).chain(beyond) {
-        let (right, seen) = (&right[k.min(n)], start_after(book, k));
+    let inside = if n <= MOST_RULES { (0..=n).collect() } else { sampled(n, random) };
+    for &k in inside.iter().chain(&[n + 1, n + planner.layout.records, usize::MAX]) {
+        let (right, seen) = (&right[k.min(n)], planner.start_after(book, k));
         if seen.as_ref() != Ok(right) {
             return Err(format!(
                 "mismatch: {name}: start after {k}\nbook    {}\nright   {right:?}\nseen    {seen:?}",
@@ -63,33 +63,42 @@ fn try_starts(name: &str, book: &[u8]) -> Result<u64, String> {
             ));
         }
     }
-    Ok(right.len() as u64)
+    Ok(inside.len() as u64)
 }
 
-/// Stored and random books, every prefix of each. One in twenty is longer, one in two hundred much longer, one in eight damaged.
-pub fn starts(seed: u64, books: u64) -> Result<u64, String> {
-    let mut prefixes = stored::books().iter().map(|s| try_starts(s.name, &s.book)).sum::<Result<u64, String>>()?;
+/// Both ends, the lengths around 255, and some between. To plan every prefix of a long chain would take minutes.
+fn sampled(n: usize, random: &mut Random) -> Vec<usize> {
+    let between = (0..32).map(|_| random.below(n + 1));
+    [0, 1, 254, 255, 256, n - 1, n].into_iter().chain(between).collect()
+}
+
+/// Stored and random books. One in twenty is longer, one in two hundred much longer, one in a thousand as long as the version has them, and
+/// one in eight damaged.
+pub fn starts(planner: &Planner, seed: u64, books: u64) -> Result<u64, String> {
     let mut random = Random::new(seed);
-    for i in 0..books {
-        let (name, book) = random_book(&mut random, i);
-        prefixes += try_starts(name, &book)?;
+    let mut prefixes = 0;
+    for (name, book) in short_stored_books(&planner.layout) {
+        prefixes += try_starts(planner, name, &book, &mut random)?;
+    }
+    for i in 1..=books {
+        let (name, book) = random_book(&planner.layout, &mut random, i);
+        prefixes += try_starts(planner, name, &book, &mut random)?;
     }
     Ok(prefixes)
 }
 
-fn random_book(random: &mut Random, i: u64) -> (&'static str, Vec<u8>) {
-    let most = if i % 200 == 0 {
-        MOST_RULES
-    } else if i % 20 == 0 {
-        ANEW
-    } else {
-        12
+fn random_book(layout: &Layout, random: &mut Random, i: u64) -> (&'static str, Vec<u8>) {
+    let most = match i {
+        _ if i % 1_000 == 0 => layout.most_rules(),
+        _ if i % 200 == 0 => MOST_RULES,
+        _ if i % 20 == 0 => ANEW,
+        _ => 12,
     };
     let n = random.below(most + 1);
     let (name, source) = source(random, n);
-    let mut book = source.scattered(3, random);
-    if i % 8 == 0 {
-        damage(&ONE, random, &mut book);
+    let mut book = source.scattered_as(layout, 3, random);
+    if random.one_in(8) {
+        damage(layout, random, &mut book);
     }
     (name, book)
 }
@@ -98,7 +107,7 @@ fn random_book(random: &mut Random, i: u64) -> (&'static str, Vec<u8>) {
 mod tests {
     use super::*;
 
-    fn counts(rules: &[(i128, i128, i128)]) -> Vec<u64> {
+    fn counts(rules: &[(i128, i128, i128)]) -> Vec<usize> {
         let lines: Vec<Line> = rules.iter().map(|&(a, b, c)| Line { a, b, c }).collect();
         expected(&lines).iter().map(|s| s.1).collect()
     }

@@ -36,7 +36,7 @@ const BYTES: &[(&str, &str, &str)] = &[
 
 pub fn books() -> Vec<Stored> {
     let bytes = BYTES.iter().map(|&(name, hex, line)| Stored { name, book: from_hex(hex).unwrap(), line });
-    bytes.chain(lengths()).chain(far_records()).chain(chains()).collect()
+    bytes.chain(lengths()).chain(links()).chain(far_records()).chain(chains()).collect()
 }
 
 /// The longest book, and one record more.
@@ -46,6 +46,30 @@ fn lengths() -> [Stored; 2] {
     [
         Stored { name: "two: 57,344 bytes", book, line: "best 0 2 1 1 0" },
         Stored { name: "two: 57,358 bytes", book: longer, line: "refused 1 0" },
+    ]
+}
+
+/// A book of n alike rules, one in each record, with another link in one of them.
+fn linked(n: usize, record: usize, link: u16) -> Vec<u8> {
+    let mut book = source(0, 0, &vec![(2, 1, 1, 2); n]).packed_as(&TWO);
+    book[record * TWO.width()..][..2].copy_from_slice(&link.to_le_bytes());
+    book
+}
+
+/// Links around 256, and the greatest. The records before the one that a first link leads to are spare.
+fn links() -> Vec<Stored> {
+    let stored = |name, book, line| Stored { name, book, line };
+    vec![
+        stored("two: a first link of 255", linked(300, 0, 255), "best 0 2 1 1 0"),
+        stored("two: a first link of 256", linked(300, 0, 256), "best 0 2 1 1 0"),
+        stored("two: a first link of 256 among 255", linked(255, 0, 256), "refused 6 0"),
+        stored("two: a first link of 4,095", linked(MOST, 0, 4_095), "best 0 2 1 1 0"),
+        stored("two: a first link of 4,096", linked(MOST, 0, 4_096), "refused 6 0"),
+        stored("two: a first link of 65,535", linked(MOST, 0, 65_535), "refused 6 0"),
+        stored("two: the last of 4,095 leads to 255", linked(MOST, MOST, 255), "refused 7 4095"),
+        stored("two: the last of 4,095 leads to 256", linked(MOST, MOST, 256), "refused 7 4095"),
+        stored("two: the last of 4,095 leads to itself", linked(MOST, MOST, 4_095), "refused 7 4095"),
+        stored("two: the last of 4,095 leads to 4,096", linked(MOST, MOST, 4_096), "refused 6 4095"),
     ]
 }
 

@@ -1,7 +1,8 @@
-//! The planner's time as a ratio to an earlier commit's, which `bench/against` builds and links under a name of its own.
+//! The time of the planner of version 1 as a ratio to an earlier commit's, which `bench/against` builds and links under a name of its own.
 
-use search::planner;
-use std::process::ExitCode;
+use bench::{title, Table};
+use search::layout::ONE;
+use search::planner::{plan_line, Fill, LINE};
 
 extern "C" {
     fn earlier_plan_line(book: *const u8, book_len: usize, out: *mut u8, out_len: usize) -> usize;
@@ -12,6 +13,8 @@ fn earlier(book: &[u8], out: &mut [u8]) -> usize {
     unsafe { earlier_plan_line(book.as_ptr(), book.len(), out.as_mut_ptr(), out.len()) }
 }
 
-fn main() -> ExitCode {
-    bench::table([("now", planner::plan_line), ("earlier", earlier), ("twin", twin::plan_line)])
+fn main() -> Result<(), String> {
+    title();
+    let planners = [("now", plan_line as Fill), ("earlier", earlier), ("twin", twin::plan_line)];
+    Table { layout: ONE, lengths: &[16, 64, 255], room: LINE, planners, growth: false }.print()
 }

@@ -6,33 +6,92 @@
 mod book;
 mod line;
 mod plane;
+mod version;
 mod walk;
 
-use book::{Chain, LONG, SHORT};
+use book::{Chain, Refused};
 use plane::Constraint;
+use version::{One, Two, Version};
+use walk::Answer;
 
-/// Writes the book's line at the start of `out` and returns its length, as one would write it.
+/// Room for the floors and 30 rules, for the floors and 255, and for the floors and 4,095.
+const SHORT: usize = 32;
+const LONG: usize = 257;
+const LONGEST: usize = 4_097;
+
+/// Writes the line of a version 1 book at the start of `out` and returns its length, as one would write it.
 #[inline(never)]
 pub fn plan_line(book: &[u8], out: &mut [u8]) -> usize {
-    plan_in::<false>(book, &mut [Constraint::NONE; LONG], out)
+    planned::<One, LONG, false>(book, out)
 }
 
 /// The same with the planner's shortcuts: a run for two floors and 255 rules is long to clear, so short books have a short one; a point
 /// is divided in another order; and a pass starts from the point at infinity.
 #[inline(never)]
 pub fn tuned_line(book: &[u8], out: &mut [u8]) -> usize {
-    if book::entries(book) <= SHORT {
-        plan_in::<true>(book, &mut [Constraint::NONE; SHORT], out)
+    if book::entries::<One>(book) <= SHORT {
+        planned::<One, SHORT, true>(book, out)
     } else {
-        plan_in::<true>(book, &mut [Constraint::NONE; LONG], out)
+        planned::<One, LONG, true>(book, out)
     }
 }
 
-/// Plans a book with its entries in a run that has room for them.
-fn plan_in<const TUNED: bool>(book: &[u8], entries: &mut [Constraint], out: &mut [u8]) -> usize {
-    let mut chain = Chain::empty(entries);
-    match book::read(book, &mut chain) {
-        Ok(()) => line::answer(&walk::walk::<TUNED>(&chain), &chain, out),
+/// The line of a version 2 book, with the planner's shortcuts and its three sizes of runs.
+#[inline(never)]
+pub fn tuned_line2(book: &[u8], out: &mut [u8]) -> usize {
+    match book::entries::<Two>(book) {
+        0..=SHORT => planned::<Two, SHORT, true>(book, out),
+        0..=LONG => planned::<Two, LONG, true>(book, out),
+        _ => planned::<Two, LONGEST, true>(book, out),
+    }
+}
+
+/// The panel of a version 1 book, with the planner's shortcuts.
+#[inline(never)]
+pub fn tuned_panel(book: &[u8], out: &mut [u8]) -> usize {
+    if book::entries::<One>(book) <= SHORT {
+        panelled::<One, SHORT>(book, out)
+    } else {
+        panelled::<One, LONG>(book, out)
+    }
+}
+
+/// The panel of a version 2 book.
+#[inline(never)]
+pub fn tuned_panel2(book: &[u8], out: &mut [u8]) -> usize {
+    match book::entries::<Two>(book) {
+        0..=SHORT => panelled::<Two, SHORT>(book, out),
+        0..=LONG => panelled::<Two, LONG>(book, out),
+        _ => panelled::<Two, LONGEST>(book, out),
+    }
+}
+
+/// Plans a book with its entries in runs of a size that has room for them. Each size is a function of its own, so that a short book takes
+/// little of the stack.
+#[inline(never)]
+fn planned<V: Version, const SIZE: usize, const TUNED: bool>(book: &[u8], out: &mut [u8]) -> usize {
+    let (mut entries, mut records) = ([Constraint::NONE; SIZE], [0; SIZE]);
+    let mut chain = Chain::empty(&mut entries, &mut records);
+    match answered::<V, TUNED>(book, &mut chain) {
+        Ok(answer) => line::answer(&answer, &chain, out),
         Err((number, record)) => line::refused(number, record, out),
     }
+}
+
+/// Makes the panel of a book likewise.
+#[inline(never)]
+fn panelled<V: Version, const SIZE: usize>(book: &[u8], out: &mut [u8]) -> usize {
+    let (mut entries, mut records) = ([Constraint::NONE; SIZE], [0; SIZE]);
+    let mut chain = Chain::empty(&mut entries, &mut records);
+    match answered::<V, true>(book, &mut chain) {
+        Ok(answer) => line::panel(&answer, &chain, |record| book::label::<V>(book, record), out),
+        Err((number, record)) => line::refused(number, record, out),
+    }
+}
+
+/// Reads a book into an empty chain and walks along it.
+#[inline(always)]
+fn answered<V: Version, const TUNED: bool>(book: &[u8], chain: &mut Chain) -> Result<Answer, Refused> {
+    book::read::<V>(book, chain)?;
+    Ok(walk::walk::<TUNED>(chain))
 }

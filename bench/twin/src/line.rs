@@ -1,6 +1,7 @@
 //! Writes the printed line.
 
 use crate::book::Chain;
+use crate::plane::gcd;
 use crate::walk::{Answer, Outcome, Witness};
 
 struct Line<'a> {
@@ -8,7 +9,7 @@ struct Line<'a> {
     length: usize,
 }
 
-pub fn refused(number: u8, record: u8, out: &mut [u8]) -> usize {
+pub fn refused(number: u8, record: u16, out: &mut [u8]) -> usize {
     let mut line = Line { out, length: 0 };
     line.text(b"refused").number(number.into()).number(record.into());
     line.end()
@@ -30,6 +31,21 @@ pub fn answer(answer: &Answer, chain: &Chain, out: &mut [u8]) -> usize {
     line.end()
 }
 
+/// For a best pair a line a rule, its label and how far the pair is from it, in lowest terms; nothing for any other outcome.
+pub fn panel(answer: &Answer, chain: &Chain, label: impl Fn(usize) -> usize, out: &mut [u8]) -> usize {
+    let mut line = Line { out, length: 0 };
+    let Outcome::Best(v) = &answer.outcome else {
+        return 0;
+    };
+    for (rule, record) in chain.entries[2..chain.count].iter().zip(&chain.records[2..]) {
+        let left = rule.slack(*v);
+        let g = gcd(left as u64, v.d as u64) as i64;
+        let label = label(usize::from(*record)) as i64;
+        line.digits(label).text(b" ").digits(left / g).text(b" ").digits(v.d / g).text(b"\n");
+    }
+    line.length
+}
+
 impl Line<'_> {
     fn text(&mut self, text: &[u8]) -> &mut Self {
         self.out[self.length..self.length + text.len()].copy_from_slice(text);
@@ -48,6 +64,25 @@ impl Line<'_> {
             rest /= 10;
         }
         self.text(b" ").text(&digits[at..])
+    }
+
+    /// A number that is not negative, two digits at a time as the planner writes them: a panel is mostly numbers.
+    fn digits(&mut self, n: i64) -> &mut Self {
+        let mut digits = [b'0'; 20];
+        let mut at = 20;
+        let mut rest = n as u64;
+        while rest >= 10 {
+            let two = (rest % 100) as u8;
+            rest /= 100;
+            at -= 2;
+            digits[at] = b'0' + two / 10;
+            digits[at + 1] = b'0' + two % 10;
+        }
+        if rest > 0 || at == 20 {
+            at -= 1;
+            digits[at] = b'0' + rest as u8;
+        }
+        self.text(&digits[at..])
     }
 
     /// Floors first, then records rising.

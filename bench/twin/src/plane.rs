@@ -68,7 +68,7 @@ impl Ray {
     }
 }
 
-fn gcd(m: u64, n: u64) -> u64 {
+pub fn gcd(m: u64, n: u64) -> u64 {
     if n == 0 {
         m
     } else {

@@ -1,5 +1,4 @@
--- The laws of this crate: lists and tables, the walk and the causes, the runs and the state of the walk, what holds of accepted books, the
--- repacked form.
+-- The laws of this crate: lists and tables, the walk and the causes, the runs and the state of the walk, what holds of accepted books.
 pub mod Members
 pub mod TableLaws
 pub mod Small
@@ -13,8 +12,4 @@ pub mod Spare
 pub mod Bounds
 pub mod OneLabel
 pub mod Said
-pub mod Packed
-pub mod Output
-pub mod Readback
-pub mod RepackLaws
 pub mod Examples

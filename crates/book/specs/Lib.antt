@@ -3,7 +3,6 @@
 -- Judging are cited by private functions alone.
 pub mod Reading
 pub mod Runs
-pub mod Repacking
 pub mod Promises
 pub mod Causes
 pub mod Spare

@@ -8,10 +8,8 @@ use Rattle.lp.specs.declared.Terms.{Terms}
 use Rattle.answers.specs.Refusal.{refusal, notRefused}
 use Rattle.records.specs.Layout.{Layout}
 use Rattle.book.specs.declared.Head.{Head}
-use Rattle.book.specs.declared.Repacked.{Repacked}
 use Rattle.book.specs.Reading.{Reading, refused, accepted, readOf, passedOf}
 use Rattle.book.specs.Runs.{putRecords, putRules}
-use Rattle.book.specs.Repacking.{Packing, declined, packed, repackOf}
 
 abbrev pub noTerms : Terms
 noTerms = record { objective = record { p = pos 0; q = pos 0 }; floors = record { lx = pos 0; ly = pos 0 } }
@@ -28,17 +26,3 @@ pub record ReadInto
   pub answer : h ≡ headOf (readOf L s)
   pub recorded : records′ ≡ putRecords records 0 (passedOf L s)
   pub ruled : rules′ ≡ putRules rules 0 (passedOf L s)
-
--- what repacking answers, and what the output then holds
-abbrev pub repackedOf : Packing → Repacked
-repackedOf (declined n r) = record { refusal = refusal n r; filled = 0 }
-repackedOf (packed bs) = record { refusal = notRefused; filled = length bs }
-
-abbrev pub outputOf : Packing → List ℕ → List ℕ
-outputOf (declined n r) out = out
-outputOf (packed bs) out = bs ++ drop (length bs) out
-
--- the promise of `repack`
-pub record Repacks (L : Layout) (s out : List ℕ) (r : Repacked) (after : List ℕ) : Type 0 where
-  pub answer : r ≡ repackedOf (repackOf L s (length out))
-  pub output : after ≡ outputOf (repackOf L s (length out)) out

@@ -32,7 +32,9 @@ module _ (z : ℤ) (f : SFits w64 z) where
   pub minus-fits : ltZ (toZ w64 (ofZ w64 z)) (negsuc 4294967295) ≡ false → SFits w64 (pos 0 -ℤ toZ w64 (ofZ w64 z))
   minus-fits h = rw (value, +ℤ-idl) (negated-fits z f (ap (λ x. ltZ x (negsuc 4294967295)) (sym value) ∙ h))
 
-  pub minus-cast : (h : ltZ (toZ w64 (ofZ w64 z)) (negsuc 4294967295) ≡ false) → ltZ (toZ w64 (ofZ w64 z)) (pos 0) ≡ true → T (nonNeg (toZ w64 (ofZ w64 (pos 0 -ℤ toZ w64 (ofZ w64 z))))) × Fits w64 (natAbs (toZ w64 (ofZ w64 (pos 0 -ℤ toZ w64 (ofZ w64 z)))))
+  pub minus-cast : (h : ltZ (toZ w64 (ofZ w64 z)) (negsuc 4294967295) ≡ false) →
+      ltZ (toZ w64 (ofZ w64 z)) (pos 0) ≡ true →
+      T (nonNeg (toZ w64 (ofZ w64 (pos 0 -ℤ toZ w64 (ofZ w64 z))))) × Fits w64 (natAbs (toZ w64 (ofZ w64 (pos 0 -ℤ toZ w64 (ofZ w64 z)))))
   minus-cast h n =
       rw (toZ-ofZ (minus-fits h), value, +ℤ-idl)
       (negated-sign z (ap (λ x. ltZ x (pos 0)) (sym value) ∙ n), fits-natAbs tt (negated-fits z f (ap (λ x. ltZ x (negsuc 4294967295)) (sym value) ∙ h)))

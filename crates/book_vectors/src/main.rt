@@ -1,5 +1,6 @@
 // Runs stored books from standard input, and writes a line for what each reads as and a line for what its repacking does.
-// A case is a name and a book, each after its length, and then the length of the output: two bytes for a length, low byte first.
+// A case is a name after its length, the version of the book, the book after its length, and then the length of the output: two bytes for a
+// number, low byte first.
 use io::print_decimal;
 use io::print_hex;
 use records::Version;
@@ -60,8 +61,8 @@ fn part(s: &[u8], from: usize, len: usize) -> &[u8]
 }
 
 // A rule of the chain: its record, kind, a, b, c and label, and then a, b, c as they are planned.
-fn print_rule(bytes: &[u8], index: u16) {
-    let rule = records::rule_at(Version::One, bytes, index);
+fn print_rule(version: Version, bytes: &[u8], index: u16) {
+    let rule = records::rule_at(version, bytes, index);
     let planned = records::constraint(rule);
     io::write_all(1, b" |");
     number(index as u64);
@@ -77,21 +78,21 @@ fn print_rule(bytes: &[u8], index: u16) {
 }
 
 // The first n rules of the chain.
-fn print_rules(bytes: &[u8], indices: [u16; 255], n: usize) {
+fn print_rules(version: Version, bytes: &[u8], indices: [u16; 255], n: usize) {
     let mut k: usize = 0;
     while k < 255 {
         if k < n {
-            print_rule(bytes, indices[k]);
+            print_rule(version, bytes, indices[k]);
         }
         k += 1;
     }
 }
 
-// What a book reads as.
-fn print_reading(bytes: &[u8]) {
+// What a book reads as; of a longer chain the first 255 rules.
+fn print_reading(version: Version, bytes: &[u8]) {
     let mut indices = [0u16; 255];
     let mut rules = [0i64; 765];
-    let head = book::read(Version::One, bytes, &mut indices, &mut rules);
+    let head = book::read(version, bytes, &mut indices, &mut rules);
     let refusal = head.refusal;
     if refusal.number != 0 {
         io::write_all(1, b" refused");
@@ -106,7 +107,7 @@ fn print_reading(bytes: &[u8]) {
     signed(goal.q);
     let n = head.n;
     number(n as u64);
-    print_rules(bytes, indices, n);
+    print_rules(version, bytes, indices, n);
 }
 
 // Bytes in hexadecimal.
@@ -132,8 +133,8 @@ fn changed(out: &[u8], from: usize) -> usize {
 }
 
 // What repacking a book does to an output.
-fn print_repacking(bytes: &[u8], out: &mut [u8]) {
-    let answer = book::repack(bytes, &mut *out);
+fn print_repacking(version: Version, bytes: &[u8], out: &mut [u8]) {
+    let answer = repacker::repack(version, bytes, &mut *out);
     let refusal = answer.refusal;
     number(refusal.number as u64);
     number(refusal.at as u64);
@@ -154,6 +155,15 @@ fn fresh() -> [u8; 4096]
     [BEFORE; 4096]
 }
 
+// The version that a case names.
+fn version_of(number: usize) -> Version {
+    if number == 2 {
+        Version::Two
+    } else {
+        Version::One
+    }
+}
+
 // A case from an index on, and the index after it.
 fn run(input: &[u8], at: usize) -> usize
     requires { ⌜ at < 2 ^ 16 ⌝ }
@@ -161,17 +171,19 @@ fn run(input: &[u8], at: usize) -> usize
 {
     let name_length = length_at(input, at);
     let name = part(input, at + 2, name_length);
-    let book_at = at + 2 + name_length;
+    let version_at = at + 2 + name_length;
+    let version = version_of(length_at(input, version_at));
+    let book_at = version_at + 2;
     let book_length = length_at(input, book_at);
     let bytes = part(input, book_at + 2, book_length);
     let room_at = book_at + 2 + book_length;
     let room = length_at(input, room_at);
     io::write_all(1, name);
-    print_reading(bytes);
+    print_reading(version, bytes);
     io::write_all(1, b"\n  packed");
     let mut out = fresh();
     if room <= 4096 {
-        print_repacking(bytes, &mut out[..room]);
+        print_repacking(version, bytes, &mut out[..room]);
     }
     io::write_all(1, b"\n");
     room_at + 2

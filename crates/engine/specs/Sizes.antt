@@ -120,11 +120,12 @@ pub record Moving (f : Functional) (t : Tie) (l : List ℤ) (n : ℕ) (h : Const
   pub restarting : Restarting t l n h
 
 -- whether the best pair broke the constraint was found out before
-pub record Improving (f : Functional) (t : Tie) (l : List ℤ) (n : ℕ) (h : Constraint) (cone : Cone) (b : Best) (broken : Bool) : Type 0 where
-  pub moving : Moving f t l n h
-  pub rays : SmallCone cone
-  pub best : SmallBest b
-  pub asked : broken ≡ breaks h b
+pub record Improving (f : Functional) (t : Tie) (l : List ℤ) (n : ℕ) (h : Constraint) (cone : Cone) (b : Best) (broken : Bool) : Type 0
+  where
+    pub moving : Moving f t l n h
+    pub rays : SmallCone cone
+    pub best : SmallBest b
+    pub asked : broken ≡ breaks h b
 
 pub record Breaking (h : Constraint) (b : Best) : Type 0 where
   pub h-small : SmallConstraint h

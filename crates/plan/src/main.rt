@@ -1,5 +1,5 @@
-// The plan program: one book from standard input, its line to standard output. It reads one byte more than a book may have, so that longer input is
-// seen to be too long.
+// The plan program: one book from standard input, its line to standard output. It reads one byte more than a book may have, so that
+// longer input is seen to be too long.
 fn main() {
     let mut input = [0u8; 3073];
     let n = io::read_full(0, &mut input);

@@ -1,5 +1,5 @@
--- An accepted book's chain as a list of rules with a name for each: its names are its records, each its own and from 1 up, and what a code stands for in the bytes is
--- what stands at its index in the list.
+-- An accepted book's chain as a list of rules with a name for each: its names are its records, each its own and from 1 up, and what a
+-- code stands for in the bytes is what stands at its index in the list.
 use mathlib.Core.Path.{_≡_, refl, sym, _∙_, ap}
 use mathlib.Core.List.{List, [], _∷_, map}
 use Prim.Native.Nat.{ℕ, zero, suc, _+_, _≤_, _<_}

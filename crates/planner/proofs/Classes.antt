@@ -10,8 +10,9 @@ use Rattle.records.specs.declared.Version.the-variants.{One, Two}
 use Rattle.records.specs.Layout.{Layout, v1, v2, layoutOf, width}
 use Rattle.records.specs.Header.{headerFault, countOf}
 use Rattle.book.proofs.Bounds.{chain-count, count-room}
-use Rattle.book.proofs.Causes.{count-small, count-is}
-use Rattle.planner.specs.Running.{Roomy, Few, Whole}
+use Rattle.book.proofs.Causes.{count-is}
+use Rattle.planner.specs.Running.{Roomy, Whole}
+use Rattle.book.specs.Runs.{Few}
 
 -- a record has no more than 14 bytes
 pub short-width : (v : Version) → width (layoutOf v) ≤ 14
@@ -31,16 +32,7 @@ few-roomy L s n few records l er el =
       floors = omega arith;
     }
 
--- no book has more than 4,095 rules
-pub most-rules : (v : Version) (s : List ℕ) → Few (layoutOf v) s 4095
-most-rules One s clear = omega (arith, count-small v1 s clear)
-most-rules Two s clear = omega (arith, count-small v2 s clear)
-
--- nor one of version 1 more than 255
-pub few-of-one : (s : List ℕ) → Few v1 s 255
-few-of-one s clear = omega (arith, count-small v1 s clear)
-
--- nor one of so many records' bytes more than one record less
+-- a book of so many records' bytes has no more rules than one record less
 few-of-width : (v : Version) (s : List ℕ) (n : ℕ) → length s ≤ (n + 1) * width (layoutOf v) → Few (layoutOf v) s n
 few-of-width One s n h clear = omega (arith, h, count-is v1 s clear)
 few-of-width Two s n h clear = omega (arith, h, count-is v2 s clear)

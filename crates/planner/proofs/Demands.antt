@@ -1,6 +1,7 @@
--- Demands 1 and 3 on bytes, in the table's and the textbook's words: for all bytes s, of whichever layout L, and the answer a that `plan` hands back for them. Of the
--- code each theorem takes the promise of that call, `Answers L s a`, and nothing else; of the bytes, what they read as. Those of demand 3 speak of the plan p in
--- the answer to an accepted book, and are those of lists of rules (`plans` Demands) for the chain.
+-- Demands 1 and 3 on bytes, in the table's and the textbook's words: for all bytes s, of whichever layout L, and the answer a that `plan`
+-- hands back for them. Of the code each theorem takes the promise of that call, `Answers L s a`, and nothing else; of the bytes, what
+-- they read as. Those of demand 3 speak of the plan p in the answer to an accepted book, and are those of lists of rules (`plans`
+-- Demands) for the chain.
 use mathlib.Core.Path.{_≡_, refl, sym, _∙_, ap, subst}
 use mathlib.Core.List.{List}
 use mathlib.Core.Logic.{_↔_}
@@ -188,7 +189,8 @@ module _ (L : Layout) (s : List ℕ) (a : Answer) (promise : Answers L s a)
   pub open-bounded : p .opened ≤ length es + 1
   open-bounded = subst (λ n. p .opened ≤ n + 1) (length-rules es) (list.open-bounded t (recordsOf es) (rulesOf es) p planned)
 
--- two accepted books alike in objective, floors and rules get the same outcome, pair and direction, whatever their layouts and the order of their rules
+-- two accepted books alike in objective, floors and rules get the same outcome, pair and direction, whatever their layouts and the order
+-- of their rules
 pub order-free : (L L′ : Layout) (s s′ : List ℕ) (a a′ : Answer) →
     Answers L s a →
     Answers L′ s′ a′ →

@@ -1,5 +1,5 @@
--- The chain's rules in the engine's run of numbers: read into the part after the floors' six numbers, they stand there as entries 2 and up, and a prefix of the
--- entries is a prefix of the chain.
+-- The chain's rules in the engine's run of numbers: read into the part after the floors' six numbers, they stand there as entries 2 and
+-- up, and a prefix of the entries is a prefix of the chain.
 use mathlib.Core.Path.{_≡_, refl, sym, _∙_, ap, ap₂}
 use mathlib.Core.List.{List, [], _∷_, _++_}
 use Prim.Native.Nat.{ℕ, zero, suc, min, _+_, _*_, _≤_, _<_}

@@ -35,7 +35,9 @@ pub record Shown (f : ℕ → Row) (records : List ℕ) (n : ℕ) (before out : 
   pub within : i ≤ n
   pub asked : Listing records n before
 
-pub shown-start : (f : ℕ → Row) (records : List ℕ) (n : ℕ) (before : List ℕ) → Listing records n before → Shown f records n before before 0 0
+pub shown-start : (f : ℕ → Row) (records : List ℕ) (n : ℕ) (before : List ℕ) →
+    Listing records n before →
+    Shown f records n before before 0 0
 shown-start f records n before h = record { lines = nothing before 0 0; within = omega arith; asked = h }
 
 module _ {f : ℕ → Row} {records : List ℕ} {n : ℕ} {before out : List ℕ} {at i : ℕ} (h : Shown f records n before out at i) where
@@ -101,9 +103,12 @@ module _ (L : Layout) (s : List ℕ) (r : Findings) (records before : List ℕ) 
     refused-shows four some f = as-told (sym (lines-if (ne-eqb (r .refusal .number) 0 some))) (widened room (omega arith) f)
       where
         lines-if : {b : Bool} → eqb (r .refusal .number) 0 ≡ b →
-            panelFrom L s r records ≡ cond b (rowLines (rowsFrom L s (take (r .n) records) (r .solution .outcome))) (lineOf (Refused (r .refusal)))
+            panelFrom L s r records ≡ cond b (rowLines (rowsFrom L s (take (r .n) records) (r .solution .outcome)))
+            (lineOf (Refused (r .refusal)))
         lines-if e =
-            ap (λ (b : Bool). cond b (rowLines (rowsFrom L s (take (r .n) records) (r .solution .outcome))) (lineOf (Refused (r .refusal)))) e
+            ap
+            (λ (b : Bool). cond b (rowLines (rowsFrom L s (take (r .n) records) (r .solution .outcome))) (lineOf (Refused (r .refusal))))
+            e
 
     module _ (clear : r .refusal .number ≡ 0) where
       rows-of : (q : Outcome) →
@@ -111,7 +116,8 @@ module _ (L : Layout) (s : List ℕ) (r : Findings) (records before : List ℕ) 
           rowLines (rowsFrom L s (take (r .n) records) q) ≡ panelFrom L s r records
       rows-of q e =
           ap (λ (o : Outcome). rowLines (rowsFrom L s (take (r .n) records) o)) (sym e)
-          ∙ sym (ap (λ (b : Bool). cond b (rowLines (rowsFrom L s (take (r .n) records) (r .solution .outcome))) (lineOf (Refused (r .refusal)))) (eq-eqb (r .refusal .number) 0 clear))
+          ∙ sym
+          (ap (λ (b : Bool). cond b (rowLines (rowsFrom L s (take (r .n) records) (r .solution .outcome))) (lineOf (Refused (r .refusal)))) (eq-eqb (r .refusal .number) 0 clear))
 
       -- no line
       pub none-shows : (q : Outcome) →

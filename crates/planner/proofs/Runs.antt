@@ -1,5 +1,5 @@
--- A run over a book, from what reading it left in the lent runs and what the engine made of them: a refused book has its refusal, and an accepted one is planned, since
--- its numbers are all in range and the runs have room.
+-- A run over a book, from what reading it left in the lent runs and what the engine made of them: a refused book has its refusal, and an
+-- accepted one is planned, since its numbers are all in range and the runs have room.
 use mathlib.Core.Path.{_≡_, refl, sym, _∙_, ap, subst}
 use mathlib.Core.List.{List, _++_}
 use Prim.Native.Nat.{ℕ, min, _+_, _-_, _*_, _≤_, _<_}
@@ -83,7 +83,8 @@ module _
 
       fits : (m : ℕ) → m ≡ min k (h .n) → 3 * (m + 2) ≤ length laid
       fits m em =
-          omega (arith, em, ap (λ (x : Head). x .n) same-head, room, six, length-append head (rules′ ++ post), length-append rules′ post, ap length passed, rules-length mid 0 es)
+          omega
+          (arith, em, ap (λ (x : Head). x .n) same-head, room, six, length-append head (rules′ ++ post), length-append rules′ post, ap length passed, rules-length mid 0 es)
 
       -- the engine walks along the chain's first k rules
       pub planned : {m : ℕ} →
@@ -104,9 +105,14 @@ module _
           record {
             refusal = ap (λ (y : Head). y .refusal) same-head;
             count = ap (λ (y : Head). y .n) same-head;
-            solution = let both = q ∙ planned em in let same : x ≡ solutionOf (t .objective) (walk tie (t .floors) (t .objective) (take k (rulesOf es))) = cc in same;
+            solution =
+                let both =
+                q ∙ planned em in let same : x ≡ solutionOf (t .objective) (walk tie (t .floors) (t .objective) (take k (rulesOf es)))
+                = cc in same;
             enough = omega (arith, chain-count L s e, names (accepted-clear L s e), ap length noted, records-length records 0 es);
-            recorded = λ i less. ap (λ (l : List ℕ). getD l i 0) noted ∙ record-placed records es i (omega (arith, chain-count L s e, names (accepted-clear L s e))) less;
+            recorded =
+                λ i less. ap (λ (l : List ℕ). getD l i 0) noted ∙ record-placed records es i
+                (omega (arith, chain-count L s e, names (accepted-clear L s e))) less;
           }
         where
           noted : records′ ≡ putRecords records 0 es

@@ -1,5 +1,5 @@
--- What the promise of `start_after` says of a book, in the textbook's words, whatever its layout. Each theorem takes that promise and nothing else of the code; the
--- last one, which compares two calls, that of `plan` too.
+-- What the promise of `start_after` says of a book, in the textbook's words, whatever its layout. Each theorem takes that promise and
+-- nothing else of the code; the last one, which compares two calls, that of `plan` too.
 use mathlib.Core.Path.{_≡_, refl, sym, _∙_, ap, subst}
 use mathlib.Core.List.{List}
 use mathlib.Core.Bool.{true, false, true≢false}

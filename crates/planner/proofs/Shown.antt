@@ -1,8 +1,12 @@
--- Request 101 on bytes: what the text of a book's panel is, for every book of whichever layout. The promise of `panel_lines` fills the buffer with that text.
+-- Request 101 on bytes: what the text of a book's panel is, for every book of whichever layout. The promise of `panel_lines` fills the
+-- buffer with that text.
 use mathlib.Core.Path.{_≡_, ap, _∙_}
 use mathlib.Core.List.{List, [], _∷_, map, List·Memᴰ, List·Memᴰ·head, List·Memᴰ·tail, List·Memᴰ·cases-cons, List·Memᴰ·not-nil}
 use mathlib.Core.Logic.{⊎-elim}
-use Prim.Native.Nat.{ℕ}
+use Prim.Native.Nat.{ℕ, _≤_, _<_}
+use native.Mathlib.Omega.{arith}
+use native.Mathlib.Decide.{decLt}
+use lib.ListN.{length, drop, length-append}
 use lib.IntN.{pos}
 use Rattle.ints.specs.Order.{_≤ᶻ_}
 use Rattle.ints.proofs.Machine.{within-le}
@@ -22,6 +26,7 @@ use Rattle.answers.specs.Refusal.{refusal}
 use Rattle.theory.proofs.Ties.{tie-good}
 use Rattle.theory.proofs.Slack.{best-slacks}
 use Rattle.theory.proofs.Largest.{best-numerators}
+use Rattle.text.specs.Append.{Fills}
 use Rattle.report.specs.Line.{lineOf}
 use Rattle.report.specs.Panel.{rowLines}
 use Rattle.planner.specs.Panel.{rowOf, rowsFor, panelText}
@@ -76,3 +81,20 @@ module _ (L : Layout) (s : List ℕ) where
 
     pub unlimited-shows-none : (v : Point) (d : Ray) → found ≡ outcome.Unbounded v d → panelText (readOf L s) ≡ []
     unlimited-shows-none v d f = by-outcome (outcome.Unbounded v d) f
+
+-- what is handed back is within the buffer, whatever its length
+pub panel-within : {line : List ℕ} {room : ℕ} {before after : List ℕ} {count : ℕ} →
+    Fills line room before after count →
+    count ≤ length after
+panel-within {line} {room} {before} {after} {count} f = go (decLt (length before) room)
+  where
+    go : Dec (length before < room) → count ≤ length after
+    go (yes short) = omega (arith, f .nothing short)
+    go (no n) =
+        let long : room ≤ length before = omega arith in
+        omega (
+          arith,
+          f .counted long,
+          ap (λ (l : List ℕ). length l) (f .stands long),
+          length-append line (drop (length line) before),
+        )

@@ -110,10 +110,13 @@ module _ (L : Layout) (s : List ℕ) (k : ℕ) (r : Findings) (records : List �
           all : take k (rulesOf es) ≡ rulesOf es
           all = take-all k (rulesOf es) (omega (arith, whole t es e, length-rules es))
 
-          planned : answerOf r records ≡ Planned (planOf records (solutionOf (t .objective) (walk tie (t .floors) (t .objective) (rulesOf es))))
+          planned :
+              answerOf r records ≡ Planned (planOf records (solutionOf (t .objective) (walk tie (t .floors) (t .objective) (rulesOf es))))
           planned =
-              ap₂ (λ (x : Refusal) (y : Solution). answerOf (record { refusal = x; n = r .n; solution = y }) records) (found .refusal) (found .solution)
-              ∙ ap (λ (l : List Constraint). Planned (planOf records (solutionOf (t .objective) (walk tie (t .floors) (t .objective) l)))) all
+              ap₂ (λ (x : Refusal) (y : Solution). answerOf (record { refusal = x; n = r .n; solution = y }) records) (found .refusal)
+              (found .solution)
+              ∙ ap (λ (l : List Constraint). Planned (planOf records (solutionOf (t .objective) (walk tie (t .floors) (t .objective) l))))
+              all
 
   -- ---- the view
 
@@ -162,7 +165,8 @@ module _ (L : Layout) (s : List ℕ) (k : ℕ) (r : Findings) (records : List �
           ap (λ (y : Findings). panelFrom L s y records) (by-reading (refused n i) e)
           ∙ rw (ne-eqb n 0 (refusal-number L s e)) (ap panelText (sym e))
       go (accepted t es) e =
-          ap₂ (λ (x : Refusal) (y : Solution). panelFrom L s (record { refusal = x; n = r .n; solution = y }) records) (found .refusal) (found .solution)
+          ap₂ (λ (x : Refusal) (y : Solution). panelFrom L s (record { refusal = x; n = r .n; solution = y }) records) (found .refusal)
+          (found .solution)
           ∙ ap₂ (λ (l : List ℕ) (q : Outcome). rowLines (rowsFrom L s l q)) noted walked
           ∙ ap rowLines (rows-same (defined.outcome tie (t .floors) (t .objective) (rulesOf es)) refl)
           ∙ ap panelText (sym e)
@@ -173,13 +177,16 @@ module _ (L : Layout) (s : List ℕ) (k : ℕ) (r : Findings) (records : List �
           all : take k (rulesOf es) ≡ rulesOf es
           all = take-all k (rulesOf es) (omega (arith, whole t es e, length-rules es))
 
-          walked : said (t .objective) (walk tie (t .floors) (t .objective) (take k (rulesOf es)) .state) ≡ defined.outcome tie (t .floors) (t .objective) (rulesOf es)
+          walked :
+              said (t .objective) (walk tie (t .floors) (t .objective) (take k (rulesOf es)) .state) ≡ defined.outcome tie (t .floors) (t .objective) (rulesOf es)
           walked =
               ap (λ (l : List Constraint). said (t .objective) (walk tie (t .floors) (t .objective) l .state)) all
               ∙ walk-is-defined tie tie-good (t .floors) (t .objective) (rulesOf es) .outcome-defined
 
           noted : take (r .n) records ≡ recordsOf es
-          noted = ap (λ n. take n records) (found .count) ∙ taken records (recordsOf es) (length es) (length-records es) (found .enough) (found .recorded)
+          noted =
+              ap (λ n. take n records) (found .count) ∙ taken records (recordsOf es) (length es) (length-records es) (found .enough)
+              (found .recorded)
 
           rows-same : (q : Outcome) →
               defined.outcome tie (t .floors) (t .objective) (rulesOf es) ≡ q →
@@ -187,7 +194,8 @@ module _ (L : Layout) (s : List ℕ) (k : ℕ) (r : Findings) (records : List �
           rows-same outcome.Infeasible f = refl
           rows-same (outcome.Unbounded u d) f = refl
           rows-same (outcome.Optimal v) f =
-              measured-rows L s v (subst SmallOutcome f (outcome-small t (rulesOf es) (terms-small L s e .floors-small) (rules-small L s e)))
+              measured-rows L s v
+              (subst SmallOutcome f (outcome-small t (rulesOf es) (terms-small L s e .floors-small) (rules-small L s e)))
               (recordsOf es) (subst (λ (l : List Entry). SmallSystem (rulesOf l)) (accepted-entries L s e) (rules-small L s e))
               ∙ ap (map (rowOf v)) (sym (accepted-entries L s e))
 

@@ -1,5 +1,5 @@
--- The panel of a book, as the bytes of its lines: for a best outcome a line for each rule, its label and its slack, in chain order; for any other outcome none; for
--- a refused book the line of the refusal.
+-- The panel of a book, as the bytes of its lines: for a best outcome a line for each rule, its label and its slack, in chain order; for
+-- any other outcome none; for a refused book the line of the refusal.
 use mathlib.Core.List.{List, [], map}
 use Prim.Native.Nat.{ℕ, _*_}
 use Rattle.lp.specs.declared.Point.{Point}

@@ -1,5 +1,6 @@
--- One run of the planner over a book, as its private functions go about it: what a run asks of the runs of numbers that it is lent, what it finds, and what the
--- answer, the view and the panel make of that. Nothing here stands in a promise of a function that can be called from outside.
+-- One run of the planner over a book, as its private functions go about it: what a run asks of the runs of numbers that it is lent, what
+-- it finds, and what the answer, the view and the panel make of that. Nothing here stands in a promise of a function that can be called
+-- from outside.
 use mathlib.Core.Path.{_≡_}
 use mathlib.Core.Bool.{Bool, true, false, cond}
 use mathlib.Core.List.{List, [], map}
@@ -114,10 +115,6 @@ abbrev pub Shows : Layout → List ℕ → Findings → List ℕ → List ℕ �
 Shows L s r records = Fills (panelFrom L s r records) (panelRoom L)
 
 -- ---- what is told
-
--- at most n rules
-abbrev pub Few : Layout → List ℕ → ℕ → Type 0
-Few L s n = headerFault L s ≡ 0 → countOf L s ≤ n
 
 -- the first k rules are the whole chain
 abbrev pub Whole : Layout → List ℕ → ℕ → Type 0

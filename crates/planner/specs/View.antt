@@ -1,5 +1,5 @@
--- What staff and tests see of the walk after a prefix of the chain: the book's refusal, or the start pair of the prefix, or none, and how many of its rules
--- broke the start pair before them. A prefix longer than the chain is the whole chain. Whatever is not used is zero.
+-- What staff and tests see of the walk after a prefix of the chain: the book's refusal, or the start pair of the prefix, or none, and how
+-- many of its rules broke the start pair before them. A prefix longer than the chain is the whole chain. Whatever is not used is zero.
 use mathlib.Core.Path.{_≡_}
 use mathlib.Core.List.{List}
 use mathlib.Core.Bool.{true, false}

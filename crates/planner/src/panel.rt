@@ -1,4 +1,5 @@
-// The panel of a book: the slack of its best pair against each rule of the chain, a line a rule, each written straight into the lent output.
+// The panel of a book: the slack of its best pair against each rule of the chain, a line a rule, each written straight into the lent
+// output.
 use crate::run::Findings;
 use answers::Answer;
 use lp::Outcome;

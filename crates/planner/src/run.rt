@@ -1,4 +1,5 @@
-// One run of the planner over a book: it is read once into two lent runs, the chain's records and its rules, and the rules of a prefix are planned.
+// One run of the planner over a book: it is read once into two lent runs, the chain's records and its rules, and the rules of a prefix
+// are planned.
 use answers::Refusal;
 use engine::Solution;
 use engine::Solved;
@@ -48,7 +49,8 @@ fn shorter(prefix: usize, n: usize) -> usize
     if prefix < n { prefix } else { n }
 }
 
-// The run over a book's first `prefix` rules: the whole chain, if there are fewer. An accepted book's numbers are all in range, so that the engine plans it.
+// The run over a book's first `prefix` rules: the whole chain, if there are fewer. An accepted book's numbers are all in range, so that
+// the engine plans it.
 pub fn run(
     version: Version,
     book: &[u8],

@@ -1,5 +1,5 @@
-// What is told of a book: its answer, its panel and its view, all from one run. Runs of numbers are local to a function for each size of book, since clearing the
-// longest takes several times what a short book takes, and so that a short book takes little of the stack.
+// What is told of a book: its answer, its panel and its view, all from one run. Runs of numbers are local to a function for each size of
+// book, since clearing the longest takes several times what a short book takes, and so that a short book takes little of the stack.
 use crate::StartView;
 use crate::panel::show;
 use crate::run::Findings;
@@ -8,7 +8,8 @@ use answers::Answer;
 use records::Version;
 ghost use mathlib.Core.Path.{_≡_};
 ghost use Rattle.records.specs.Layout.{layoutOf, width as widthOf};
-ghost use Rattle.planner.specs.Running.{answerOf, viewFrom, Roomy, Few, Tells};
+ghost use Rattle.planner.specs.Running.{answerOf, viewFrom, Roomy, Tells};
+ghost use Rattle.book.specs.Runs.{Few};
 
 // The answer; how many bytes the panel has, where one was asked for; and the view.
 pub struct Told {
@@ -126,7 +127,7 @@ fn tell_long(version: Version, book: &[u8], prefix: usize, panel: bool, out: &mu
 }
 
 // How many bytes a record has.
-fn width(version: Version) -> usize
+pub fn width(version: Version) -> usize
     ensures { λ r. ⌜ r ≡ widthOf (layoutOf version) ⌝ }
 {
     match version {
@@ -135,8 +136,7 @@ fn width(version: Version) -> usize
     }
 }
 
-// Of one with 255 at most, as every book of version 1 is. What is asked of version 1 comes here straight: a function that also knows the
-// long runs has them in its frame, and takes as long to lay that out as a short book takes to be planned.
+// Of one with 255 at most.
 pub fn tell_few(version: Version, book: &[u8], prefix: usize, panel: bool, out: &mut [u8]) -> Told
     requires { ⌜ Few (layoutOf version) (now book) 255 ⌝ }
     ensures { λ r. ⌜ Tells (layoutOf version) (now (book .entry)) prefix panel (now (out .entry)) r (now (out .exit)) ⌝ }
@@ -148,7 +148,8 @@ pub fn tell_few(version: Version, book: &[u8], prefix: usize, panel: bool, out: 
     }
 }
 
-// What is told of any bytes.
+// What is told of any bytes. It has the long runs in its frame, and takes as long to lay that out as a short book takes to be planned: so
+// who knows that a book is short goes to `tell_few`.
 pub fn tell(version: Version, book: &[u8], prefix: usize, panel: bool, out: &mut [u8]) -> Told
     ensures { λ r. ⌜ Tells (layoutOf version) (now (book .entry)) prefix panel (now (out .entry)) r (now (out .exit)) ⌝ }
 {

@@ -50,7 +50,8 @@ first-in-order k = go (goesBefore (k .second) (k .«second_weight») (k .first) 
   where
     go : (b : Bool) →
         goesBefore (k .second) (k .«second_weight») (k .first) (k .«first_weight») ≡ b →
-        one-two (elim b [ true ↦ record { first = k .second; «first_weight» = k .«second_weight»; second = k .first; «second_weight» = k .«first_weight»; third = k .third; «third_weight» = k .«third_weight» } | false ↦ k ])
+        one-two
+        (elim b [ true ↦ record { first = k .second; «first_weight» = k .«second_weight»; second = k .first; «second_weight» = k .«first_weight»; third = k .third; «third_weight» = k .«third_weight» } | false ↦ k ])
     go true e =
         not-both (isZero (k .«second_weight»)) (k .second) (isZero (k .«first_weight»)) (k .first) (subst T (sym e) tt)
     go false e = subst (λ b. T (not b)) (sym e) tt
@@ -61,7 +62,10 @@ greatest-last k h = go (goesBefore (k .third) (k .«third_weight») (k .second) 
   where
     go : (b : Bool) →
         goesBefore (k .third) (k .«third_weight») (k .second) (k .«second_weight») ≡ b →
-        two-three (elim b [ true ↦ record { first = k .first; «first_weight» = k .«first_weight»; second = k .third; «second_weight» = k .«third_weight»; third = k .second; «third_weight» = k .«second_weight» } | false ↦ k ]) × one-three (elim b [ true ↦ record { first = k .first; «first_weight» = k .«first_weight»; second = k .third; «second_weight» = k .«third_weight»; third = k .second; «third_weight» = k .«second_weight» } | false ↦ k ])
+        two-three
+        (elim b [ true ↦ record { first = k .first; «first_weight» = k .«first_weight»; second = k .third; «second_weight» = k .«third_weight»; third = k .second; «third_weight» = k .«second_weight» } | false ↦ k ])
+        × one-three
+        (elim b [ true ↦ record { first = k .first; «first_weight» = k .«first_weight»; second = k .third; «second_weight» = k .«third_weight»; third = k .second; «third_weight» = k .«second_weight» } | false ↦ k ])
     go true e =
         (not-both (isZero (k .«third_weight»)) (k .third) (isZero (k .«second_weight»)) (k .second) (subst T (sym e) tt), h)
     go false e = (
@@ -75,7 +79,8 @@ last-stays : (k : Certificate) → two-three k → one-three k → two-three (or
 last-stays k p q = go (goesBefore (k .second) (k .«second_weight») (k .first) (k .«first_weight»))
   where
     go : (b : Bool) →
-        two-three (elim b [ true ↦ record { first = k .second; «first_weight» = k .«second_weight»; second = k .first; «second_weight» = k .«first_weight»; third = k .third; «third_weight» = k .«third_weight» } | false ↦ k ])
+        two-three
+        (elim b [ true ↦ record { first = k .second; «first_weight» = k .«second_weight»; second = k .first; «second_weight» = k .«first_weight»; third = k .third; «third_weight» = k .«third_weight» } | false ↦ k ])
     go true = q
     go false = p
 

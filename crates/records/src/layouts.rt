@@ -1,4 +1,5 @@
-// The fields of a record in each version's layout: its offsets are constants in a function of its own. What is made of the fields is one body for both.
+// The fields of a record in each version's layout: its offsets are constants in a function of its own. What is made of the fields is one
+// body for both.
 use crate::Version;
 use crate::bytes::number2;
 use crate::bytes::number4;
@@ -64,8 +65,8 @@ pub fn fields_inside(version: Version, book: &[u8], index: u16) -> Fields
     }
 }
 
-// The fields of a record that ends early or is not there, with zeros for the bytes that are missing. It is a function of its own with two callers, so that
-// the compiler leaves it out of line and the way of a record that is there stays short.
+// The fields of a record that ends early or is not there, with zeros for the bytes that are missing. It is a function of its own with two
+// callers, so that the compiler leaves it out of line and the way of a record that is there stays short.
 pub fn fields_past(version: Version, book: &[u8], index: u16) -> Fields
     ensures { λ r. ⌜ r ≡ fieldsOf (layoutOf version) (recordAt (layoutOf version) (now (book .entry)) index) ⌝ }
 {

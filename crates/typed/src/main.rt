@@ -1,5 +1,5 @@
-// The typed program: one text from standard input, its line to standard output. It reads so many bytes that longer input is seen to be too long, with a
-// line feed at the end or without.
+// The typed program: one text from standard input, its line to standard output. It reads so many bytes that longer input is seen to be
+// too long, with a line feed at the end or without.
 fn main() {
     let mut input = [0u8; 122];
     let n = io::read_full(0, &mut input);

@@ -10,18 +10,18 @@ use borrow.Author.Tests.{ne-eqb}
 use lib.IntN.{ℤ}
 use Rattle.records.specs.Layout.{Layout}
 use Rattle.book.specs.Reading.{readOf}
+use Rattle.answers.specs.declared.Refusal.{Refusal}
 use Rattle.planner.specs.declared.StartView.{StartView}
 use Rattle.planner.specs.View.{viewOf, Views}
 use Rattle.vishalneq.specs.Loaded.{putPoint, toldOf, StartWritten}
 
 -- ---- what is handed back
 
-pub told-accepted : (v : StartView) → v .refusal .number ≡ 0 → v .restarts ≡ toldOf v
-told-accepted v e = sym (ap (λ (n : ℕ). cond (eqb n 0) (v .restarts) (65536 * v .refusal .number + v .refusal .at)) e)
+pub told-accepted : (r : Refusal) (n : ℕ) → r .number ≡ 0 → n ≡ toldOf r n
+told-accepted r n e = sym (ap (λ (k : ℕ). cond (eqb k 0) n (65536 * k + r .at)) e)
 
-pub told-refused : (v : StartView) → (v .refusal .number ≡ 0 → ⊥) → 65536 * v .refusal .number + v .refusal .at ≡ toldOf v
-told-refused v z =
-    sym (ap (λ (b : Bool). cond b (v .restarts) (65536 * v .refusal .number + v .refusal .at)) (ne-eqb (v .refusal .number) 0 z))
+pub told-refused : (r : Refusal) (n : ℕ) → (r .number ≡ 0 → ⊥) → 65536 * r .number + r .at ≡ toldOf r n
+told-refused r n z = sym (ap (λ (b : Bool). cond b n (65536 * r .number + r .at)) (ne-eqb (r .number) 0 z))
 
 -- ---- the start pair
 
@@ -29,8 +29,10 @@ module _ (L : Layout) (s : List ℕ) (k : ℕ) (v : StartView) (h : Views L s k 
   number-same : v .refusal .number ≡ viewOf (readOf L s) k .refusal .number
   number-same = ap (λ (x : StartView). x .refusal .number) (h .answer)
 
-  told-same : {n : ℕ} → n ≡ toldOf v → n ≡ toldOf (viewOf (readOf L s) k)
-  told-same e = e ∙ ap toldOf (h .answer)
+  told-same : {n : ℕ} →
+      n ≡ toldOf (v .refusal) (v .restarts) →
+      n ≡ toldOf (viewOf (readOf L s) k .refusal) (viewOf (readOf L s) k .restarts)
+  told-same e = e ∙ ap (λ (x : StartView). toldOf (x .refusal) (x .restarts)) (h .answer)
 
   enough-or-short : (n : ℕ) → 3 ≤ n → n < 3 → ⊥
   enough-or-short n a b = omega arith
@@ -40,7 +42,7 @@ module _ (L : Layout) (s : List ℕ) (k : ℕ) (v : StartView) (h : Views L s k 
       3 ≤ length before →
       after ≡ putPoint before (v .point) →
       {n : ℕ} →
-      n ≡ toldOf v →
+      n ≡ toldOf (v .refusal) (v .restarts) →
       StartWritten L s k before after n
   start-written before after clear room e t =
       record {
@@ -50,7 +52,11 @@ module _ (L : Layout) (s : List ℕ) (k : ℕ) (v : StartView) (h : Views L s k 
         told = told-same t;
       }
 
-  pub start-unwritten : (before : List ℤ) → length before < 3 → {n : ℕ} → n ≡ toldOf v → StartWritten L s k before before n
+  pub start-unwritten : (before : List ℤ) →
+      length before < 3 →
+      {n : ℕ} →
+      n ≡ toldOf (v .refusal) (v .restarts) →
+      StartWritten L s k before before n
   start-unwritten before short t =
       record {
         written = λ a room. absurd (enough-or-short (length before) room short);
@@ -62,7 +68,7 @@ module _ (L : Layout) (s : List ℕ) (k : ℕ) (v : StartView) (h : Views L s k 
   pub refused-unwritten : (before : List ℤ) →
       (v .refusal .number ≡ 0 → ⊥) →
       {n : ℕ} →
-      n ≡ toldOf v →
+      n ≡ toldOf (v .refusal) (v .restarts) →
       StartWritten L s k before before n
   refused-unwritten before z t =
       record {

@@ -1,5 +1,5 @@
--- What is written to a lent buffer, and that nothing else of it changes: the line of a plan, and the start pair after a prefix. (The lines of a panel are the
--- planner's own promise.)
+-- What is written to a lent buffer, and that nothing else of it changes: the line of a plan, the start pair after a prefix, and the
+-- repacked form. (The lines of a panel are the planner's own promise.)
 use mathlib.Core.Path.{_≡_}
 use mathlib.Core.List.{List}
 use mathlib.Core.Bool.{cond}
@@ -10,9 +10,11 @@ use lib.IntN.{ℤ}
 use Rattle.lp.specs.declared.Point.{Point}
 use Rattle.records.specs.Layout.{Layout}
 use Rattle.book.specs.Reading.{readOf}
+use Rattle.repacker.specs.Repacking.{repackOf}
+use Rattle.repacker.specs.Promises.{repackedOf, outputOf}
 use Rattle.answers.specs.declared.Answer.{Answer}
+use Rattle.answers.specs.declared.Refusal.{Refusal}
 use Rattle.report.specs.Written.{Written}
-use Rattle.planner.specs.declared.StartView.{StartView}
 use Rattle.planner.specs.Planning.{Answers}
 use Rattle.planner.specs.View.{viewOf}
 
@@ -29,10 +31,10 @@ putPoint l v = set (set (set l 0 (v .x)) 1 (v .y)) 2 (v .d)
 pub record PointRoom (l : List ℤ) : Type 0 where
   pub room : 3 ≤ length l
 
--- what is handed back of a view: the count of an accepted book, which is below the number of records; of a refused one its number and record, so that it is 65,536
--- or more
-abbrev pub toldOf : StartView → ℕ
-toldOf v = cond (eqb (v .refusal .number) 0) (v .restarts) (65536 * v .refusal .number + v .refusal .at)
+-- what is handed back: of an accepted book a count, which is below 65,536; of a refused one its number and record, so that it is 65,536 or
+-- more
+abbrev pub toldOf : Refusal → ℕ → ℕ
+toldOf r count = cond (eqb (r .number) 0) count (65536 * r .number + r .at)
 
 -- the promise of the view: a refused book, and fewer than three numbers, leave what is lent as it was
 pub record StartWritten (L : Layout) (s : List ℕ) (k : ℕ) (before after : List ℤ) (count : ℕ) : Type 0 where
@@ -42,4 +44,10 @@ pub record StartWritten (L : Layout) (s : List ℕ) (k : ℕ) (before after : Li
       after ≡ putPoint before (viewOf (readOf L s) k .point)
   pub refused-untouched : (viewOf (readOf L s) k .refusal .number ≡ 0 → ⊥) → after ≡ before
   pub short-untouched : length before < 3 → after ≡ before
-  pub told : count ≡ toldOf (viewOf (readOf L s) k)
+  pub told : count ≡ toldOf (viewOf (readOf L s) k .refusal) (viewOf (readOf L s) k .restarts)
+
+-- the promise of the repacker, where what it comes to is handed back as one number
+pub record RepackWritten (L : Layout) (s before after : List ℕ) (count : ℕ) : Type 0 where
+  pub output : after ≡ outputOf (repackOf L s (length before)) before
+  pub told :
+      count ≡ toldOf (repackedOf (repackOf L s (length before)) .refusal) (repackedOf (repackOf L s (length before)) .filled)

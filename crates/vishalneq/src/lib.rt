@@ -1,27 +1,53 @@
-// What a partner's controller loads: the planner's answers for programs in other languages, as a static library. Each function writes to a lent buffer
-// and hands back a count; it only calls the planner and the writer of lines.
+// What a partner's controller loads: the planner's answers and the repacked form for programs in other languages, as a static library.
+// Each function writes to a lent buffer and hands back a count; it only calls the planner, the repacker and the writer of lines. A version
+// of the format has its own functions, which refuse the other version's books by their own table; the names of version 2's end in 2.
+use answers::Refusal;
 use lp::Point;
-use planner::StartView;
+use records::Version;
 ghost use mathlib.Core.Path.{_≡_};
-ghost use Rattle.records.specs.Layout.{v1};
+ghost use Rattle.records.specs.Layout.{v1, v2, layoutOf};
 ghost use Rattle.planner.specs.Panel.{Panels};
-ghost use Rattle.vishalneq.specs.Loaded.{PlanLine, putPoint, PointRoom, toldOf, StartWritten};
+ghost use Rattle.vishalneq.specs.Loaded.{PlanLine, putPoint, PointRoom, toldOf, StartWritten, RepackWritten};
 
-// The line of a book: written at the start of a buffer of at least 256 bytes, with its length. A smaller buffer is left as it is, and 0 handed back.
+// The line of a book: written at the start of a buffer of at least 256 bytes, with its length. A smaller buffer is left as it is, and 0
+// handed back.
+fn plan_line(version: Version, book: &[u8], out: &mut [u8]) -> usize
+    ensures { λ r. ⌜ PlanLine (layoutOf version) (now (book .entry)) (now (out .entry)) (now (out .exit)) r ⌝ }
+{
+    report::write_line(planner::plan(version, book), out)
+}
+
+// The line of a book of version 1.
 #[no_mangle]
 pub extern "C" fn vishalneq_plan_line(book: &[u8], out: &mut [u8]) -> usize
     ensures { λ r. ⌜ PlanLine v1 (now (book .entry)) (now (out .entry)) (now (out .exit)) r ⌝ }
 {
-    report::write_line(planner::plan(book), out)
+    plan_line(Version::One, book, out)
 }
 
-// The lines of a book's panel: written at the start of a buffer of at least 16,384 bytes, with their length. A smaller buffer is left as it is, and 0
-// handed back.
+// The line of a book of version 2.
+#[no_mangle]
+pub extern "C" fn vishalneq_plan_line2(book: &[u8], out: &mut [u8]) -> usize
+    ensures { λ r. ⌜ PlanLine v2 (now (book .entry)) (now (out .entry)) (now (out .exit)) r ⌝ }
+{
+    plan_line(Version::Two, book, out)
+}
+
+// The lines of a version 1 book's panel: written at the start of a buffer of at least 16,384 bytes, with their length. A smaller buffer is
+// left as it is, and 0 handed back.
 #[no_mangle]
 pub extern "C" fn vishalneq_panel_lines(book: &[u8], out: &mut [u8]) -> usize
     ensures { λ r. ⌜ Panels v1 (now (book .entry)) (now (out .entry)) (now (out .exit)) r ⌝ }
 {
-    planner::panel_lines(book, out)
+    planner::panel_lines(Version::One, book, out)
+}
+
+// Those of a version 2 book's panel, in a buffer of at least 262,144 bytes.
+#[no_mangle]
+pub extern "C" fn vishalneq_panel_lines2(book: &[u8], out: &mut [u8]) -> usize
+    ensures { λ r. ⌜ Panels v2 (now (book .entry)) (now (out .entry)) (now (out .exit)) r ⌝ }
+{
+    planner::panel_lines(Version::Two, book, out)
 }
 
 // X, Y and D, at the start of a run of numbers.
@@ -37,28 +63,27 @@ fn put_point(out: &mut [i64], v: Point)
     out[2] = d;
 }
 
-// What a view hands back: of an accepted book how often the start pair was worked out, and of a refused one its number and record as one number.
-fn told(seen: StartView) -> usize
-    ensures { λ r. ⌜ r ≡ toldOf seen ⌝ }
+// What is handed back: of an accepted book a count, and of a refused one its number and record as one number.
+fn told(refusal: Refusal, count: usize) -> usize
+    ensures { λ r. ⌜ r ≡ toldOf refusal count ⌝ }
 {
-    let refusal = seen.refusal;
     let cause = refusal.number;
     if cause == 0 {
-        seen.restarts
+        count
     } else {
         65536 * cause as usize + refusal.at as usize
     }
 }
 
-// The start pair after a book's first `prefix` rules: X, Y and D stand at the start of a buffer of at least three numbers, zeros where no pair is allowed, and the
-// count is handed back. A refused book leaves the buffer as it is, and so does a smaller buffer; of a refused book 65,536 times its number plus its record is handed back.
-#[no_mangle]
-pub extern "C" fn vishalneq_start_after(book: &[u8], prefix: usize, out: &mut [i64]) -> usize
-    ensures { λ r. ⌜ StartWritten v1 (now (book .entry)) prefix (now (out .entry)) (now (out .exit)) r ⌝ }
+// The start pair after a book's first `prefix` rules: X, Y and D stand at the start of a buffer of at least three numbers, zeros where no
+// pair is allowed, and the count is handed back. A refused book leaves the buffer as it is, and so does a smaller buffer; of a refused book
+// 65,536 times its number plus its record is handed back.
+fn start_after(version: Version, book: &[u8], prefix: usize, out: &mut [i64]) -> usize
+    ensures { λ r. ⌜ StartWritten (layoutOf version) (now (book .entry)) prefix (now (out .entry)) (now (out .exit)) r ⌝ }
 {
-    let seen = planner::start_after(book, prefix);
-    let answer = told(seen);
+    let seen = planner::start_after(version, book, prefix);
     let refusal = seen.refusal;
+    let answer = told(refusal, seen.restarts);
     let number = refusal.number;
     if number == 0 {
         if out.len() >= 3 {
@@ -66,4 +91,45 @@ pub extern "C" fn vishalneq_start_after(book: &[u8], prefix: usize, out: &mut [i
         }
     }
     answer
+}
+
+// The start pair of a book of version 1.
+#[no_mangle]
+pub extern "C" fn vishalneq_start_after(book: &[u8], prefix: usize, out: &mut [i64]) -> usize
+    ensures { λ r. ⌜ StartWritten v1 (now (book .entry)) prefix (now (out .entry)) (now (out .exit)) r ⌝ }
+{
+    start_after(Version::One, book, prefix, out)
+}
+
+// The start pair of a book of version 2.
+#[no_mangle]
+pub extern "C" fn vishalneq_start_after2(book: &[u8], prefix: usize, out: &mut [i64]) -> usize
+    ensures { λ r. ⌜ StartWritten v2 (now (book .entry)) prefix (now (out .entry)) (now (out .exit)) r ⌝ }
+{
+    start_after(Version::Two, book, prefix, out)
+}
+
+// The repacked form of a book, always version 2, at the start of a buffer, and how many bytes it has. A book that is refused, and one whose
+// repacked form has no room, leaves the buffer as it is, and 65,536 times its number plus its record is handed back.
+fn repack(version: Version, book: &[u8], out: &mut [u8]) -> usize
+    ensures { λ r. ⌜ RepackWritten (layoutOf version) (now (book .entry)) (now (out .entry)) (now (out .exit)) r ⌝ }
+{
+    let answer = repacker::repack(version, book, out);
+    told(answer.refusal, answer.filled)
+}
+
+// The repacked form of a book of version 1.
+#[no_mangle]
+pub extern "C" fn vishalneq_repack(book: &[u8], out: &mut [u8]) -> usize
+    ensures { λ r. ⌜ RepackWritten v1 (now (book .entry)) (now (out .entry)) (now (out .exit)) r ⌝ }
+{
+    repack(Version::One, book, out)
+}
+
+// The repacked form of a book of version 2.
+#[no_mangle]
+pub extern "C" fn vishalneq_repack2(book: &[u8], out: &mut [u8]) -> usize
+    ensures { λ r. ⌜ RepackWritten v2 (now (book .entry)) (now (out .entry)) (now (out .exit)) r ⌝ }
+{
+    repack(Version::Two, book, out)
 }

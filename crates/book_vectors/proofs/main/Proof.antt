@@ -14,7 +14,9 @@ abbrev μ-loop : tie.MeasureT-loop
 μ-loop input n at₀ at = n - at
 
 slice-aggregate-run : tie.Need-slice-aggregate-run Inv-loop μ-loop
-slice-aggregate-run c = sym (length-take-le (c .before .before .before .before .read-full .result) (c .before .before .before .before .read-full .last .1 .0) (c .before .before .loop .inv .1))
+slice-aggregate-run c =
+    sym
+    (length-take-le (c .before .before .before .before .read-full .result) (c .before .before .before .before .read-full .last .1 .0) (c .before .before .loop .inv .1))
 
 pub main-spec : {M : Type 1} → statement M
 main-spec =

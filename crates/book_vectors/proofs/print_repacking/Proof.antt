@@ -7,7 +7,9 @@ use Rattle.book_vectors.proofs.print_repacking.Statement.{statement}
 use Rattle.book_vectors.proofs.print_repacking.Tie as tie
 
 slice-aggregate-print-bytes : tie.Need-slice-aggregate-print-bytes
-slice-aggregate-print-bytes c = sym (length-take-le (c .before .before .before .before .before .before .before .before .before .before .before .before .repack .result .filled) (c .before .before .before .before .before .before .before .before .before .before .before .before .repack .last .1 .0) (omega arith))
+slice-aggregate-print-bytes c =
+    let repack = c .before .before .before .before .before .before .before .before .before .before .before .before .repack in
+    sym (length-take-le (repack .result .filled) _ (omega arith))
 
 pub print-repacking-spec : {M : Type 1} → statement M
 print-repacking-spec =

@@ -14,13 +14,18 @@ cast-signed c =
 
 cast-signed-2 : tie.Need-cast-signed-2
 cast-signed-2 c =
-    let f : SFits w16 (c .before .before .before .before .before .before .before .before .before .before .before .rule-at .result .b) = search needs in
+    let f : SFits w16 (c .before .before .before .before .before .before .before .before .before .before .before .rule-at .result .b) =
+    search needs in
     widens w16 (c .before .before .before .before .before .before .before .before .before .before .before .rule-at .result .b) f (lit≤ tt)
 
 cast-signed-3 : tie.Need-cast-signed-3
 cast-signed-3 c =
-    let f : SFits w32 (c .before .before .before .before .before .before .before .before .before .before .before .before .before .before .rule-at .result .c) = search needs in
-    widens w32 (c .before .before .before .before .before .before .before .before .before .before .before .before .before .before .rule-at .result .c) f (lit≤ tt)
+    let f : SFits w32
+    (c .before .before .before .before .before .before .before .before .before .before .before .before .before .before .rule-at .result .c)
+    = search needs in
+    widens w32
+    (c .before .before .before .before .before .before .before .before .before .before .before .before .before .before .rule-at .result .c)
+    f (lit≤ tt)
 
 pub print-rule-spec : {M : Type 1} → statement M
 print-rule-spec =

@@ -5,10 +5,10 @@ use Rattle.book_vectors.proofs.print_rules.Statement.{statement}
 use Rattle.book_vectors.proofs.print_rules.Tie as tie
 
 abbrev Inv-loop : tie.InvT-loop
-Inv-loop bytes n records k₀ k = k ≤ 255
+Inv-loop version bytes n records k₀ k = k ≤ 255
 
 abbrev μ-loop : tie.MeasureT-loop
-μ-loop bytes n records k₀ k = 255 - k
+μ-loop version bytes n records k₀ k = 255 - k
 
 pub print-rules-spec : {M : Type 1} → statement M
 print-rules-spec =

@@ -7,7 +7,9 @@ use Rattle.book_vectors.proofs.run.Statement.{statement}
 use Rattle.book_vectors.proofs.run.Tie as tie
 
 slice-aggregate-print-repacking : tie.Need-slice-aggregate-print-repacking
-slice-aggregate-print-repacking c = sym (length-take-le (c .before .before .before .before .before .before .before .length-at3 .result) (c .before .before .fresh .result) (omega arith))
+slice-aggregate-print-repacking c =
+    let room = c .before .before .before .before .before .before .before .length-at4 in
+    sym (length-take-le (room .result) (c .before .before .fresh .result) (omega arith))
 
 pub run-spec : {M : Type 1} → statement M
 run-spec =
@@ -17,6 +19,9 @@ run-spec =
     (λ c. search needs)
     (λ c κs. search needs)
     (λ c. search needs)
+    (λ c. search needs)
+    (λ c κs. search needs)
+    (λ c κs. search needs)
     (λ c. search needs)
     (λ c κs. search needs)
     (λ c. search needs)

@@ -5,10 +5,14 @@ use Rattle.book_vectors.proofs.signed.Statement.{statement}
 use Rattle.book_vectors.proofs.signed.Tie as tie
 
 sub-print-decimal : tie.Need-sub-print-decimal
-sub-print-decimal c = minus-fits (c .before .before .before .before .args .z) (c .before .before .before .before .fits .z) (c .before .before .before .if1 .left)
+sub-print-decimal c =
+    minus-fits (c .before .before .before .before .args .z) (c .before .before .before .before .fits .z)
+    (c .before .before .before .if1 .left)
 
 cast-print-decimal : tie.Need-cast-print-decimal
-cast-print-decimal c = minus-cast (c .before .before .before .before .args .z) (c .before .before .before .before .fits .z) (c .before .before .before .if1 .left) (c .before .before .if2 .taken)
+cast-print-decimal c =
+    minus-cast (c .before .before .before .before .args .z) (c .before .before .before .before .fits .z)
+    (c .before .before .before .if1 .left) (c .before .before .if2 .taken)
 
 cast-number : tie.Need-cast-number
 cast-number c = plain-cast (c .before .before .args .z) (c .before .before .fits .z) (c .if2 .left)

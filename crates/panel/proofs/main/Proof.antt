@@ -1,14 +1,18 @@
--- `panel::main` meets its contract: the panel program: one book from standard input, its panel's lines to standard output.
+-- `panel::main` meets its contract: the panel's lines are within their buffer.
 use mathlib.Core.Path.{sym}
-use native.Mathlib.Omega.{arith}
 use lib.Seq.{length-take-le}
+use Rattle.planner.proofs.Shown.{panel-within}
 use borrow.Author.Needs.{needs}
 use Rattle.panel.proofs.main.Statement.{statement}
 use Rattle.panel.proofs.main.Tie as tie
 
+array-share-prefix-lines : tie.Need-array-share-prefix-lines
+array-share-prefix-lines c = panel-within (c .before .vishalneq-panel-lines .ensures)
+
 slice-aggregate-write-all : tie.Need-slice-aggregate-write-all
 slice-aggregate-write-all c =
-    sym (length-take-le (c .before .before .vishalneq-panel-lines .result) (c .before .before .vishalneq-panel-lines .last .1 .0) (omega (arith, c .before .before .vishalneq-panel-lines .ensures .enough)))
+    let panel = c .before .before .vishalneq-panel-lines in
+    sym (length-take-le (panel .result) _ (panel-within (panel .ensures)))
 
 pub main-spec : {M : Type 1} → statement M
 main-spec =
@@ -20,7 +24,7 @@ main-spec =
     (λ c. search needs)
     (λ c. search needs)
     (λ c κs. search needs)
-    (λ c. search needs)
+    array-share-prefix-lines
     slice-aggregate-write-all
     (λ c κs. search needs)
     (λ c. search needs))

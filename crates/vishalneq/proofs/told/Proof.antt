@@ -1,14 +1,14 @@
--- `vishalneq::told` meets its contract.
+-- `vishalneq::told` meets its contract: the count, or the number and the record as one number.
 use Rattle.vishalneq.proofs.Buffers.{told-accepted, told-refused}
 use borrow.Author.Needs.{needs}
 use Rattle.vishalneq.proofs.told.Statement.{statement}
 use Rattle.vishalneq.proofs.told.Tie as tie
 
 returns : tie.Need-returns
-returns c = told-accepted (c .before .before .args .seen) (c .if1 .taken)
+returns c = told-accepted (c .before .args .refusal) (c .before .args .count) (c .if1 .taken)
 
 returns-2 : tie.Need-returns-2
-returns-2 c = told-refused (c .before .before .before .args .seen) (λ z. c .before .if1 .left z)
+returns-2 c = told-refused (c .before .before .args .refusal) (c .before .before .args .count) (λ z. c .before .if1 .left z)
 
 pub told-spec : {M : Type 1} → statement M
 told-spec =

@@ -17,7 +17,8 @@ abbrev μ-loop : tie.MeasureT-loop
 loop-holds : tie.Need-loop-holds Inv-loop μ-loop
 loop-holds c =
     let start = c .before .before .before in
-    shown-start (rowFor (layoutOf (start .args .version)) (start .args .book .now) (start .args .v)) (start .args .records .now) (start .args .n) (start .args .out .now) (start .pre)
+    shown-start (rowFor (layoutOf (start .args .version)) (start .args .book .now) (start .args .v)) (start .args .records .now)
+    (start .args .n) (start .args .out .now) (start .pre)
 
 mul-row : tie.Need-mul-row Inv-loop μ-loop
 mul-row c = omega arith
@@ -27,11 +28,14 @@ shared-slice-read-row c = shown-all (c .before .before .loop .inv) (c .before .l
 
 add-i : tie.Need-add-i Inv-loop μ-loop
 add-i c =
-    omega (arith, c .before .before .before .before .before .before .loop-test .taken, shown-all (c .before .before .before .before .before .before .before .loop .inv) (c .before .before .before .before .before .before .loop-test .taken))
+    omega
+    (arith, c .before .before .before .before .before .before .loop-test .taken, shown-all (c .before .before .before .before .before .before .before .loop .inv) (c .before .before .before .before .before .before .loop-test .taken))
 
 loop-again : tie.Need-loop-again Inv-loop μ-loop
 loop-again c =
-    shown-step (c .before .before .before .before .before .before .before .loop .inv) (c .before .before .before .before .before .before .loop-test .taken) (c .before .before .before .before .row .ensures) (c .before .before .append-row .ensures)
+    shown-step (c .before .before .before .before .before .before .before .loop .inv)
+    (c .before .before .before .before .before .before .loop-test .taken) (c .before .before .before .before .row .ensures)
+    (c .before .before .append-row .ensures)
 
 same-length : tie.Need-same-length Inv-loop μ-loop
 same-length c = shown-length (c .before .loop .inv)

@@ -25,7 +25,9 @@ returns-2 c =
     let r = start .args .found in
     let records = start .args .records .now in
     let out = start .args .out .now in
-    refused-shows L s r records out (omega (arith, c .before .before .before .before .before .before .if1 .left, c .before .before .before .before .before .before .before .panel-room .ensures)) (start .pre .lines) (c .before .before .before .before .if2 .taken)
+    refused-shows L s r records out
+    (omega (arith, c .before .before .before .before .before .before .if1 .left, c .before .before .before .before .before .before .before .panel-room .ensures))
+    (start .pre .lines) (c .before .before .before .before .if2 .taken)
     (c .before .before .write-line .ensures)
 
 list-requires : tie.Need-list-requires
@@ -33,7 +35,9 @@ list-requires c κs =
     let start = c .before .before .before .before .before .before .before .before .before .before .before .before in
     record {
       all = start .pre .all;
-      room = omega (arith, start .pre .few, c .before .before .before .before .before .before .before .if1 .left, c .before .before .before .before .before .before .before .before .panel-room .ensures);
+      room =
+          omega
+          (arith, start .pre .few, c .before .before .before .before .before .before .before .if1 .left, c .before .before .before .before .before .before .before .before .panel-room .ensures);
     }
 
 returns-3 : tie.Need-returns-3
@@ -44,7 +48,9 @@ returns-3 c =
     let r = start .args .found in
     let records = start .args .records .now in
     let out = start .args .out .now in
-    none-shows L s r records out (omega (arith, c .before .before .before .before .before .if1 .left, c .before .before .before .before .before .before .panel-room .ensures)) (c .before .before .before .if2 .left) _ (c .enum-told .given .1) refl
+    none-shows L s r records out
+    (omega (arith, c .before .before .before .before .before .if1 .left, c .before .before .before .before .before .before .panel-room .ensures))
+    (c .before .before .before .if2 .left) _ (c .enum-told .given .1) refl
 
 returns-4 : tie.Need-returns-4
 returns-4 c =
@@ -54,7 +60,9 @@ returns-4 c =
     let r = start .args .found in
     let records = start .args .records .now in
     let out = start .args .out .now in
-    none-shows L s r records out (omega (arith, c .before .before .before .before .before .if1 .left, c .before .before .before .before .before .before .panel-room .ensures)) (c .before .before .before .if2 .left) _ (c .enum-told2 .given .1) refl
+    none-shows L s r records out
+    (omega (arith, c .before .before .before .before .before .if1 .left, c .before .before .before .before .before .before .panel-room .ensures))
+    (c .before .before .before .if2 .left) _ (c .enum-told2 .given .1) refl
 
 returns-5 : tie.Need-returns-5
 returns-5 c =
@@ -64,7 +72,10 @@ returns-5 c =
     let r = start .args .found in
     let records = start .args .records .now in
     let out = start .args .out .now in
-    best-shows L s r records out (omega (arith, c .before .before .before .before .before .before .before .before .before .before .if1 .left, c .before .before .before .before .before .before .before .before .before .before .before .panel-room .ensures)) (c .before .before .before .before .before .before .before .before .if2 .left) _ (c .before .before .before .before .before .outcome .given .1) (start .pre .few)
+    best-shows L s r records out
+    (omega (arith, c .before .before .before .before .before .before .before .before .before .before .if1 .left, c .before .before .before .before .before .before .before .before .before .before .before .panel-room .ensures))
+    (c .before .before .before .before .before .before .before .before .if2 .left) _
+    (c .before .before .before .before .before .outcome .given .1) (start .pre .few)
     (c .before .before .list .ensures)
 
 pub show-spec : {M : Type 1} → statement M

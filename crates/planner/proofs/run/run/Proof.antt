@@ -18,21 +18,27 @@ returns c =
 
 returns-2 : tie.Need-returns-2
 returns-2 c =
-    let start = c .before .before .before .before .before .before .before .before .before .before .before .before .before .before .before .before .before in
+    let start =
+    c .before .before .before .before .before .before .before .before .before .before .before .before .before .before .before .before
+    .before in
     let read = c .before .before .before .before .before .before .before .before .before .before .before .before .read in
     let l = start .args .entries .now in
     absurd
     (never-outside _ _ _ (take 6 l) _ _ (read .result) _ _ (read .ensures) (length-take-le 6 l (start .pre .floors)) (start .pre .names)
-    (λ z. part-room l (countOf (layoutOf (start .args .version)) (start .args .book .now)) (start .pre .rules z)) (start .args .prefix) (c .before .before .before .before .before .before .before .if1 .left) (c .before .before .before .before .before .shorter .ensures)
+    (λ z. part-room l (countOf (layoutOf (start .args .version)) (start .args .book .now)) (start .pre .rules z)) (start .args .prefix)
+    (c .before .before .before .before .before .before .before .if1 .left) (c .before .before .before .before .before .shorter .ensures)
     (sym (c .before .enum-told .given .1) ∙ c .before .before .before .before .solve .ensures .answer))
 
 returns-3 : tie.Need-returns-3
 returns-3 c =
-    let start = c .before .before .before .before .before .before .before .before .before .before .before .before .before .before .before .before .before in
+    let start =
+    c .before .before .before .before .before .before .before .before .before .before .before .before .before .before .before .before
+    .before in
     let read = c .before .before .before .before .before .before .before .before .before .before .before .before .read in
     let l = start .args .entries .now in
     walked-runs _ _ _ (take 6 l) _ _ (read .result) _ _ (read .ensures) (length-take-le 6 l (start .pre .floors)) (start .pre .names)
-    (λ z. part-room l (countOf (layoutOf (start .args .version)) (start .args .book .now)) (start .pre .rules z)) (start .args .prefix) (c .before .before .before .before .before .before .before .if1 .left) (c .before .before .before .before .before .shorter .ensures)
+    (λ z. part-room l (countOf (layoutOf (start .args .version)) (start .args .book .now)) (start .pre .rules z)) (start .args .prefix)
+    (c .before .before .before .before .before .before .before .if1 .left) (c .before .before .before .before .before .shorter .ensures)
     (sym (c .before .solution .given .1) ∙ c .before .before .before .before .solve .ensures .answer)
 
 pub run-spec : {M : Type 1} → statement M
