@@ -19,8 +19,9 @@ def record(layout, link, kind, rest, pad=0):
     return struct.pack(HEAD[layout], *((link, kind) if layout == 1 else (link, kind, pad))) + rest
 
 
-def header(first, count, p=1, q=1, version=None, tail=0, layout=1, pad=0):
-    return record(layout, first, layout if version is None else version, struct.pack("<hhHI", p, q, count, tail), pad)
+def header(first, count, p=1, q=1, version=None, floors=(0, 0), layout=1, pad=0):
+    """A header of a version. Version 1 has zeros where version 2 has the floors; other bytes there are against it."""
+    return record(layout, first, layout if version is None else version, struct.pack("<hhHhh", p, q, count, *floors), pad)
 
 
 def rule(nxt, a=1, b=1, c=1, kind=1, label=0, layout=1, pad=0):
@@ -40,14 +41,14 @@ def read(book, layout=1):
     if n < width or n > width * MOST[layout] or n % width:
         return ("refused", 1, 0)
     first, version, pad, rest = fields(layout, book, 0)
-    p, q, count, tail = struct.unpack("<hhHI", rest)
+    p, q, count, lx, ly = struct.unpack("<hhHhh", rest)
     if version != layout or pad:
         return ("refused", 2, 0)
     if count != n // width - 1:
         return ("refused", 3, 0)
     if p == -32768 or q == -32768:
         return ("refused", 4, 0)
-    if tail:
+    if layout == 1 and (lx, ly) != (0, 0):
         return ("refused", 5, 0)
     at, link, seen, labels, chain = 0, first, set(), set(), []
     while link:
@@ -69,19 +70,19 @@ def read(book, layout=1):
         labels.add(label)
         chain.append((link, kind, a, b, c, label))
         at, link = link, nxt
-    return ("accepted", (p, q), chain)
+    return ("accepted", (p, q), chain, (lx, ly))
 
 
 def repack(book, room, layout=1):
-    """The repacked form, which is of version 2 whatever the book's version."""
+    """The repacked form, which is of version 2 whatever the book's version, with the floors carried over, as zeros from version 1."""
     got = read(book, layout)
     if got[0] == "refused":
         return (got[1], got[2], b"")
-    (p, q), chain = got[1], got[2]
+    _, (p, q), chain, floors = got
     n = len(chain)
     if room < 14 * (n + 1):
         return (11, 0, b"")
-    out = header(1 if n else 0, n, p, q, layout=2)
+    out = header(1 if n else 0, n, p, q, floors=floors, layout=2)
     for k, (_, kind, a, b, c, label) in enumerate(chain, 1):
         out += rule(k + 1 if k < n else 0, a, b, c, kind, label, layout=2)
     return (0, 0, out)
@@ -151,8 +152,8 @@ def pairs():
     case("1 before 2", header(0, 0, version=2) + b"\0")
     case("2 before 3", header(0, 1, version=2))
     case("3 before 4", header(0, 1, p=-32768))
-    case("4 before 5", header(0, 0, q=-32768, tail=1))
-    case("5 before 6", header(1, 0, tail=1))
+    case("4 before 5", header(0, 0, q=-32768, floors=(1, 0)))
+    case("5 before 6", header(1, 0, floors=(1, 0)))
     case("6 before 7", header(1, 2) + rule(2) + rule(200, label=1))
     case("7 at a record before 8 of none", header(1, 1) + rule(1))
     case("6 before 8 of a spare record", header(2, 1) + rule(0, kind=9))
@@ -263,6 +264,12 @@ def second():
         data = bytearray(head(0, 0))
         data[byte] = 128
         book(f"header byte {byte} set", bytes(data))
+    two = row(0, c=-7, label=7) + row(1, a=-2, b=3, kind=2, label=8)
+    for lx, ly in ((1, 2), (-1, -2), (-300, 300), (-32768, 32767), (32767, -32768), (-32768, -32768)):
+        book(f"floors {lx} and {ly}", head(0, 0, floors=(lx, ly)))
+        book(f"floors {lx} and {ly}, scattered", head(2, 2, floors=(lx, ly)) + two, (41, 42, 43))
+    book("4 with floors", head(0, 0, p=-32768, floors=(5, 6)))
+    book("6 with floors, where version 1 has 5", head(1, 0, floors=(5, 6)))
     # records up to 257, and a chain through those whose links need the high byte
     places = {1: row(255, c=1, label=1), 255: row(256, c=2, label=2), 256: row(257, c=3, label=3), 257: row(0, c=4, label=4, kind=2)}
     long = head(1, 257) + b"".join(places.get(k, bytes(14)) for k in range(1, 258))

@@ -1,4 +1,4 @@
-//! The measured chains. All are accepted and allow pairs, so that planner and twin must print the same line.
+//! The measured chains, with floors of zero. All are accepted and allow pairs, so that planner and twin must print the same line.
 
 use search::book::{Rule, Source};
 use search::random::Random;
@@ -22,7 +22,7 @@ fn random(random: &mut Random, n: usize) -> Vec<Source> {
     let mut number = |low| random.between(low, 32_767) as i16;
     let mut chain = || {
         let rules: Vec<Rule> = (0..n).map(|i| rule(i, number(-32_767), number(-32_767), i32::from(number(0)) * 30_000)).collect();
-        Source { p: number(1), q: number(1), rules }
+        Source { p: number(1), q: number(1), lx: 0, ly: 0, rules }
     };
     (0..different(n)).map(|_| chain()).collect()
 }
@@ -33,7 +33,7 @@ fn adversarial(random: &mut Random, n: usize) -> Vec<Source> {
     let mut chain = || {
         let (tip_x, tip_y) = tip(random, n);
         let rules = (0..n).map(|i| tangent(i, n, tip_x, tip_y)).collect();
-        Source { p: -1, q: 0, rules }
+        Source { p: -1, q: 0, lx: 0, ly: 0, rules }
     };
     (0..different(n)).map(|_| chain()).collect()
 }
@@ -64,7 +64,7 @@ fn open(random: &mut Random, n: usize) -> Vec<Source> {
             rule(i, -a, -b, c)
         }
     };
-    (0..different(n)).map(|_| Source { p: 1, q: 1, rules: (0..n).map(&mut one).collect() }).collect()
+    (0..different(n)).map(|_| Source { p: 1, q: 1, lx: 0, ly: 0, rules: (0..n).map(&mut one).collect() }).collect()
 }
 
 /// Every other rule is written as kind 2.

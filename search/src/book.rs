@@ -15,11 +15,13 @@ pub struct Rule {
     pub label: u16,
 }
 
-/// What a book says: the objective and the rules in chain order.
+/// What a book says: the objective, the floors and the rules in chain order. A version that has no floors writes zeros for them.
 #[derive(Clone, Debug, PartialEq)]
 pub struct Source {
     pub p: i16,
     pub q: i16,
+    pub lx: i16,
+    pub ly: i16,
     pub rules: Vec<Rule>,
 }
 
@@ -53,20 +55,21 @@ impl Source {
         let width = layout.width();
         let link = |i: usize| if i < self.rules.len() { places[i] } else { 0 };
         let count = (bytes.len() / width - 1) as u16;
-        bytes[..width].copy_from_slice(&record(layout, link(0), layout.version, [self.p, self.q], count, 0));
+        let floors = if layout.floors { [self.lx, self.ly].map(i16::to_le_bytes).concat() } else { vec![0; 4] };
+        bytes[..width].copy_from_slice(&record(layout, link(0), layout.version, [self.p, self.q], count, &floors));
         for (i, r) in self.rules.iter().enumerate() {
             let at = places[i] * width;
-            bytes[at..at + width].copy_from_slice(&record(layout, link(i + 1), r.kind, [r.a, r.b], r.label, r.c));
+            bytes[at..at + width].copy_from_slice(&record(layout, link(i + 1), r.kind, [r.a, r.b], r.label, &r.c.to_le_bytes()));
         }
         bytes
     }
 }
 
 /// The bytes of one record.
-fn record(layout: &Layout, link: usize, kind: u8, pair: [i16; 2], word: u16, last: i32) -> Vec<u8> {
+fn record(layout: &Layout, link: usize, kind: u8, pair: [i16; 2], word: u16, last: &[u8]) -> Vec<u8> {
     let (link, zeros) = (&link.to_le_bytes()[..layout.link_bytes], &[0; 8][..layout.pad_bytes]);
     let [first, second] = pair.map(i16::to_le_bytes);
-    [link, &[kind], zeros, &first, &second, &word.to_le_bytes(), &last.to_le_bytes()].concat()
+    [link, &[kind], zeros, &first, &second, &word.to_le_bytes(), last].concat()
 }
 
 /// Bytes as hexadecimal digits.

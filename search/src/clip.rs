@@ -2,7 +2,10 @@
 //! the other entries in chain order. What is left of it is a stretch, and the ends of the stretches are the corners. An end stays a corner
 //! from the prefix that has both of its entries up to the entry that cuts it off. The tests compare this with the exhaustive search.
 
-use crate::exact::{chosen, gains, meeting, Line, Outcome, Pair, FLOORS};
+use crate::exact::{chosen, entries, gains, meeting, Line, Outcome, Pair, Terms};
+
+/// How many entries stand before the rules.
+const FLOORS: usize = 2;
 
 /// A corner or a direction, and the prefixes that have it: those of `from` entries or more and of fewer than `until`.
 struct Life<T> {
@@ -20,16 +23,18 @@ struct Stretch<'a> {
 }
 
 /// The outcomes of the prefixes of 0, 1, .. n rules.
-pub fn each(p: i128, q: i128, rules: &[Line]) -> Vec<Outcome> {
-    let entries: Vec<Line> = FLOORS.iter().chain(rules).copied().collect();
+pub fn each(terms: &Terms, rules: &[Line]) -> Vec<Outcome> {
+    let &Terms { p, q, floors } = terms;
+    let entries = entries(&floors, rules);
     let corners: Vec<Life<Pair>> = (0..entries.len()).flat_map(|i| corners_on(&entries, i)).collect();
     let directions = directions(p, q, rules);
-    (FLOORS.len()..=entries.len()).map(|m| chosen(p, q, &alive(&corners, m).collect::<Vec<_>>(), alive(&directions, m))).collect()
+    (FLOORS..=entries.len()).map(|m| chosen(p, q, &alive(&corners, m).collect::<Vec<_>>(), alive(&directions, m))).collect()
 }
 
 /// The outcome of all rules together.
-pub fn whole(p: i128, q: i128, rules: &[Line]) -> Outcome {
-    let entries: Vec<Line> = FLOORS.iter().chain(rules).copied().collect();
+pub fn whole(terms: &Terms, rules: &[Line]) -> Outcome {
+    let &Terms { p, q, floors } = terms;
+    let entries = entries(&floors, rules);
     let corners: Vec<Life<Pair>> = (0..entries.len()).flat_map(|i| corners_on(&entries, i)).collect();
     chosen(p, q, &alive(&corners, entries.len()).collect::<Vec<_>>(), alive(&directions(p, q, rules), entries.len()))
 }
@@ -82,12 +87,11 @@ impl Stretch<'_> {
     }
 }
 
-/// The candidates that lead into the quadrant and earn, each up to the first rule against it.
+/// The candidates that lower neither rate and earn, each up to the first rule against it.
 fn directions(p: i128, q: i128, rules: &[Line]) -> Vec<Life<(i128, i128)>> {
-    let floors = FLOORS.len();
-    let along_rules = rules.iter().zip(floors + 1..).flat_map(|(r, from)| r.ways().map(|of| (of, from)));
-    let candidates = [((1, 0), floors), ((0, 1), floors)].into_iter().chain(along_rules);
-    let until = |of| rules.iter().position(|r| !r.allows(of)).unwrap_or(rules.len()) + floors + 1;
+    let along_rules = rules.iter().zip(FLOORS + 1..).flat_map(|(r, from)| r.ways().map(|of| (of, from)));
+    let candidates = [((1, 0), FLOORS), ((0, 1), FLOORS)].into_iter().chain(along_rules);
+    let until = |of| rules.iter().position(|r| !r.allows(of)).unwrap_or(rules.len()) + FLOORS + 1;
     candidates
         .filter(|&(of, _)| gains(p, q, of))
         .map(|(of, from)| Life { of, from, until: until(of) })

@@ -12,7 +12,13 @@ pub struct Line {
     pub c: i128,
 }
 
-pub const FLOORS: [Line; 2] = [Line { a: -1, b: 0, c: 0 }, Line { a: 0, b: -1, c: 0 }];
+/// What a book's header says: the objective, and the floors of x and y as rules.
+#[derive(Clone, Copy, Debug, PartialEq)]
+pub struct Terms {
+    pub p: i128,
+    pub q: i128,
+    pub floors: [Line; 2],
+}
 
 /// The pair x = X/D, y = Y/D.
 #[derive(Clone, Copy, Debug, PartialEq)]
@@ -50,11 +56,16 @@ impl Line {
     }
 }
 
+/// x not below lx and y not below ly.
+pub fn floors(lx: i128, ly: i128) -> [Line; 2] {
+    [Line { a: -1, b: 0, c: -lx }, Line { a: 0, b: -1, c: -ly }]
+}
+
 /// The outcome of an objective, the floors and the rules.
-pub fn outcome(p: i128, q: i128, rules: &[Line]) -> Outcome {
-    let entries: Vec<Line> = FLOORS.iter().chain(rules).copied().collect();
+pub fn outcome(terms: &Terms, rules: &[Line]) -> Outcome {
+    let &Terms { p, q, floors } = terms;
     let lawful = candidates(rules).filter(|&d| lawful(p, q, rules, d));
-    chosen(p, q, &corners(&entries), lawful)
+    chosen(p, q, &corners(&entries(&floors, rules)), lawful)
 }
 
 /// The outcome that corners and lawful candidates make.
@@ -70,9 +81,13 @@ pub fn chosen(p: i128, q: i128, corners: &[Pair], lawful: impl Iterator<Item = (
 }
 
 /// The start pair: the first corner by least x, then least y.
-pub fn start(rules: &[Line]) -> Option<Pair> {
-    let entries: Vec<Line> = FLOORS.iter().chain(rules).copied().collect();
-    corners(&entries).iter().min_by(|v, w| by_place(v, w)).map(reduced)
+pub fn start(floors: &[Line; 2], rules: &[Line]) -> Option<Pair> {
+    corners(&entries(floors, rules)).iter().min_by(|v, w| by_place(v, w)).map(reduced)
+}
+
+/// The floors, and after them the rules.
+pub fn entries(floors: &[Line; 2], rules: &[Line]) -> Vec<Line> {
+    floors.iter().chain(rules).copied().collect()
 }
 
 /// Every pair where two entries meet and that keeps all entries. In long chains the last rules are often the tightest, so that they are
@@ -112,7 +127,7 @@ fn lawful(p: i128, q: i128, rules: &[Line], along: (i128, i128)) -> bool {
     gains(p, q, along) && rules.iter().all(|r| r.allows(along))
 }
 
-/// Whether a direction leads into the quadrant and earns with each step.
+/// Whether a direction lowers neither rate and earns with each step.
 pub fn gains(p: i128, q: i128, (dx, dy): (i128, i128)) -> bool {
     dx >= 0 && dy >= 0 && (dx, dy) != (0, 0) && p * dx + q * dy > 0
 }

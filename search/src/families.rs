@@ -1,4 +1,4 @@
-//! Random rules, one function a family: each aims at a situation that a planner gets wrong.
+//! Random rules and floors, one function a family: each aims at a situation that a planner gets wrong.
 
 use crate::book::{Rule, Source};
 use crate::layout::Layout;
@@ -29,8 +29,8 @@ const FAMILIES: [(&str, Family); 16] = [
     ("uniform", uniform),
 ];
 
-/// A random source of n rules with the name of its family; labels are distinct but in one book in sixteen.
-pub fn source(random: &mut Random, n: usize) -> (&'static str, Source) {
+/// A random source of n rules for a version, with the name of its family; labels are distinct but in one book in sixteen.
+pub fn source(layout: &Layout, random: &mut Random, n: usize) -> (&'static str, Source) {
     let (name, family) = random.pick(&FAMILIES);
     let mut rules = family(random, n);
     if random.one_in(3) {
@@ -39,6 +39,7 @@ pub fn source(random: &mut Random, n: usize) -> (&'static str, Source) {
     if random.one_in(4) {
         twist(random, &mut rules);
     }
+    let (lx, ly) = floors(layout, random, &mut rules);
     let (p, q) = objective(random, &rules);
     let mut rules = labelled(random, &rules);
     match random.below(16) {
@@ -46,12 +47,12 @@ pub fn source(random: &mut Random, n: usize) -> (&'static str, Source) {
         1 => near_label(random, &mut rules),
         _ => (),
     }
-    (name, Source { p: p as i16, q: q as i16, rules })
+    (name, Source { p: p as i16, q: q as i16, lx, ly, rules })
 }
 
 /// A random source whose counts are as great as n rules can make them, or nearly: each rule moves the best pair, or each prefix is open.
 /// In one of three the last rules bound what was open or contradict each other.
-pub fn busy_source(random: &mut Random, n: usize) -> (&'static str, Source) {
+pub fn busy_source(layout: &Layout, random: &mut Random, n: usize) -> (&'static str, Source) {
     let (name, mut rules, (p, q)) = match random.below(3) {
         0 => ("tangents, all moving", tangents(random, n), (-1, 0)),
         1 => ("tangents, all open", tangents(random, n), (1, random.between(0, 3))),
@@ -60,14 +61,16 @@ pub fn busy_source(random: &mut Random, n: usize) -> (&'static str, Source) {
     if random.one_in(3) {
         twist(random, &mut rules);
     }
-    (name, Source { p, q: q as i16, rules: labelled(random, &rules) })
+    let (lx, ly) = if layout.floors { (floor(random), floor(random)) } else { (0, 0) };
+    carry(&mut rules, lx, ly);
+    (name, Source { p, q: q as i16, lx: lx as i16, ly: ly as i16, rules: labelled(random, &rules) })
 }
 
 /// A hundred books of up to 29 rules, for a program: to start one costs more than to plan.
 pub fn hundred_books(layout: &Layout, random: &mut Random) -> Vec<(&'static str, Vec<u8>)> {
     let mut book = || {
         let n = random.below(30);
-        let (name, source) = source(random, n);
+        let (name, source) = source(layout, random, n);
         (name, source.scattered_as(layout, 9, random))
     };
     (0..100).map(|_| book()).collect()
@@ -77,10 +80,54 @@ pub fn hundred_books(layout: &Layout, random: &mut Random) -> Vec<(&'static str,
 pub fn longest_books(layout: &Layout, random: &mut Random) -> Vec<(&'static str, Vec<u8>)> {
     let book = |i: usize| {
         let n = layout.most_rules() - random.below(i + 1);
-        let (name, source) = if i % 2 == 0 { busy_source(random, n) } else { source(random, n) };
+        let (name, source) = if i % 2 == 0 { busy_source(layout, random, n) } else { source(layout, random, n) };
         (name, source.scattered_as(layout, 9, random))
     };
     (0..8).map(book).collect()
+}
+
+/// The floors: zero in a version that has none and in a third of the other books. Most rules are carried along, so that they stand to the
+/// floors' corner as their family has them stand to (0, 0); the others are cut by floors that they do not know.
+fn floors(layout: &Layout, random: &mut Random, rules: &mut [Numbers]) -> (i16, i16) {
+    if !layout.floors || random.one_in(3) {
+        return (0, 0);
+    }
+    let (lx, ly) = (floor(random), floor(random));
+    if !random.one_in(3) {
+        carry(rules, lx, ly);
+    }
+    if random.one_in(6) {
+        clash(random, rules, lx, ly);
+    }
+    (lx as i16, ly as i16)
+}
+
+/// Zero, small of either sign, anything, or at an end of the range.
+fn floor(random: &mut Random) -> i64 {
+    match random.below(8) {
+        0 => 0,
+        1 | 2 => random.between(1, 9),
+        3 | 4 => random.between(-9, -1),
+        5 => random.between(-TOP - 1, TOP),
+        6 => random.between(-300, 300),
+        _ => random.pick(&[-TOP - 1, -TOP - 1, TOP, TOP, -TOP, TOP - 1]),
+    }
+}
+
+/// Moves rules by a pair, as far as c can follow.
+fn carry(rules: &mut [Numbers], x: i64, y: i64) {
+    rules.iter_mut().for_each(|(a, b, c)| *c = (*c + *a * x + *b * y).clamp(-FAR, FAR));
+}
+
+/// One rule that leaves a floor, or both together, no room or just their own line or corner.
+fn clash(random: &mut Random, rules: &mut [Numbers], lx: i64, ly: i64) {
+    if rules.is_empty() {
+        return;
+    }
+    let at = random.below(rules.len());
+    let (a, b) = random.pick(&[(1, 0), (0, 1), (1, 1), (2, 3)]);
+    let times = random.pick(&[1, 1, 3, 1_000]);
+    rules[at] = (times * a, times * b, times * (a * lx + b * ly) - random.pick(&[0, 1, 1]));
 }
 
 /// The last rules bound what was open or contradict each other, so that much happens late.
@@ -275,7 +322,7 @@ fn greatest_corner(random: &mut Random, n: usize) -> Vec<Numbers> {
     })
 }
 
-/// A direction into the quadrant keeps every rule, so that prefixes stay open for long.
+/// A direction that lowers neither rate keeps every rule, so that prefixes stay open for long.
 fn open(random: &mut Random, n: usize) -> Vec<Numbers> {
     let (dx, dy) = (random.between(0, 3), random.between(0, 3));
     let top = random.pick(&[6, 6, TOP]);

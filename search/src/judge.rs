@@ -1,6 +1,6 @@
 //! Whether a printed line is right. All of it is fixed by the book but the witness, which is judged by its property.
 
-use crate::exact::{Line, Outcome, FLOORS};
+use crate::exact::{Line, Outcome};
 use crate::layout::{Layout, ONE};
 use crate::prefixes::{search, Way};
 use crate::read::{read_as, Accepted, Entry};
@@ -14,8 +14,14 @@ pub struct Expected {
     head: String,
     /// Moves and open; a refusal has none.
     counts: Option<(usize, usize)>,
-    /// The rules that a witness may name, if there must be one.
-    witness: Option<Vec<Entry>>,
+    /// What a witness may name, if there must be one.
+    witness: Option<Nameable>,
+}
+
+/// The floors, which rank first, and the rules up to the place.
+struct Nameable {
+    floors: [Line; 2],
+    rules: Vec<Entry>,
 }
 
 /// The right line of a book of version 1 by the search.
@@ -24,19 +30,20 @@ pub fn expected(book: &[u8], way: Way) -> Expected {
 }
 
 pub fn expected_as(layout: &Layout, book: &[u8], way: Way) -> Expected {
-    let Accepted { p, q, mut rules } = match read_as(layout, book) {
+    let Accepted { terms, mut rules } = match read_as(layout, book) {
         Ok(accepted) => accepted,
         Err(r) => return Expected { head: format!("refused {} {}", r.number, r.record), counts: None, witness: None },
     };
     let lines: Vec<Line> = rules.iter().map(|r| r.line).collect();
-    let chain = search(p, q, &lines, way);
+    let chain = search(&terms, &lines, way);
     let head = match chain.outcome {
         Outcome::Best(v) => format!("best {} {} {}", v.x, v.y, v.d),
         Outcome::Unlimited { start: v, dx, dy } => format!("unlimited {} {} {} {dx} {dy}", v.x, v.y, v.d),
         Outcome::Impossible => format!("impossible {}", chain.place),
     };
     rules.truncate(chain.place);
-    Expected { head, counts: Some((chain.moves, chain.open)), witness: (chain.place > 0).then_some(rules) }
+    let witness = (chain.place > 0).then_some(Nameable { floors: terms.floors, rules });
+    Expected { head, counts: Some((chain.moves, chain.open)), witness }
 }
 
 impl Expected {
@@ -52,7 +59,7 @@ impl Expected {
         self.judge_counts(&mut fields)?;
         let fields: Vec<&str> = fields.collect();
         match &self.witness {
-            Some(rules) => judge_witness(&fields, rules),
+            Some(nameable) => judge_witness(&fields, nameable),
             None if fields.is_empty() => Ok(()),
             None => Err("more fields than the line has".into()),
         }
@@ -73,7 +80,7 @@ impl Expected {
     }
 }
 
-/// A decimal number as it is printed: no sign, no leading zero.
+/// A count or a weight as it is printed: no sign, no leading zero.
 fn number(text: &str) -> Option<i128> {
     text.parse::<i128>().ok().filter(|n| *n >= 0 && n.to_string() == text)
 }
@@ -85,9 +92,9 @@ struct Term {
     weight: i128,
 }
 
-fn judge_witness(fields: &[&str], rules: &[Entry]) -> Result<(), String> {
+fn judge_witness(fields: &[&str], nameable: &Nameable) -> Result<(), String> {
     let (count, fields) = fields.split_first().ok_or("no witness")?;
-    let terms = fields.chunks(2).map(|f| term(f, rules)).collect::<Result<Vec<Term>, _>>()?;
+    let terms = fields.chunks(2).map(|f| term(f, nameable)).collect::<Result<Vec<Term>, _>>()?;
     if !(1..=3).contains(&terms.len()) || *count != terms.len().to_string() {
         return Err("wrong number of entries".into());
     }
@@ -104,17 +111,17 @@ fn judge_witness(fields: &[&str], rules: &[Entry]) -> Result<(), String> {
     Ok(())
 }
 
-fn term(fields: &[&str], rules: &[Entry]) -> Result<Term, String> {
+fn term(fields: &[&str], nameable: &Nameable) -> Result<Term, String> {
     let &[name, weight] = fields else {
         return Err("an entry without a weight".into());
     };
     let weight = number(weight).filter(|w| (1..=HEAVIEST).contains(w)).ok_or("a weight out of range")?;
     let (rank, line) = match name {
-        "X" => (0, FLOORS[0]),
-        "Y" => (1, FLOORS[1]),
+        "X" => (0, nameable.floors[0]),
+        "Y" => (1, nameable.floors[1]),
         _ => {
             let named = |r: &&Entry| r.record.to_string() == name;
-            let rule = rules.iter().find(named).ok_or("an entry that is none of the first rules")?;
+            let rule = nameable.rules.iter().find(named).ok_or("an entry that is none of the first rules")?;
             (rule.record + 1, rule.line)
         }
     };

@@ -1,19 +1,21 @@
 //! How a version writes its records. Version 1 is what is meant wherever no layout is named.
 
-/// How many bytes a link has, how many bytes of zero follow the kind or the version, the version's number, and how many records a book may
-/// have, the header among them.
+/// How many bytes a link has, how many bytes of zero follow the kind or the version, the version's number, how many records a book may
+/// have, the header among them, and whether the header ends with the floors, x first, or with zeros.
 #[derive(Clone, Copy, Debug, PartialEq)]
 pub struct Layout {
     pub link_bytes: usize,
     pub pad_bytes: usize,
     pub version: u8,
     pub records: usize,
+    pub floors: bool,
 }
 
-pub const ONE: Layout = Layout { link_bytes: 1, pad_bytes: 0, version: 1, records: 256 };
-pub const TWO: Layout = Layout { link_bytes: 2, pad_bytes: 1, version: 2, records: 4_096 };
+pub const ONE: Layout = Layout { link_bytes: 1, pad_bytes: 0, version: 1, records: 256, floors: false };
+pub const TWO: Layout = Layout { link_bytes: 2, pad_bytes: 1, version: 2, records: 4_096, floors: true };
 
-/// The bytes of a record by their parts. The kind is the version in a header, the word a label or a count, the last part c or zeros.
+/// The bytes of a record by their parts. The kind is the version in a header, the word a label or a count, the last part c, the floors or
+/// zeros.
 pub struct Record<'a> {
     pub link: &'a [u8],
     pub kind: u8,

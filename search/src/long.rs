@@ -115,7 +115,7 @@ fn open() -> Vec<Stored> {
 /// A chain of 255 equal rules with these labels.
 fn labelled(labels: &[u16]) -> Vec<u8> {
     let rule = |&label: &u16| Rule { kind: 2, a: 1, b: 1, c: 2, label };
-    Source { p: 0, q: 0, rules: labels.iter().map(rule).collect() }.packed()
+    Source { p: 0, q: 0, lx: 0, ly: 0, rules: labels.iter().map(rule).collect() }.packed()
 }
 
 /// 255 labels from 101 on, with some set to others.

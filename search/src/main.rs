@@ -4,10 +4,10 @@
 //! `search program PATH [VERSION]` runs the plan program of a version, 1 unless it is named, on stored and some random books.
 //! `search panel PATH [VERSION]` and `search repacker PATH [VERSION]` run the programs of the panel and of the repacker likewise.
 //! `search repack PATH` puts stored books and REPACKS random ones through the program of the reader and the repacker.
-//! `search look` reads books in hexadecimal, one a line, and prints for each the right line, the planner's and the verdict.
+//! `search look [VERSION]` reads books in hexadecimal, one a line, and prints for each the right line, the planner's and the verdict.
 
 use search::book::from_hex;
-use search::judge::expected;
+use search::judge::expected_as;
 use search::layout::Layout;
 use search::panel;
 use search::planner::{ONE, TWO};
@@ -29,9 +29,10 @@ fn main() -> ExitCode {
         ["repacker", path] => run_repacker(path, "1"),
         ["repacker", path, version] => run_repacker(path, version),
         ["repack", path] => seed().and_then(|seed| run_repack(path, seed)),
-        ["look"] => look(),
+        ["look"] => look("1"),
+        ["look", version] => look(version),
         _ => {
-            Err("usage: search [look | program PATH [VERSION] | panel PATH [VERSION] | repacker PATH [VERSION] | repack PATH]"
+            Err("usage: search [look [VERSION] | program PATH [VERSION] | panel PATH [VERSION] | repacker PATH [VERSION] | repack PATH]"
                 .into())
         }
     };
@@ -98,7 +99,7 @@ fn run_both(seed: u64) -> Result<String, String> {
     let one = repack::library(&ONE, seed, repacks)?;
     let two = repack::library(&TWO, seed ^ 1 << 63, repacks_two)?;
     let alike = timed("ALIKE", 4_000, |n| both_versions(seed ^ 1 << 62, n))?;
-    Ok(format!("version 1, {one}; version 2, {two}; {alike} in version 1, repacked and reordered in version 2"))
+    Ok(format!("version 1, {one}; version 2, {two}; {alike} of either version, repacked and reordered in version 2"))
 }
 
 fn run_program(path: &str, version: &str) -> Result<(), String> {
@@ -157,12 +158,13 @@ fn timed(name: &str, otherwise: u64, part: impl FnOnce(u64) -> Result<u64, Strin
     Ok(format!("{} ({:.1} s)", part(count(name, otherwise)?)?, start.elapsed().as_secs_f64()))
 }
 
-fn look() -> Result<(), String> {
+fn look(version: &str) -> Result<(), String> {
+    let planner = if Layout::of_version(version)? == TWO.layout { &TWO } else { &ONE };
     for row in std::io::stdin().lines() {
         let row = row.map_err(|e| e.to_string())?;
         let book = from_hex(row.trim_matches('-')).ok_or("not hexadecimal")?;
-        let right = expected(&book, Way::Anew);
-        let line = ONE.line(&book)?;
+        let right = expected_as(&planner.layout, &book, Way::OnePass);
+        let line = planner.line(&book)?;
         let verdict = right.judge(&line).map_or_else(|why| why, |()| "right".into());
         println!("{}\t{}\t{verdict}", right.shown(), String::from_utf8_lossy(&line).trim_end());
     }

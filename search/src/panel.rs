@@ -15,12 +15,12 @@ use crate::stored;
 
 /// What a book's panel must print: a line a rule for a best outcome, nothing for any other, and the line of a refusal.
 fn right(layout: &Layout, book: &[u8]) -> String {
-    let Accepted { p, q, rules } = match read_as(layout, book) {
+    let Accepted { terms, rules } = match read_as(layout, book) {
         Ok(accepted) => accepted,
         Err(r) => return format!("refused {} {}\n", r.number, r.record),
     };
     let lines: Vec<Line> = rules.iter().map(|r| r.line).collect();
-    let found = if lines.len() > MOST_RULES { clip::whole(p, q, &lines) } else { outcome(p, q, &lines) };
+    let found = if lines.len() > MOST_RULES { clip::whole(&terms, &lines) } else { outcome(&terms, &lines) };
     match found {
         Outcome::Best(v) => rules.iter().map(|r| row(r, &v)).collect(),
         _ => String::new(),
@@ -107,7 +107,7 @@ fn random_book(layout: &Layout, random: &mut Random, i: u64) -> (&'static str, V
         _ => 12,
     };
     let n = random.below(most + 1);
-    let (name, source) = source(random, n);
+    let (name, source) = source(layout, random, n);
     let mut book = source.scattered_as(layout, 3, random);
     if random.one_in(6) {
         damage(layout, random, &mut book);

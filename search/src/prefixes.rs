@@ -1,7 +1,7 @@
 //! What is said of a chain: its outcome, and place, moves and open by the outcomes of all its prefixes.
 
 use crate::clip;
-use crate::exact::{outcome, Line, Outcome};
+use crate::exact::{outcome, Line, Outcome, Terms};
 
 /// How the prefixes are planned: each anew by the exhaustive search, or all in one pass by cutting lines, which serves long chains.
 #[derive(Clone, Copy, PartialEq)]
@@ -19,11 +19,11 @@ pub struct Chain {
     pub open: usize,
 }
 
-pub fn search(p: i128, q: i128, rules: &[Line], way: Way) -> Chain {
+pub fn search(terms: &Terms, rules: &[Line], way: Way) -> Chain {
     let n = rules.len();
     let each = match way {
-        Way::Anew => (0..=n).map(|k| outcome(p, q, &rules[..k])).collect(),
-        Way::OnePass => clip::each(p, q, rules),
+        Way::Anew => (0..=n).map(|k| outcome(terms, &rules[..k])).collect(),
+        Way::OnePass => clip::each(terms, rules),
     };
     let moves = (0..n).filter(|&i| matches!(&each[i], Outcome::Best(v) if !rules[i].kept_by(v))).count();
     let open = each.iter().filter(|o| matches!(o, Outcome::Unlimited { .. })).count();

@@ -1,6 +1,6 @@
 //! Reading rule books by the text of the format: which book is turned back and why, and what an accepted one says.
 
-use crate::exact::Line;
+use crate::exact::{floors, Line, Terms};
 use crate::layout::{signed, unsigned, Layout, Record, ONE};
 
 /// A rule as planned (kind 2 turned round), with the record that holds it.
@@ -11,11 +11,10 @@ pub struct Entry {
     pub label: usize,
 }
 
-/// An accepted book: the objective and the rules in chain order.
+/// An accepted book: the objective and the floors, and the rules in chain order.
 #[derive(Debug)]
 pub struct Accepted {
-    pub p: i128,
-    pub q: i128,
+    pub terms: Terms,
     pub rules: Vec<Entry>,
 }
 
@@ -34,8 +33,16 @@ pub fn read(book: &[u8]) -> Result<Accepted, Refused> {
 pub fn read_as(layout: &Layout, book: &[u8]) -> Result<Accepted, Refused> {
     check_header(layout, book).map_err(|number| Refused { number, record: 0 })?;
     let rules = follow(layout, book)?;
-    let [p, q] = layout.record(book, 0).pair.map(signed);
-    Ok(Accepted { p, q, rules })
+    Ok(Accepted { terms: terms(layout, book), rules })
+}
+
+/// What a header with nothing against it says. Where the version has no floors in it, they are zero.
+fn terms(layout: &Layout, book: &[u8]) -> Terms {
+    let header = layout.record(book, 0);
+    let [p, q] = header.pair.map(signed);
+    let (x, y) = header.last.split_at(2);
+    let floors = if layout.floors { floors(signed(x), signed(y)) } else { floors(0, 0) };
+    Terms { p, q, floors }
 }
 
 fn check_header(layout: &Layout, book: &[u8]) -> Result<(), u32> {
@@ -53,7 +60,7 @@ fn check_header(layout: &Layout, book: &[u8]) -> Result<(), u32> {
     if header.pair.map(signed).contains(&-32768) {
         return Err(4);
     }
-    if !all_zero(header.last) {
+    if !layout.floors && !all_zero(header.last) {
         return Err(5);
     }
     Ok(())

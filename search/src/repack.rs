@@ -4,6 +4,7 @@
 
 use crate::book::{to_hex, MOST_RULES};
 use crate::damage::damage;
+use crate::exact::Terms;
 use crate::families::source;
 use crate::layout::{signed, Layout, Record, ONE, TWO};
 use crate::planner::Planner;
@@ -65,7 +66,8 @@ impl fmt::Display for Tally {
     }
 }
 
-/// What repacking a book fills of an output of so many bytes, or why it fills nothing.
+/// What repacking a book fills of an output of so many bytes, or why it fills nothing. The header's last bytes are carried over: they are
+/// the floors, or the zeros that a version without floors must have there.
 pub fn repack(layout: &Layout, book: &[u8], room: usize) -> Result<Vec<u8>, Refused> {
     let rules = read_as(layout, book)?.rules;
     let n = rules.len();
@@ -73,7 +75,7 @@ pub fn repack(layout: &Layout, book: &[u8], room: usize) -> Result<Vec<u8>, Refu
         return Err(Refused { number: 11, record: 0 });
     }
     let header = layout.record(book, 0);
-    let mut out = packed(usize::from(n > 0), WRITTEN.version, header.pair, &(n as u16).to_le_bytes(), &[0; 4]);
+    let mut out = packed(usize::from(n > 0), WRITTEN.version, header.pair, &(n as u16).to_le_bytes(), header.last);
     for (place, rule) in (1..).zip(&rules) {
         let Record { kind, pair, word, last, .. } = layout.record(book, rule.record);
         out.extend(packed(if place < n { place + 1 } else { 0 }, kind, pair, word, last));
@@ -99,7 +101,7 @@ fn shown_rule(layout: &Layout, book: &[u8], rule: &Entry) -> String {
 fn shown_reading(layout: &Layout, book: &[u8]) -> String {
     match read_as(layout, book) {
         Err(Refused { number, record }) => format!("refused {number} {record}"),
-        Ok(Accepted { p, q, rules }) => {
+        Ok(Accepted { terms: Terms { p, q, .. }, rules }) => {
             let chain: String = rules.iter().map(|r| shown_rule(layout, book, r)).collect();
             format!("accepted {p} {q} {}{chain}", rules.len())
         }
@@ -152,7 +154,7 @@ fn try_batch(path: &str, cases: &[Case], random: &mut Random, tally: &mut Tally)
 fn random_case(layout: Layout, limits: Limits, random: &mut Random) -> Case {
     let most = if random.one_in(16) { limits.rules } else { 12 };
     let n = random.below(most + 1);
-    let (name, source) = source(random, n);
+    let (name, source) = source(&layout, random, n);
     let need = WRITTEN.width() * (n + 1);
     let spare = random.pick(&[0, 3, 9, limits.rules]).min(limits.rules - n);
     let mut book = if random.one_in(4) { source.packed_as(&layout) } else { source.scattered_as(&layout, spare, random) };
@@ -254,7 +256,7 @@ mod tests {
     fn a_scattered_book_repacks_to_the_packed_one() {
         let mut random = Random::new(2);
         for (n, layout) in (0..=MOST_RULES).step_by(5).zip([ONE, TWO].into_iter().cycle()) {
-            let (_, source) = source(&mut random, n);
+            let (_, source) = source(&layout, &mut random, n);
             let (packed, scattered) = (source.packed_as(&WRITTEN), source.scattered_as(&layout, 20, &mut random));
             if read_as(&layout, &scattered).is_ok() {
                 assert_eq!(repack(&layout, &scattered, packed.len() - 1), Err(Refused { number: 11, record: 0 }));

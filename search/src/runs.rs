@@ -56,7 +56,7 @@ pub fn try_line_as(layout: &Layout, name: &str, book: &[u8], way: Way, line: Res
 }
 
 /// The stored books of a version; the search itself must find the stored lines. Those of version 1 are tried in version 2 too, where some
-/// are turned back for other causes.
+/// are turned back for other causes, and those with 5 have floors instead.
 pub fn stored_lines(planner: &Planner, tally: &mut Tally) -> Result<u64, String> {
     let two = planner.layout == TWO;
     let (books, way) = if two { (stored_two::books(), Way::OnePass) } else { (stored::books(), Way::Anew) };
@@ -102,7 +102,7 @@ pub fn random_books(planner: &Planner, tally: &mut Tally, seed: u64, books: u64,
 }
 
 fn random_book(layout: &Layout, random: &mut Random, n: usize) -> (&'static str, Vec<u8>) {
-    let (name, source) = source(random, n);
+    let (name, source) = source(layout, random, n);
     let spare = random.pick(&[3, 3, 3, layout.most_rules()]);
     let mut book = if random.one_in(4) { source.packed_as(layout) } else { source.scattered_as(layout, spare, random) };
     if random.one_in(6) {
@@ -116,7 +116,7 @@ pub fn busy_books(planner: &Planner, tally: &mut Tally, seed: u64, books: u64, l
     let mut random = Random::new(seed);
     for _ in 0..books {
         let n = least + random.below(planner.layout.records - least);
-        let (name, source) = busy_source(&mut random, n);
+        let (name, source) = busy_source(&planner.layout, &mut random, n);
         let book = source.scattered_as(&planner.layout, 3, &mut random);
         tally.count(&try_book(planner, name, &book, Way::OnePass)?);
     }
@@ -139,7 +139,7 @@ pub fn damaged_books(planner: &Planner, tally: &mut Tally, seed: u64, books: u64
 
 fn damaged_book(layout: &Layout, random: &mut Random) -> (&'static str, Vec<u8>) {
     let n = random.below(layout.most_rules() + 1);
-    let (name, source) = source(random, n);
+    let (name, source) = source(layout, random, n);
     let mut book = source.scattered_as(layout, 3, random);
     for _ in 0..random.between(1, 2) {
         damage(layout, random, &mut book);
@@ -152,7 +152,7 @@ pub fn orders(planner: &Planner, seed: u64, books: u64) -> Result<u64, String> {
     let mut random = Random::new(seed);
     for i in 0..books {
         let n = random.below(if i % 10 == 0 { planner.layout.records } else { 13 });
-        let (name, source) = source(&mut random, n);
+        let (name, source) = source(&planner.layout, &mut random, n);
         ten_orders(planner, name, &source, &mut random)?;
     }
     Ok(books)
@@ -192,34 +192,36 @@ fn order_free(planner: &Planner, book: &[u8]) -> Result<Vec<String>, String> {
     Ok(text.split(' ').take(kept).map(String::from).collect())
 }
 
-/// Books of version 1, and what the planner of version 2 says of their repacked form: the same, but for the witness. The repacked form is
-/// its own, and rules in another order and version have the same outcome, pair and direction.
+/// Books of either version in turn, those of version 2 with floors, and what the planner of version 2 says of their repacked form: the
+/// same, but for the witness. The repacked form is its own, and rules in another order in version 2 have the same outcome, pair and
+/// direction.
 pub fn both_versions(seed: u64, books: u64) -> Result<u64, String> {
     let mut random = Random::new(seed);
     for i in 0..books {
-        let n = random.below(if i % 10 == 0 { MOST_RULES + 1 } else { 13 });
-        let (name, source) = source(&mut random, n);
-        let book = source.scattered_as(&planner::ONE.layout, 9, &mut random);
-        if read_as(&planner::ONE.layout, &book).is_ok() {
+        let planner = if i % 2 == 0 { &planner::ONE } else { &planner::TWO };
+        let n = random.below(if i % 20 < 2 { MOST_RULES + 1 } else { 13 });
+        let (name, source) = source(&planner.layout, &mut random, n);
+        let book = source.scattered_as(&planner.layout, 9, &mut random);
+        if read_as(&planner.layout, &book).is_ok() {
             let other = reordered(&TWO, &source, &mut random);
-            said_alike(&book, &other).map_err(|why| format!("mismatch: {name}: {why}\nbook    {}", to_hex(&book)))?;
+            said_alike(planner, &book, &other).map_err(|why| format!("mismatch: {name}: {why}\nbook    {}", to_hex(&book)))?;
         }
     }
     Ok(books)
 }
 
-/// Compares what is said of an accepted book of version 1, of its repacked form, and of the same rules in another order in version 2.
-fn said_alike(book: &[u8], other: &[u8]) -> Result<(), String> {
-    let (one, two) = (&planner::ONE, &planner::TWO);
-    let packed = one.repack(book, TWO.width() * TWO.records)?.map_err(|r| format!("not repacked: {r:?}"))?;
-    let lines = (one.line(book)?, two.line(&packed)?);
+/// Compares what is said of an accepted book, of its repacked form, and of the same rules and floors in another order in version 2.
+fn said_alike(planner: &Planner, book: &[u8], other: &[u8]) -> Result<(), String> {
+    let two = &planner::TWO;
+    let packed = planner.repack(book, TWO.width() * TWO.records)?.map_err(|r| format!("not repacked: {r:?}"))?;
+    let lines = (planner.line(book)?, two.line(&packed)?);
     if without_witness(&lines.0) != without_witness(&lines.1) {
         return Err(format!("the repacked form {} has another line", to_hex(&packed)));
     }
     if two.repack(&packed, packed.len())? != Ok(packed) {
         return Err("the repacked form is not its own".into());
     }
-    if order_free(one, book)? != order_free(two, other)? {
+    if order_free(planner, book)? != order_free(two, other)? {
         return Err(format!("another order in version 2: {}", to_hex(other)));
     }
     Ok(())

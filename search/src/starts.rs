@@ -4,7 +4,7 @@
 use crate::book::{to_hex, MOST_RULES};
 use crate::clip;
 use crate::damage::damage;
-use crate::exact::{start, Line, Outcome, Pair};
+use crate::exact::{start, Line, Outcome, Pair, Terms};
 use crate::families::source;
 use crate::layout::Layout;
 use crate::planner::{Planner, Seen};
@@ -16,20 +16,20 @@ use crate::read::read_as;
 const ANEW: usize = 40;
 
 /// The start pairs after 0, 1, .. n rules. Where nothing is earned, the best pair is the start pair.
-fn start_pairs(rules: &[Line]) -> Vec<Option<Pair>> {
+fn start_pairs(floors: [Line; 2], rules: &[Line]) -> Vec<Option<Pair>> {
     if rules.len() <= ANEW {
-        return (0..=rules.len()).map(|k| start(&rules[..k])).collect();
+        return (0..=rules.len()).map(|k| start(&floors, &rules[..k])).collect();
     }
     let pair = |outcome| match outcome {
         Outcome::Best(v) => Some(v),
         _ => None,
     };
-    clip::each(0, 0, rules).into_iter().map(pair).collect()
+    clip::each(&Terms { p: 0, q: 0, floors }, rules).into_iter().map(pair).collect()
 }
 
 /// The start pair and the count after 0, 1, .. n rules.
-fn expected(rules: &[Line]) -> Vec<(Option<Pair>, usize)> {
-    let pairs = start_pairs(rules);
+fn expected(floors: [Line; 2], rules: &[Line]) -> Vec<(Option<Pair>, usize)> {
+    let pairs = start_pairs(floors, rules);
     let lost = |i: usize| i > 0 && pairs[i - 1].is_some_and(|v| !rules[i - 1].kept_by(&v));
     let counts = (0..pairs.len()).scan(0, |count, i| {
         *count += usize::from(lost(i));
@@ -44,7 +44,7 @@ fn views(layout: &Layout, book: &[u8]) -> Vec<Seen> {
         Err(refused) => vec![Seen::Refused(refused)],
         Ok(a) => {
             let rules: Vec<Line> = a.rules.iter().map(|r| r.line).collect();
-            expected(&rules).into_iter().map(|(start, count)| Seen::After { start, count }).collect()
+            expected(a.terms.floors, &rules).into_iter().map(|(start, count)| Seen::After { start, count }).collect()
         }
     }
 }
@@ -95,7 +95,7 @@ fn random_book(layout: &Layout, random: &mut Random, i: u64) -> (&'static str, V
         _ => 12,
     };
     let n = random.below(most + 1);
-    let (name, source) = source(random, n);
+    let (name, source) = source(layout, random, n);
     let mut book = source.scattered_as(layout, 3, random);
     if random.one_in(8) {
         damage(layout, random, &mut book);
@@ -106,10 +106,14 @@ fn random_book(layout: &Layout, random: &mut Random, i: u64) -> (&'static str, V
 #[cfg(test)]
 mod tests {
     use super::*;
+    use crate::exact::floors;
+
+    fn lines(rules: &[(i128, i128, i128)]) -> Vec<Line> {
+        rules.iter().map(|&(a, b, c)| Line { a, b, c }).collect()
+    }
 
     fn counts(rules: &[(i128, i128, i128)]) -> Vec<usize> {
-        let lines: Vec<Line> = rules.iter().map(|&(a, b, c)| Line { a, b, c }).collect();
-        expected(&lines).iter().map(|s| s.1).collect()
+        expected(floors(0, 0), &lines(rules)).iter().map(|s| s.1).collect()
     }
 
     #[test]
@@ -127,5 +131,12 @@ mod tests {
     fn an_impossible_prefix_ends_it() {
         assert_eq!(counts(&[(1, 1, 3), (-1, -1, -4), (-1, 0, -1), (0, -1, -5)]), [0, 0, 1, 1, 1]);
         assert_eq!(counts(&[(0, 0, -1), (0, 0, -1)]), [0, 1, 1]);
+    }
+
+    #[test]
+    fn the_floors_are_where_it_begins() {
+        let seen = expected(floors(-3, 2), &lines(&[(-1, 0, 3), (-1, 0, 2), (1, 0, -3)]));
+        let pair = |x, y| Some(Pair { x, y, d: 1 });
+        assert_eq!(seen, [(pair(-3, 2), 0), (pair(-3, 2), 0), (pair(-2, 2), 1), (None, 2)]);
     }
 }

@@ -170,10 +170,10 @@ pub fn books() -> Vec<Stored> {
     plain.chain(bytes).chain(long::books()).collect()
 }
 
-/// The rules in chain order, labelled from 101 on.
+/// The rules in chain order, labelled from 101 on, with floors of zero.
 pub fn source(p: i16, q: i16, rules: &[(u8, i16, i16, i32)]) -> Source {
     let rule = |(i, &(kind, a, b, c)): (usize, &(u8, i16, i16, i32))| Rule { kind, a, b, c, label: 101 + i as u16 };
-    Source { p, q, rules: rules.iter().enumerate().map(rule).collect() }
+    Source { p, q, lx: 0, ly: 0, rules: rules.iter().enumerate().map(rule).collect() }
 }
 
 #[cfg(test)]

@@ -1,5 +1,5 @@
-//! Stored books of version 2 with the line each must print, the witness as *: what version 1 does not have, and chains of 4,095 rules.
-//! Version 2 is as it was requested first, with zeros in the header's last four bytes.
+//! Stored books of version 2 with the line each must print, the witness as *: what version 1 does not have, floors among it, and chains of
+//! 4,095 rules.
 
 use crate::book::{from_hex, Rule, Source};
 use crate::layout::TWO;
@@ -19,8 +19,10 @@ const BYTES: &[(&str, &str, &str)] = &[
     ("two: header byte 3 before 3", "0000 02 80 0000 0000 0100 00000000", "refused 2 0"),
     ("two: count too large by 256", "0000 02 00 0000 0000 0001 00000000", "refused 3 0"),
     ("two: 3 before 4", "0000 02 00 0080 0000 0001 00000000", "refused 3 0"),
-    ("two: header byte 10", "0000 02 00 0000 0000 0000 01000000", "refused 5 0"),
-    ("two: header byte 13", "0000 02 00 0000 0000 0000 00000080", "refused 5 0"),
+    ("two: header byte 10", "0000 02 00 0000 0000 0000 01000000", "best 1 0 1 0 0"),
+    ("two: header byte 11", "0000 02 00 0000 0000 0000 00010000", "best 256 0 1 0 0"),
+    ("two: header byte 12", "0000 02 00 0000 0000 0000 0000ff00", "best 0 255 1 0 0"),
+    ("two: header byte 13", "0000 02 00 0000 0000 0000 00000080", "best 0 -32768 1 0 0"),
     (
         "two: a first link with its high byte alone",
         "0001 02 00 0000 0000 0100 00000000 0000 01 00 0000 0000 0700 00000000",
@@ -34,9 +36,55 @@ const BYTES: &[(&str, &str, &str)] = &[
     ("two: c after byte 3", "0100 02 00 0100 0000 0100 00000000 0000 01 00 0100 0000 0700 00ca9a3b", "best 1000000000 0 1 0 1"),
 ];
 
+/// Objective, floors, rules (kind, a, b, c) and line.
+type Row = (&'static str, (i16, i16), (i16, i16), &'static [(u8, i16, i16, i32)], &'static str);
+
+/// By Cramer's rule X and Y of a corner are at most 65,534·10⁹ below zero too; the floors' lowest numbers let books reach that.
+const FLOORS: &[Row] = &[
+    ("floors: positive", (0, 0), (3, 5), &[], "best 3 5 1 0 0"),
+    ("floors: negative", (-1, -1), (-3, -5), &[], "best -3 -5 1 0 0"),
+    ("floors: mixed", (1, 1), (-3, 5), &[(1, 1, 2, 8), (1, 3, 1, 9)], "best -2 5 1 0 1"),
+    ("floors: the lowest", (-1, -1), (-32768, -32768), &[], "best -32768 -32768 1 0 0"),
+    ("floors: the highest", (-1, -1), (32767, 32767), &[], "best 32767 32767 1 0 0"),
+    ("floors: the lowest and the highest", (1, 0), (-32768, 32767), &[], "unlimited -32768 32767 1 1 0 0 1"),
+    ("floors: the highest and the lowest", (0, 0), (32767, -32768), &[(2, 1, 1, 0)], "best 32767 -32767 1 1 0"),
+    ("floors: a pair below zero", (1, 1), (-10, -10), &[(1, 2, 3, -7), (1, 3, 2, -7)], "best -7 -7 5 1 1"),
+    ("floors: a rule that zero would not keep", (1, 0), (-4, 0), &[(1, 1, 0, -1)], "best -1 0 1 0 1"),
+    ("floors: lower than each rule", (-1, -1), (-3, -3), &[(2, 1, 0, -2), (2, 0, 1, -1)], "best -2 -1 1 2 0"),
+    ("floors: a tie", (2, 1), (-1, -1), &[(1, 2, 1, 4)], "best -1 6 1 0 1"),
+    ("floors: impossible by x and a rule", (0, 0), (-4, 0), &[(1, 1, 0, -5)], "impossible 1 1 0 *"),
+    ("floors: x keeps its own line alone", (0, 0), (-4, 0), &[(1, 1, 0, -4)], "best -4 0 1 0 0"),
+    ("floors: impossible by y and a rule", (0, 0), (-4, 32767), &[(1, 0, 32767, 1_000_000_000)], "impossible 1 1 0 *"),
+    ("floors: impossible by y and kind 2", (0, 1), (0, -32768), &[(2, 0, -1, 32769)], "impossible 1 0 1 *"),
+    ("floors: impossible by both", (0, 0), (-2, 3), &[(1, 1, 1, 0)], "impossible 1 1 0 *"),
+    ("floors: both keep their corner alone", (0, 0), (-2, 3), &[(1, 1, 1, 1)], "best -2 3 1 0 0"),
+    ("floors: impossible by both, weights 2 and 3", (1, 1), (-32768, 32767), &[(1, 2, 3, 32764)], "impossible 1 0 1 *"),
+    ("floors: unlimited from below zero", (1, 0), (-5, -6), &[(1, 1, -1, 2)], "unlimited -5 -6 1 1 1 0 2"),
+    ("floors: a start pair below zero moves", (1, 1), (-5, -6), &[(2, 2, 0, -3), (1, 3, -1, 1)], "unlimited -3 -11 2 1 3 0 3"),
+    ("floors: a direction with gain 0", (1, -1), (-5, -6), &[(1, 1, -1, -2)], "best -5 -3 1 0 1"),
+    (
+        "floors: the least X and the greatest D",
+        (1, 0),
+        (-32768, -32768),
+        &[(1, 32767, 32767, -1_000_000_000), (1, 32766, -32767, -1_000_000_000)],
+        "best -65534000000000 1000000000 2147319811 1 1",
+    ),
+    (
+        "floors: the least Y and the greatest D",
+        (0, 1),
+        (-32768, -32768),
+        &[(1, 32767, 32767, -1_000_000_000), (2, 32767, -32766, 1_000_000_000)],
+        "best 1000000000 -65534000000000 2147319811 1 1",
+    ),
+];
+
 pub fn books() -> Vec<Stored> {
     let bytes = BYTES.iter().map(|&(name, hex, line)| Stored { name, book: from_hex(hex).unwrap(), line });
-    bytes.chain(lengths()).chain(links()).chain(far_records()).chain(chains()).collect()
+    let with_floors = FLOORS.iter().map(|&(name, (p, q), (lx, ly), rules, line)| {
+        let book = Source { lx, ly, ..source(p, q, rules) }.packed_as(&TWO);
+        Stored { name, book, line }
+    });
+    bytes.chain(with_floors).chain(lengths()).chain(links()).chain(far_records()).chain(chains()).collect()
 }
 
 /// The longest book, and one record more.
@@ -101,7 +149,7 @@ fn chains() -> Vec<Stored> {
         |name, p, q, rules: &[(u8, i16, i16, i32)], line| Stored { name, book: source(p, q, rules).packed_as(&TWO), line };
     let ended = [&tangents(MOST - 1)[..], &[(1, 1, 0, 0)]].concat();
     let rule = |i: usize| Rule { kind: 2, a: 1, b: 1, c: 2, label: 65_535 - (i % 4_094) as u16 };
-    let twice = Source { p: 0, q: 0, rules: (0..MOST).map(rule).collect() };
+    let twice = Source { p: 0, q: 0, lx: 0, ly: 0, rules: (0..MOST).map(rule).collect() };
     vec![
         packed("two: 4,095 moves", -1, 0, &tangents(MOST), "best 8395836 2001 2 4095 0"),
         packed("two: 4,096 open prefixes, the start pair moves", 1, 0, &tangents(MOST), "unlimited 8395836 2001 2 1 0 0 4096"),

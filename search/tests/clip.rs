@@ -5,20 +5,20 @@ use search::clip;
 use search::exact::{outcome, Line};
 use search::families::{busy_source, source};
 use search::judge::{expected, expected_as};
-use search::layout::TWO;
+use search::layout::{ONE, TWO};
 use search::prefixes::{search, Way};
 use search::random::Random;
-use search::read::{read, read_as};
+use search::read::read_as;
 
-/// Random chains of at most so many rules, those with a label typed twice left out.
+/// Random chains of at most so many rules, with floors, those with a label typed twice left out.
 fn agree(seed: u64, books: usize, most: usize) {
     let mut random = Random::new(seed);
     for _ in 0..books {
         let n = most - random.below(most / 2 + 1);
-        let (name, source) = source(&mut random, n);
-        let Ok(book) = read(&source.packed()) else { continue };
+        let (name, source) = source(&TWO, &mut random, n);
+        let Ok(book) = read_as(&TWO, &source.packed_as(&TWO)) else { continue };
         let rules: Vec<Line> = book.rules.iter().map(|r| r.line).collect();
-        let said = |way| search(book.p, book.q, &rules, way);
+        let said = |way| search(&book.terms, &rules, way);
         assert_eq!(said(Way::Anew), said(Way::OnePass), "{name}: {source:?}");
     }
 }
@@ -39,10 +39,10 @@ fn on_long_chains() {
 fn prefixes_agree(name: &str, source: &Source) {
     let book = read_as(&TWO, &source.packed_as(&TWO)).unwrap();
     let rules: Vec<Line> = book.rules.iter().map(|r| r.line).collect();
-    let each = clip::each(book.p, book.q, &rules);
-    assert_eq!(outcome(book.p, book.q, &rules[..200]), each[200], "{name}");
+    let each = clip::each(&book.terms, &rules);
+    assert_eq!(outcome(&book.terms, &rules[..200]), each[200], "{name}");
     for k in [0, 1, 2, 256, 1_000, 4_094, 4_095] {
-        assert_eq!(clip::whole(book.p, book.q, &rules[..k]), each[k], "{name}, {k} rules");
+        assert_eq!(clip::whole(&book.terms, &rules[..k]), each[k], "{name}, {k} rules");
     }
 }
 
@@ -50,7 +50,7 @@ fn prefixes_agree(name: &str, source: &Source) {
 fn on_the_longest_chains() {
     let mut random = Random::new(5);
     for make in [source, busy_source, busy_source, busy_source] {
-        let (name, source) = make(&mut random, TWO.most_rules());
+        let (name, source) = make(&TWO, &mut random, TWO.most_rules());
         prefixes_agree(name, &source);
     }
 }
@@ -60,7 +60,7 @@ fn on_the_longest_chains() {
 fn in_both_versions() {
     let mut random = Random::new(6);
     for n in (0..=255).step_by(3) {
-        let (name, source) = source(&mut random, n);
+        let (name, source) = source(&ONE, &mut random, n);
         let (one, two) = (expected(&source.packed(), Way::OnePass), expected_as(&TWO, &source.packed_as(&TWO), Way::OnePass));
         assert_eq!(one.shown(), two.shown(), "{name}");
     }

@@ -1,18 +1,22 @@
 //! The judge and the codec themselves: right lines pass, lines with one thing wrong do not.
 
 use search::book::{from_hex, Rule, Source};
-use search::judge::expected;
+use search::judge::{expected, expected_as, Expected};
+use search::layout::TWO;
 use search::prefixes::Way;
 use search::random::Random;
 use search::read::read;
 
 fn source(p: i16, q: i16, rules: &[(u8, i16, i16, i32)]) -> Source {
     let rules = rules.iter().zip(7..).map(|(&(kind, a, b, c), label)| Rule { kind, a, b, c, label }).collect();
-    Source { p, q, rules }
+    Source { p, q, lx: 0, ly: 0, rules }
 }
 
 fn verdicts(source: &Source, right: &str, wrong: &[&str]) {
-    let expected = expected(&source.packed(), Way::Anew);
+    judged(&expected(&source.packed(), Way::Anew), right, wrong);
+}
+
+fn judged(expected: &Expected, right: &str, wrong: &[&str]) {
     assert_eq!(expected.judge(right.as_bytes()), Ok(()));
     for line in wrong {
         assert!(expected.judge(line.as_bytes()).is_err(), "{line:?} passed");
@@ -92,12 +96,25 @@ fn floors_come_first() {
 }
 
 #[test]
+fn floors_have_their_numbers() {
+    let with_floors = |rules: &[(u8, i16, i16, i32)]| {
+        let source = Source { lx: -7, ly: 3, ..source(-1, -1, rules) };
+        expected_as(&TWO, &source.packed_as(&TWO), Way::Anew)
+    };
+    let wrong = ["best 7 3 1 0 0\n", "best 0 0 1 0 0\n", "best -7 3 -1 0 0\n", "best --7 3 1 0 0\n", "best -7 -3 1 0 0\n"];
+    judged(&with_floors(&[]), "best -7 3 1 0 0\n", &wrong);
+    let wrong = ["impossible 1 1 0 2 X 1 1 1\n", "impossible 1 1 0 1 1 1\n", "impossible 1 1 0 2 Y 2 1 1\n"];
+    judged(&with_floors(&[(1, 0, 1, 2)]), "impossible 1 1 0 2 Y 1 1 1\n", &wrong);
+    judged(&with_floors(&[(1, 0, 1, 2)]), "impossible 1 1 0 2 Y 2147352578 1 2147352578\n", &[]);
+}
+
+#[test]
 fn a_scattered_book_reads_as_the_packed_one() {
     let source = source(3, -4, &[(1, 1, 2, 8), (2, -32767, 1, -1_000_000_000), (1, 0, 0, 0)]);
     let mut random = Random::new(5);
     for _ in 0..200 {
         let (one, two) = (read(&source.packed()).unwrap(), read(&source.scattered(9, &mut random)).unwrap());
-        assert_eq!((one.p, one.q), (two.p, two.q));
+        assert_eq!(one.terms, two.terms);
         assert!(one.rules.iter().map(|r| r.line).eq(two.rules.iter().map(|r| r.line)));
     }
 }

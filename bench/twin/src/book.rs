@@ -9,17 +9,27 @@ pub type Refused = (u8, u16);
 pub struct Chain<'a> {
     pub p: i64,
     pub q: i64,
+    /// The floors' corner, where the walk begins.
+    pub lx: i64,
+    pub ly: i64,
     pub count: usize,
     pub entries: &'a mut [Constraint],
     pub records: &'a mut [u16],
 }
 
 impl<'a> Chain<'a> {
-    /// No rules: the floors alone, in runs that were cleared.
+    /// Puts the floors where a header has them.
+    fn set_floors(&mut self, lx: i64, ly: i64) {
+        (self.lx, self.ly) = (lx, ly);
+        self.entries[0].c = -lx;
+        self.entries[1].c = -ly;
+    }
+
+    /// No rules: the floors alone, at zero, in runs that were cleared.
     pub fn empty(entries: &'a mut [Constraint], records: &'a mut [u16]) -> Self {
         entries[0].a = -1;
         entries[1].b = -1;
-        Chain { p: 0, q: 0, count: 2, entries, records }
+        Chain { p: 0, q: 0, lx: 0, ly: 0, count: 2, entries, records }
     }
 }
 
@@ -43,6 +53,9 @@ pub fn read<V: Version>(book: &[u8], chain: &mut Chain) -> Result<(), Refused> {
     check_header::<V>(book).map_err(|number| (number, 0))?;
     chain.p = short(book, V::PAIR);
     chain.q = short(book, V::PAIR + 2);
+    if V::FLOORS {
+        chain.set_floors(short(book, V::PAIR + 6), short(book, V::PAIR + 8));
+    }
     let mut seen = V::UNMARKED;
     let mut labels = [0u64; 1024];
     let mut at = 0;
@@ -85,7 +98,7 @@ fn check_header<V: Version>(book: &[u8]) -> Result<(), u8> {
         Err(3)
     } else if short(book, pair) == -32768 || short(book, pair + 2) == -32768 {
         Err(4)
-    } else if book[pair + 6..pair + 10] != [0; 4] {
+    } else if !V::FLOORS && book[pair + 6..pair + 10] != [0; 4] {
         Err(5)
     } else {
         Ok(())

@@ -1,7 +1,7 @@
 //! Writes the printed line.
 
 use crate::book::Chain;
-use crate::plane::gcd;
+use crate::plane::{gcd, Point};
 use crate::walk::{Answer, Outcome, Witness};
 
 struct Line<'a> {
@@ -18,10 +18,8 @@ pub fn refused(number: u8, record: u16, out: &mut [u8]) -> usize {
 pub fn answer(answer: &Answer, chain: &Chain, out: &mut [u8]) -> usize {
     let mut line = Line { out, length: 0 };
     match &answer.outcome {
-        Outcome::Best(v) => line.text(b"best").number(v.x).number(v.y).number(v.d),
-        Outcome::Unlimited { start: v, ray } => {
-            line.text(b"unlimited").number(v.x).number(v.y).number(v.d).number(ray.dx).number(ray.dy)
-        }
+        Outcome::Best(v) => line.text(b"best").pair(*v),
+        Outcome::Unlimited { start, ray } => line.text(b"unlimited").pair(*start).number(ray.dx).number(ray.dy),
         Outcome::Impossible { place, .. } => line.text(b"impossible").number(*place as i64),
     };
     line.number(answer.moves as i64).number(answer.open as i64);
@@ -53,17 +51,22 @@ impl Line<'_> {
         self
     }
 
-    /// A space and a number that is not negative.
+    /// x and y, which floors below zero let be negative, and d.
+    fn pair(&mut self, v: Point) -> &mut Self {
+        self.number(v.x).number(v.y).number(v.d)
+    }
+
+    /// A space and a number.
     fn number(&mut self, n: i64) -> &mut Self {
         let mut digits = [b'0'; 20];
         let mut at = 20;
-        let mut rest = n as u64;
+        let mut rest = n.unsigned_abs();
         while rest > 0 || at == 20 {
             at -= 1;
             digits[at] = b'0' + (rest % 10) as u8;
             rest /= 10;
         }
-        self.text(b" ").text(&digits[at..])
+        self.text(if n < 0 { b" -" } else { b" " }).text(&digits[at..])
     }
 
     /// A number that is not negative, two digits at a time as the planner writes them: a panel is mostly numbers.

@@ -1,12 +1,15 @@
 //! How a version of the format writes a record. The compiler knows all of it, so that a reader of either version has constant offsets.
 
-/// After the kind, with its zeros, come four bytes of p and q or a and b, two of the count or the label, and four of c or zeros.
+/// After the kind, with its zeros, come four bytes of p and q or a and b, two of the count or the label, and four of c, of the floors or of
+/// zeros.
 pub trait Version {
     const NUMBER: u16;
     const WIDTH: usize;
     const RECORDS: usize;
     /// Where p and q, or a and b, begin in a record.
     const PAIR: usize;
+    /// Whether a header ends with the floors, or with zeros.
+    const FLOORS: bool;
     /// Which records the chain has come to.
     type Marks;
     const UNMARKED: Self::Marks;
@@ -26,6 +29,7 @@ impl Version for One {
     const WIDTH: usize = 12;
     const RECORDS: usize = 256;
     const PAIR: usize = 2;
+    const FLOORS: bool = false;
     type Marks = [bool; 256];
     const UNMARKED: Self::Marks = [false; 256];
 
@@ -47,6 +51,7 @@ impl Version for Two {
     const WIDTH: usize = 14;
     const RECORDS: usize = 4_096;
     const PAIR: usize = 4;
+    const FLOORS: bool = true;
     type Marks = [u64; 64];
     const UNMARKED: Self::Marks = [0; 64];
 

@@ -31,11 +31,11 @@ struct Cone {
 
 pub fn walk<const TUNED: bool>(chain: &Chain) -> Answer {
     let (p, q) = (chain.p, chain.q);
-    let origin = Point { x: 0, y: 0, d: 1 };
-    let mut start = origin;
+    let corner = Point { x: chain.lx, y: chain.ly, d: 1 };
+    let mut start = corner;
     let mut cone = Cone { lo: Ray { dx: 1, dy: 0 }, hi: Ray { dx: 0, dy: 1 }, empty: false };
     let mut ray = cone.gaining(p, q);
-    let mut best = origin;
+    let mut best = corner;
     let (mut moves, mut open) = (0, usize::from(ray.is_some()));
     for m in 2..chain.count {
         let h = chain.entries[m];

@@ -418,18 +418,18 @@ module _ (L : Layout) (s : List ℕ) where
   accepted-no-cause e a = let p = applies-refused a in let z : _≡_ {A = ℕ} 0 1 = cc in omega arith
 
 -- none of the table's numbers is 0, and 11 is the repacker's alone
-pub cause-number : {L : Layout} {s : List ℕ} {k i : ℕ} → Applies L s k i → (1 ≤ k) × (k ≡ 11 → ⊥)
-cause-number (cause-1 a) = (lit≤ tt, λ e. omega arith)
-cause-number (cause-2 a b) = (lit≤ tt, λ e. omega arith)
-cause-number (cause-3 a b c) = (lit≤ tt, λ e. omega arith)
-cause-number (cause-4 a b c d) = (lit≤ tt, λ e. omega arith)
-cause-number (cause-5 a b c d f) = (lit≤ tt, λ e. omega arith)
-cause-number (cause-6 w h) = (lit≤ tt, λ e. omega arith)
-cause-number (cause-7 w z h m) = (lit≤ tt, λ e. omega arith)
-cause-number (cause-8 r a) = (lit≤ tt, λ e. omega arith)
-cause-number (cause-9 r a b) = (lit≤ tt, λ e. omega arith)
-cause-number (cause-10 r a b c) = (lit≤ tt, λ e. omega arith)
-cause-number (cause-12 r a b c q) = (lit≤ tt, λ e. omega arith)
+pub cause-number : {L : Layout} {s : List ℕ} {k i : ℕ} → Applies L s k i → (1 ≤ k) × (k ≡ 11 → ⊥) × (k ≡ 5 → WrongTail L s)
+cause-number (cause-1 a) = (lit≤ tt, λ e. omega arith, λ e. absurd (let z : ⊥ = omega arith in z))
+cause-number (cause-2 a b) = (lit≤ tt, λ e. omega arith, λ e. absurd (let z : ⊥ = omega arith in z))
+cause-number (cause-3 a b c) = (lit≤ tt, λ e. omega arith, λ e. absurd (let z : ⊥ = omega arith in z))
+cause-number (cause-4 a b c d) = (lit≤ tt, λ e. omega arith, λ e. absurd (let z : ⊥ = omega arith in z))
+cause-number (cause-5 a b c d f) = (lit≤ tt, λ e. omega arith, λ e. f)
+cause-number (cause-6 w h) = (lit≤ tt, λ e. omega arith, λ e. absurd (let z : ⊥ = omega arith in z))
+cause-number (cause-7 w z h m) = (lit≤ tt, λ e. omega arith, λ e. absurd (let z : ⊥ = omega arith in z))
+cause-number (cause-8 r a) = (lit≤ tt, λ e. omega arith, λ e. absurd (let z : ⊥ = omega arith in z))
+cause-number (cause-9 r a b) = (lit≤ tt, λ e. omega arith, λ e. absurd (let z : ⊥ = omega arith in z))
+cause-number (cause-10 r a b c) = (lit≤ tt, λ e. omega arith, λ e. absurd (let z : ⊥ = omega arith in z))
+cause-number (cause-12 r a b c q) = (lit≤ tt, λ e. omega arith, λ e. absurd (let z : ⊥ = omega arith in z))
 
 -- a book to which no cause applies is accepted
 pub none-applies-accepted : (L : Layout) (s : List ℕ) →

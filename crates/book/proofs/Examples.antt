@@ -2,7 +2,7 @@
 use mathlib.Core.Path.{_≡_, refl}
 use Prim.Native.Nat.{ℕ}
 use mathlib.Core.List.{List, [], _∷_, _++_}
-use lib.IntN.{pos}
+use lib.IntN.{pos, negsuc}
 use Rattle.lp.specs.declared.Terms.{Terms}
 use Rattle.records.specs.Layout.{v1, v2}
 use Rattle.records.specs.Number.{number, bytesOf}
@@ -84,3 +84,9 @@ padded-header = refl
 pub padded-rule : readOf v2 (wholeCaseTwo (0 ∷ []) (1 ∷ [])) ≡ refused 8 1
 unfolding wholeCaseTwo number recordAt decodedWith decodedOf headerFault memb follow walk endOf
 padded-rule = refl
+
+-- its floors: −5, and 3 in the last two bytes, of a book without rules
+pub floored-case : readOf v2 (0 ∷ 0 ∷ 2 ∷ 0 ∷ 1 ∷ 0 ∷ 1 ∷ 0 ∷ 0 ∷ 0 ∷ 251 ∷ 255 ∷ 3 ∷ 0 ∷ []) ≡ accepted
+    (record { objective = record { p = pos 1; q = pos 1 }; floors = record { lx = negsuc 4; ly = pos 3 } }) []
+unfolding number recordAt decodedWith decodedOf headerFault memb follow walk endOf
+floored-case = refl

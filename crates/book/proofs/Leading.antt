@@ -17,7 +17,7 @@ use Rattle.book.specs.Reading.{labelAt, memb, refused, endOf}
 use Rattle.book.specs.Causes.{Walked}
 use Rattle.book.specs.Tables.{isNoted}
 use Rattle.book.specs.Judging.{judged}
-use Rattle.book.proofs.Small.{label-small}
+use Rattle.records.proofs.Small.{label-small}
 use Rattle.book.proofs.TableLaws.{Noted}
 use Rattle.book.proofs.Links.{walk-over, walk-again, walk-fault, walk-repeat}
 use Rattle.book.proofs.Causes.{walked-count, walked-next}

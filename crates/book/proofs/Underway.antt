@@ -24,7 +24,7 @@ use Rattle.book.specs.Causes.{Walked, visit}
 use Rattle.book.specs.Tables.{noting}
 use Rattle.book.specs.Judging.{Headed}
 use Rattle.book.proofs.Members.{map-snoc}
-use Rattle.book.proofs.Small.{label-small}
+use Rattle.records.proofs.Small.{label-small}
 use Rattle.book.proofs.TableLaws.{Noted, noted-start, noted-step}
 use Rattle.book.proofs.Links.{walk-ends}
 use Rattle.book.proofs.Causes.{header-good, rule-good, ends-faulty, walked-count, walked-length, walked-next}

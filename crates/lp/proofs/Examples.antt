@@ -1,5 +1,5 @@
--- The class examples marked * in document 01 hold of the definitions, and so do its pitfalls and the slacks: one computation over each
--- table, and every row follows.
+-- The class examples marked * in document 01 hold of the definitions, and so do its pitfalls, the examples with floors and the slacks: one
+-- computation over each table, and every row follows.
 use mathlib.Core.Path.{_≡_, refl}
 use mathlib.Core.List.{List, [], _∷_, map, List·Memᴰ, List·Memᴰ·cases-cons, List·Memᴰ·not-nil}
 use mathlib.Core.Bool.{Bool, true, false}
@@ -10,7 +10,7 @@ use Rattle.ints.specs.Gcd.{gcd}
 use Rattle.lp.specs.Outcome.{every}
 use Rattle.lp.specs.Document.{Example, holds}
 use Rattle.lp.specs.Slack.{slackOf}
-use Rattle.lp.specs.Examples.{classExamples, pitfalls, Slack, slacks}
+use Rattle.lp.specs.Examples.{classExamples, pitfalls, floorExamples, Slack, slacks}
 use Rattle.lp.specs.Starts.{chains, starts}
 
 pub class-examples-hold : T (every holds classExamples)
@@ -20,6 +20,10 @@ class-examples-hold = tt
 pub pitfalls-hold : T (every holds pitfalls)
 unfolding gcd
 pitfalls-hold = tt
+
+pub floor-examples-hold : T (every holds floorExamples)
+unfolding gcd
+floor-examples-hold = tt
 
 pub slacks-hold : map (λ (e : Slack). slackOf (e .rule) (e .at)) slacks ≡ map (λ (e : Slack). e .left) slacks
 unfolding gcd

@@ -42,9 +42,11 @@ count r (s ∷ l) = one-if (same (r .a) (s .a) && same (r .b) (s .b) && same (r 
 abbrev pub AlikeInRules : List Constraint → List Constraint → Type 0
 AlikeInRules l m = (r : Constraint) → count r l ≡ count r m
 
--- ---- class examples: the rules and the objective, the answer, moves and open, and for an impossible one its place and a witness by index
+-- ---- class examples: the floors, the rules and the objective, the answer, moves and open, and for an impossible one its place and a
+-- witness by index
 
 pub record Example : Type 0 where
+  pub floors : Floors
   pub rules : List Constraint
   pub objective : Functional
   pub answer : Outcome
@@ -69,14 +71,14 @@ sameOutcome (Optimal v) (Optimal w) = samePoint v w
 
 -- a witness is judged by its property, over the floors and the first `placed` rules
 abbrev witnessed : Example → Outcome → Bool
-witnessed e Infeasible = certifies (system zeroFloors (take (e .placed) (e .rules))) (e .witness)
+witnessed e Infeasible = certifies (system (e .floors) (take (e .placed) (e .rules))) (e .witness)
 witnessed e (Unbounded v d) = true
 witnessed e (Optimal v) = true
 
 abbrev pub holds : Example → Bool
 holds e =
-    sameOutcome (outcome tie zeroFloors (e .objective) (e .rules)) (e .answer)
-    && eqb (moves tie zeroFloors (e .objective) (e .rules)) (e .moved)
-    && eqb (opens tie zeroFloors (e .objective) (e .rules)) (e .opened)
-    && eqb (place tie zeroFloors (e .objective) (e .rules)) (e .placed)
+    sameOutcome (outcome tie (e .floors) (e .objective) (e .rules)) (e .answer)
+    && eqb (moves tie (e .floors) (e .objective) (e .rules)) (e .moved)
+    && eqb (opens tie (e .floors) (e .objective) (e .rules)) (e .opened)
+    && eqb (place tie (e .floors) (e .objective) (e .rules)) (e .placed)
     && witnessed e (e .answer)

@@ -1,5 +1,5 @@
--- The ten class examples marked * in document 01, and the mistakes that it warns of; and slacks. In a witness 0 is floor x, 1 floor y,
--- and 2 the first rule.
+-- The ten class examples marked * in document 01, the mistakes that it warns of, and examples with floors other than zero; and slacks. In
+-- a witness 0 is floor x, 1 floor y, and 2 the first rule.
 use mathlib.Core.List.{List, [], _∷_}
 use Prim.Native.Nat.{ℕ}
 use lib.IntN.{ℤ, pos, negsuc, negℤ}
@@ -11,7 +11,7 @@ use Rattle.lp.specs.declared.Amount.{Amount}
 use Rattle.lp.specs.Program.{constraint, functional, point, ray}
 use Rattle.lp.specs.Slack.{amount}
 use Rattle.lp.specs.Certificate.{Weighted}
-use Rattle.lp.specs.Document.{Example}
+use Rattle.lp.specs.Document.{Example, zeroFloors}
 
 -- at most, and at least, which is turned round
 abbrev atMost : ℤ → ℤ → ℤ → Constraint
@@ -22,11 +22,21 @@ atLeast a b c = constraint (negℤ a) (negℤ b) (negℤ c)
 
 abbrev example : List Constraint → ℤ → ℤ → Outcome → ℕ → ℕ → Example
 example rules p q answer moved opened =
-    record { rules = rules; objective = functional p q; answer = answer; moved = moved; opened = opened; placed = 0; witness = [] }
+    record {
+      floors = zeroFloors;
+      rules = rules;
+      objective = functional p q;
+      answer = answer;
+      moved = moved;
+      opened = opened;
+      placed = 0;
+      witness = [];
+    }
 
 abbrev impossible : List Constraint → ℤ → ℤ → ℕ → List Weighted → ℕ → ℕ → Example
 impossible rules p q placed witness moved opened =
     record {
+      floors = zeroFloors;
       rules = rules;
       objective = functional p q;
       answer = Infeasible;
@@ -34,6 +44,20 @@ impossible rules p q placed witness moved opened =
       opened = opened;
       placed = placed;
       witness = witness;
+    }
+
+-- an example under other floors
+abbrev under : ℤ → ℤ → Example → Example
+under lx ly e =
+    record {
+      floors = record { lx = lx; ly = ly };
+      rules = e .rules;
+      objective = e .objective;
+      answer = e .answer;
+      moved = e .moved;
+      opened = e .opened;
+      placed = e .placed;
+      witness = e .witness;
     }
 
 abbrev once : ℕ → Weighted
@@ -69,6 +93,21 @@ pitfalls =
     (Optimal (point (pos 0) (pos 6) (pos 1))) 0 2
     ∷ impossible (atMost (pos 1) (pos 0) (negsuc 0) ∷ atMost (pos 0) (pos 1) (pos 5) ∷ []) (pos 0) (pos 0) 1 (once 0 ∷ once 2 ∷ []) 1 0
     ∷ example (atMost (pos 2) (negsuc 1) (pos 4) ∷ []) (pos 1) (pos 0) (Unbounded (point (pos 0) (pos 0) (pos 1)) (ray (pos 1) (pos 1))) 0 2
+    ∷ []
+
+-- floors that are not zero: their corner; two floors that a rule clashes with; one that a rule clashes with; a pair below zero on a rule's
+-- line; gains without a top from a start pair below zero; the least and the greatest floor that a book can say
+abbrev pub floorExamples : List Example
+floorExamples =
+    under (negsuc 1) (pos 3) (example [] (pos 0) (pos 0) (Optimal (point (negsuc 1) (pos 3) (pos 1))) 0 0)
+    ∷ under (negsuc 4) (negsuc 6) (impossible (atMost (pos 1) (pos 1) (negsuc 19) ∷ []) (pos 1) (pos 1) 1 (once 0 ∷ once 1 ∷ once 2 ∷ []) 0 1)
+    ∷ under (pos 4) (pos 0) (impossible (atMost (pos 1) (pos 0) (pos 3) ∷ []) (pos 0) (pos 0) 1 (once 0 ∷ once 2 ∷ []) 1 0)
+    ∷ under (negsuc 2) (negsuc 1) (example (atMost (pos 1) (pos 2) (negsuc 4) ∷ []) (pos 0) (pos 1)
+    (Optimal (point (negsuc 2) (negsuc 0) (pos 1))) 0 1)
+    ∷ under (negsuc 4) (pos 2) (example (atMost (pos 1) (negsuc 0) (pos 2) ∷ []) (pos 1) (pos 0)
+    (Unbounded (point (negsuc 4) (pos 2) (pos 1)) (ray (pos 1) (pos 1))) 0 2)
+    ∷ under (negsuc 32767) (pos 32767) (example (atMost (pos 1) (pos 1) (pos 0) ∷ []) (pos 1) (pos 0)
+    (Optimal (point (negsuc 32766) (pos 32767) (pos 1))) 0 1)
     ∷ []
 
 -- ---- slacks: a rule, a pair and the amount

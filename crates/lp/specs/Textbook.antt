@@ -6,6 +6,7 @@ use lib.IntN.{ℤ, pos, _*ℤ_}
 use Rattle.ints.specs.Order.{_≤ᶻ_, _<ᶻ_}
 use Rattle.lp.specs.declared.Constraint.{Constraint}
 use Rattle.lp.specs.declared.Functional.{Functional}
+use Rattle.lp.specs.declared.Floors.{Floors}
 use Rattle.lp.specs.declared.Point.{Point}
 use Rattle.lp.specs.declared.Ray.{Ray}
 use Rattle.lp.specs.Program.{Feasible, gain, along, rise}
@@ -37,6 +38,11 @@ pub record Bounded (S : List Constraint) (f : Functional) : Type 0 where
 pub record NoLater (v w : Point) : Type 0 where
   pub least-x : v .x *ℤ w .d ≤ᶻ w .x *ℤ v .d
   pub then-least-y : v .x *ℤ w .d ≡ w .x *ℤ v .d → v .y *ℤ w .d ≤ᶻ w .y *ℤ v .d
+
+-- document 02, #106: a pair is not below the floors
+pub record NotBelow (f : Floors) (v : Point) : Type 0 where
+  pub x-not-below : f .lx *ℤ v .d ≤ᶻ v .x
+  pub y-not-below : f .ly *ℤ v .d ≤ᶻ v .y
 
 -- document 01: a lawful direction. That dx and dy are not both 0 follows, since it gains
 pub record LawfulDirection (rules : List Constraint) (f : Functional) (d : Ray) : Type 0 where

@@ -1,5 +1,5 @@
--- The model walks the class examples and the pitfalls of document 01 to their answers, places and counts, with valid certificates. That
--- it does so for every system is proved in `theory`; these rows are what a wrong model trips over.
+-- The model walks the class examples and the pitfalls of document 01, and the examples with floors, to their answers, places and counts,
+-- with valid certificates. That it does so for every system is proved in `theory`; these rows are what a wrong model trips over.
 use mathlib.Core.Bool.{Bool, true, _&&_}
 use lib.Dec.{T, eqb}
 use lib.ListN.{take}
@@ -8,7 +8,7 @@ use Rattle.lp.specs.Program.{system}
 use Rattle.lp.specs.Outcome.{every}
 use Rattle.lp.specs.Certificate.{named, certifies}
 use Rattle.lp.specs.Document.{Example, tie, zeroFloors, sameOutcome}
-use Rattle.lp.specs.Examples.{classExamples, pitfalls}
+use Rattle.lp.specs.Examples.{classExamples, pitfalls, floorExamples}
 use Rattle.lp.specs.Starts.{Chain, chains, saidOf}
 use Rattle.model.specs.declared.State.{State}
 use Rattle.model.specs.declared.State.the-variants.{Ended, Going}
@@ -19,7 +19,7 @@ use lib.IntN.{pos}
 use Rattle.model.specs.Step.{walk, said, placeOf, startHeld}
 
 abbrev witnessed : Example → State → Bool
-witnessed e (Ended p c) = certifies (system zeroFloors (take p (e .rules))) (named c)
+witnessed e (Ended p c) = certifies (system (e .floors) (take p (e .rules))) (named c)
 witnessed e (Going s cone b) = true
 
 abbrev walked : Example → Walk → Bool
@@ -31,7 +31,7 @@ walked e w =
     && witnessed e (w .state)
 
 abbrev pub walks : Example → Bool
-walks e = walked e (walk tie zeroFloors (e .objective) (e .rules))
+walks e = walked e (walk tie (e .floors) (e .objective) (e .rules))
 
 pub class-examples-walk : T (every walks classExamples)
 unfolding gcd
@@ -40,6 +40,10 @@ class-examples-walk = tt
 pub pitfalls-walk : T (every walks pitfalls)
 unfolding gcd
 pitfalls-walk = tt
+
+pub floor-examples-walk : T (every walks floorExamples)
+unfolding gcd
+floor-examples-walk = tt
 
 -- the start pair and its count, whatever the objective
 abbrev startsBy : Functional → Chain → Bool

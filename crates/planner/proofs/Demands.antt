@@ -15,7 +15,7 @@ use Rattle.lp.specs.declared.Point.{Point}
 use Rattle.lp.specs.declared.Ray.{Ray}
 use Rattle.lp.specs.declared.Outcome.the-variants as outcome
 use Rattle.lp.specs.Program.{Feasible, system, gain}
-use Rattle.lp.specs.Textbook.{Infeasible, Unbounded, Bounded, NoLater, LawfulDirection}
+use Rattle.lp.specs.Textbook.{Infeasible, Unbounded, Bounded, NoLater, NotBelow, LawfulDirection}
 use Rattle.lp.specs.Certificate.{named}
 use Rattle.lp.specs.Document.{tie, AlikeInRules}
 use Rattle.records.specs.Layout.{Layout}
@@ -126,6 +126,10 @@ module _ (L : Layout) (s : List ℕ) (a : Answer) (promise : Answers L s a)
       NoLater v w
   best-least = list.best-least t (recordsOf es) (rulesOf es) p planned
 
+  -- it is not below the floors
+  pub best-not-below : (v : Point) → p .outcome ≡ outcome.Optimal v → NotBelow (t .floors) v
+  best-not-below = list.best-not-below t (recordsOf es) (rulesOf es) p planned
+
   pub start-pair : (u : Point) (d : Ray) →
       p .outcome ≡ outcome.Unbounded u d →
       FirstPoint tie tie-good (t .floors) (t .objective) (rulesOf es) u
@@ -138,6 +142,10 @@ module _ (L : Layout) (s : List ℕ) (a : Answer) (promise : Answers L s a)
       Feasible chain w →
       NoLater u w
   start-least = list.start-least t (recordsOf es) (rulesOf es) p planned
+
+  -- it is not below the floors either
+  pub start-not-below : (u : Point) (d : Ray) → p .outcome ≡ outcome.Unbounded u d → NotBelow (t .floors) u
+  start-not-below = list.start-not-below t (recordsOf es) (rulesOf es) p planned
 
   -- the direction is a lawful candidate, none is less steep, and it is in lowest terms
   pub direction-given : (u : Point) (d : Ray) →

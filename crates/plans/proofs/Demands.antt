@@ -15,7 +15,7 @@ use Rattle.lp.specs.declared.Outcome.{Outcome}
 use Rattle.lp.specs.declared.Outcome.the-variants as outcome
 use Rattle.lp.specs.Program.{Feasible, constraint, system, gain}
 use Rattle.lp.specs.Outcome as defined
-use Rattle.lp.specs.Textbook.{Infeasible, Unbounded, Bounded, NoLater, LawfulDirection}
+use Rattle.lp.specs.Textbook.{Infeasible, Unbounded, Bounded, NoLater, NotBelow, LawfulDirection}
 use Rattle.lp.specs.Certificate.{named}
 use Rattle.lp.specs.Range.{SmallFloors, SmallSystem}
 use Rattle.lp.specs.Document.{tie, AlikeInRules}
@@ -29,7 +29,7 @@ use Rattle.theory.proofs.Meaning.{outcome-order-free}
 use Rattle.theory.proofs.Theorems.{infeasible-exactly, unbounded-exactly, optimal-exactly, walk-is-defined}
 use Rattle.theory.proofs.Theorems.{BestPoint, optimum-best, FirstPoint, start-first, FlattestRay, ray-flattest}
 use Rattle.theory.proofs.Theorems.{Placed, place-least, moves-at-most, open-at-most}
-use Rattle.theory.proofs.Words.{first-in-words, lawful-in-words}
+use Rattle.theory.proofs.Words.{first-in-words, feasible-in-words, lawful-in-words}
 use Rattle.witness.specs.Witness.{codeAt, coded}
 use Rattle.plans.specs.Planning.{Named, Proves, Witnessed, PlannedAs}
 use Rattle.plans.specs.Adding.{AddsUp}
@@ -100,6 +100,10 @@ module _ (t : Terms) (names : List ℕ) (rules : List Constraint) (p : Plan) (pl
       NoLater v w
   best-least v f w h same = first-in-words v w (best-pair v f .tie-first w h same)
 
+  -- it is not below the floors
+  pub best-not-below : (v : Point) → p .outcome ≡ outcome.Optimal v → NotBelow (t .floors) v
+  best-not-below v f = feasible-in-words (t .floors) rules v (best-pair v f .feasible) .0
+
   pub start-pair : (u : Point) (d : Ray) →
       p .outcome ≡ outcome.Unbounded u d →
       FirstPoint tie tie-good (t .floors) (t .objective) rules u
@@ -112,6 +116,10 @@ module _ (t : Terms) (names : List ℕ) (rules : List Constraint) (p : Plan) (pl
       Feasible chain w →
       NoLater u w
   start-least u d f w h = first-in-words u w (start-pair u d f .first w h)
+
+  -- it is not below the floors either
+  pub start-not-below : (u : Point) (d : Ray) → p .outcome ≡ outcome.Unbounded u d → NotBelow (t .floors) u
+  start-not-below u d f = feasible-in-words (t .floors) rules u (start-pair u d f .feasible) .0
 
   -- a lawful candidate, none is less steep, and it is in lowest terms
   pub direction-given : (u : Point) (d : Ray) →

@@ -7,24 +7,13 @@ use borrow.Author.Tests.{eq-eqb, ne-eqb}
 use lib.ListN.{length}
 use lib.Dec.{eqb}
 use lib.IntN.{pos}
-use Rattle.lp.specs.declared.Floors.{Floors}
 use mir.Syntax.{w16}
 use mir.Val.{toZ}
 use Rattle.records.specs.declared.Version.{Version}
-use Rattle.records.specs.declared.Version.the-variants.{One, Two}
 use Rattle.records.specs.declared.fields.Fields.{Fields}
 use Rattle.records.specs.Layout.{Layout, width, layoutOf}
 use Rattle.records.specs.Record.{recordAt, fieldsOf, isLeast}
-use Rattle.records.specs.Header.{floorsOf, headerFault, badLength}
-
--- no version has floors in its header's tail
-pub no-floors : (v : Version) → layoutOf v .floors ≡ false
-no-floors One = refl
-no-floors Two = refl
-
--- so the floors are zero
-pub zero-floors : (v : Version) (s : List ℕ) → _≡_ {A = Floors} (record { lx = pos 0; ly = pos 0 }) (floorsOf (layoutOf v) s)
-zero-floors v s = rw (no-floors v)
+use Rattle.records.specs.Header.{tailSet, headerFault, badLength}
 
 -- the first cause that applies to a header with these fields
 abbrev faultIn : Layout → List ℕ → Fields → ℕ
@@ -33,7 +22,7 @@ faultIn L s f =
     (cond (not (eqb (f .kind) (L .version)) || not (eqb (f .pad) 0)) 2
     (cond (not (eqb (f .label) (length s / width L - 1))) 3
     (cond (isLeast (toZ w16 (f .a)) || isLeast (toZ w16 (f .b))) 4
-    (cond (not (L .floors) && not (eqb (f .c) 0)) 5 0))))
+    (cond (tailSet L (f .c)) 5 0))))
 
 fault-in : (L : Layout) (s : List ℕ) → faultIn L s (fieldsOf L (recordAt L s 0)) ≡ headerFault L s
 unfolding headerFault
@@ -64,7 +53,7 @@ module _ (v : Version) (s : List ℕ) (f : Fields) (pre : f ≡ fieldsOf (layout
 
         module _ (n : f .label ≡ length s / width L - 1) where
           clear : (m : ℕ) →
-              m ≡ cond (isLeast (toZ w16 (f .a)) || isLeast (toZ w16 (f .b))) 4 (cond (not (L .floors) && not (eqb (f .c) 0)) 5 0) →
+              m ≡ cond (isLeast (toZ w16 (f .a)) || isLeast (toZ w16 (f .b))) 4 (cond (tailSet L (f .c)) 5 0) →
               m ≡ headerFault L s
           clear m e =
               so (rw (a, eq-eqb (f .kind) (L .version) k, eq-eqb (f .pad) 0 p, eq-eqb (f .label) (length s / width L - 1) n) e)
@@ -77,8 +66,8 @@ module _ (v : Version) (s : List ℕ) (f : Fields) (pre : f ≡ fieldsOf (layout
             least-q y = clear 4 (rw (x, y))
 
             module _ (y : isLeast (toZ w16 (f .b)) ≡ false) where
-              pub set-tail : (f .c ≡ 0 → ⊥) → 5 ≡ headerFault L s
-              set-tail t = clear 5 (rw (x, y, no-floors v, ne-eqb (f .c) 0 t))
+              pub set-tail : tailSet L (f .c) ≡ true → 5 ≡ headerFault L s
+              set-tail t = clear 5 (rw (x, y, t))
 
-              pub no-fault : f .c ≡ 0 → 0 ≡ headerFault L s
-              no-fault t = clear 0 (rw (x, y, no-floors v, eq-eqb (f .c) 0 t))
+              pub no-fault : tailSet L (f .c) ≡ false → 0 ≡ headerFault L s
+              no-fault t = clear 0 (rw (x, y, t))

@@ -1,5 +1,6 @@
 -- The laws of this crate.
 pub mod Numbers
+pub mod Small
 pub mod Offsets
 pub mod Checks
 pub mod HeaderTests

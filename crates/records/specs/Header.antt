@@ -16,6 +16,18 @@ use Rattle.records.specs.Layout.{Layout, width, atC}
 use Rattle.records.specs.Number.{number}
 use Rattle.records.specs.Record.{recordAt, linkOf, kindOf, padOf, aOf, bOf, labelOf, cOf, isLeast}
 
+-- what the code reads of a tail whose four bytes make one number: its halves, where the layout has floors (a law says that they are the
+-- floors), and whether it must have been zero
+module _ (L : Layout) (tail : ℕ) where
+  abbrev pub floorsIn : Floors
+  floorsIn =
+      cond (L .floors)
+      (record { lx = toZ w16 (tail % 65536); ly = toZ w16 (tail / 65536) })
+      (record { lx = pos 0; ly = pos 0 })
+
+  abbrev pub tailSet : Bool
+  tailSet = not (L .floors) && not (eqb tail 0)
+
 module _ (L : Layout) (s : List ℕ) where
   -- ---- what it says
 
@@ -54,7 +66,7 @@ module _ (L : Layout) (s : List ℕ) where
   badObjective = isLeast (objectiveOf .p) || isLeast (objectiveOf .q)
 
   abbrev pub badTail : Bool
-  badTail = not (L .floors) && not (eqb (cOf L (recordAt L s 0)) 0)
+  badTail = tailSet L (cOf L (recordAt L s 0))
 
   -- the first of them that applies; 0 where none does
   unfoldable pub headerFault : ℕ

@@ -2,7 +2,7 @@
 -- link, kind (in the header: version), padding that must be zero, a (p), b (q), label (count), c (in the header: the tail).
 -- Only what differs between versions of the format is a field here; the offsets follow from it, so that fields cannot overlap.
 use Prim.Native.Nat.{ℕ, _+_, _^_, _≤_, _<_}
-use mathlib.Core.Bool.{Bool, false}
+use mathlib.Core.Bool.{Bool, true, false}
 use Rattle.records.specs.declared.Version.{Version}
 use Rattle.records.specs.declared.Version.the-variants.{One, Two}
 
@@ -40,9 +40,9 @@ module _ (L : Layout) where
 abbrev pub v1 : Layout
 v1 = record { link = 1; pad = 0; version = 1; records = 256; floors = false }
 
--- version 2: records of 14 bytes, at most 4,096 of them, 57,344 bytes
+-- version 2: records of 14 bytes, at most 4,096 of them, 57,344 bytes; its header's tail are the floors (request 106)
 abbrev pub v2 : Layout
-v2 = record { link = 2; pad = 1; version = 2; records = 4096; floors = false }
+v2 = record { link = 2; pad = 1; version = 2; records = 4096; floors = true }
 
 abbrev pub layoutOf : Version → Layout
 layoutOf One = v1

@@ -1,8 +1,9 @@
-// The header's tests: the causes 1 to 5.
+// The header's tests, the causes 1 to 5, and the floors that its tail says.
 use crate::Version;
 use crate::bytes::signed16;
 use crate::decode::least;
 use crate::fields::Fields;
+use lp::Floors;
 ghost use mathlib.Core.Path.{_≡_};
 ghost use Prim.Native.Nat.{_-_, _/_};
 ghost use lib.ListN.{length};
@@ -10,7 +11,7 @@ ghost use lib.Dec.{eqb, ltb};
 ghost use mathlib.Core.Bool.{not, _||_};
 ghost use Rattle.records.specs.Layout.{layoutOf, width};
 ghost use Rattle.records.specs.Record.{recordAt, fieldsOf};
-ghost use Rattle.records.specs.Header.{badLength, headerFault};
+ghost use Rattle.records.specs.Header.{floorsIn, tailSet, badLength, headerFault};
 
 // Whether a length is under the shortest, over the longest, or leaves a rest.
 fn misfit(length: usize, shortest: usize, longest: usize, rest: usize) -> bool
@@ -64,6 +65,30 @@ fn after_header(version: Version, book: &[u8]) -> usize
     }
 }
 
+// Cause 5: version 1 has nothing to say in the tail.
+fn bad_tail(version: Version, tail: u32) -> bool
+    ensures { λ r. ⌜ r ≡ tailSet (layoutOf version) tail ⌝ }
+{
+    match version {
+        Version::One => tail != 0,
+        Version::Two => false,
+    }
+}
+
+// The floors in a tail, x in the half that counts least; zero in version 1.
+pub fn floors_in(version: Version, tail: u32) -> Floors
+    ensures { λ r. ⌜ r ≡ floorsIn (layoutOf version) tail ⌝ }
+{
+    let lx = signed16((tail % 65536) as u16) as i64;
+    let ly = signed16((tail / 65536) as u16) as i64;
+    let floors = Floors { lx, ly };
+    let zero = Floors { lx: 0, ly: 0 };
+    match version {
+        Version::One => zero,
+        Version::Two => floors,
+    }
+}
+
 // The first of the causes 1 to 5 that applies to a book with these fields in its header, or 0.
 pub fn fault(version: Version, book: &[u8], f: Fields) -> u8
     requires { ⌜ f ≡ fieldsOf (layoutOf version) (recordAt (layoutOf version) (now book) 0) ⌝ }
@@ -87,7 +112,7 @@ pub fn fault(version: Version, book: &[u8], f: Fields) -> u8
     if least(signed16(f.b)) {
         return 4;
     }
-    if f.c != 0 {
+    if bad_tail(version, f.c) {
         return 5;
     }
     0

@@ -10,8 +10,8 @@ use bytes::signed16;
 use decode::rule_in;
 use fields::fields_at;
 use header::fault;
+use header::floors_in;
 use lp::Constraint;
-use lp::Floors;
 use lp::Functional;
 use lp::Terms;
 ghost use mathlib.Core.Path.{_≡_};
@@ -60,7 +60,7 @@ pub fn heading_of(version: Version, book: &[u8]) -> Heading
         p: signed16(f.a) as i64,
         q: signed16(f.b) as i64,
     };
-    let floors = Floors { lx: 0, ly: 0 };
+    let floors = floors_in(version, f.c);
     Heading {
         fault: fault(version, book, f),
         terms: Terms { objective, floors },

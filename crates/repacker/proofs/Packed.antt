@@ -5,23 +5,26 @@ use mathlib.Core.List.{List, [], _∷_, _++_}
 use native.Mathlib.Omega.{arith}
 use native.Mathlib.Nat.{zero-mul, suc-mul, add-zero, add-comm, mul-comm, mul-suc}
 use native.Mathlib.Numerals.{add-one, one-add}
-use mathlib.Core.Bool.{cond}
+use mathlib.Core.Bool.{Bool, true, false, cond}
+use lib.IntN.{pos}
 use mathlib.Core.List.{append-assoc}
 use borrow.Author.Tests.{lt-ltb, le-ltb}
 use lib.Dec.{ltb, leb·suc-suc}
 use lib.ListN.{length, take, drop, getD, length-append, length-map, List·getD-map}
 use lib.Seq.{take-at, drop-drop, drop-append-add, take-add, take-take, take-paste, drop-paste, paste, getD-take, length-take-le}
+use Rattle.lp.specs.declared.Floors.{Floors}
 use Rattle.lp.specs.declared.Terms.{Terms}
 use Rattle.records.specs.declared.Rule.{Rule}
 use mir.Syntax.{Width, w16, w32}
 use mir.Val.{toZ, ofZ, Fits}
 use mir.ValLaws.{ofZ-toZ}
-use Rattle.records.specs.Record.{recordAt, ruleOf, fieldsOf}
+use Rattle.records.specs.Record.{recordAt, cOf, ruleOf, fieldsOf}
 use Rattle.records.specs.Header.{termsOf}
 use Rattle.records.specs.declared.fields.Fields.{Fields}
-use Rattle.records.specs.Layout.{Layout, v2, width}
-use Rattle.records.specs.Number.{bytesOf}
-use Rattle.repacker.specs.Repacking.{recordBytes, headerBytes, ruleBytes, nextOf, chainBytes, bookOf, rulesAt}
+use Rattle.records.specs.Layout.{Layout, v2, width, atC}
+use Rattle.records.specs.Number.{number, bytesOf, Bytes}
+use Rattle.records.proofs.Small.{two-bytes-small, bytes-record, joined}
+use Rattle.repacker.specs.Repacking.{recordBytes, tailWith, tailOf, headerBytes, ruleBytes, nextOf, chainBytes, bookOf, rulesAt}
 
 -- ---- version 2, byte by byte
 
@@ -67,18 +70,42 @@ module _
       let same-c : f .c ≡ ofZ w32 (ruleOf L t .c) = kept w32 (f .c) (fieldsOf L t .c) fc (ap (λ (g : Fields). g .c) e) in
       ex ∙ (λ i. recordBytes v2 l (e i .kind) (same-a i) (same-b i) (e i .label) (same-c i))
 
-pub header-written : (L : Layout) (x s : List ℕ) (l n : ℕ) (f : Fields) →
+-- the tail of a header: the floors that it holds, written again
+same-tail : (L : Layout) (s : List ℕ) → Bytes s → cond (L .floors) (cOf L (recordAt L s 0)) 0 ≡ tailOf v2 (termsOf L s)
+same-tail L s b = go (L .floors)
+  where
+    half : (n : ℕ) → number 2 (drop n (recordAt L s 0)) ≡ ofZ w16 (toZ w16 (number 2 (drop n (recordAt L s 0))))
+    half n = kept w16 (number 2 (drop n (recordAt L s 0))) (number 2 (drop n (recordAt L s 0)))
+        (record { fits = two-bytes-small L s b 0 n }) refl
+
+    go : (has : Bool) →
+        cond has (cOf L (recordAt L s 0)) 0 ≡ tailWith
+        (cond has
+        (record {
+          lx = toZ w16 (number 2 (drop (atC L) (recordAt L s 0)));
+          ly = toZ w16 (number 2 (drop (atC L + 2) (recordAt L s 0)));
+        })
+        (record { lx = pos 0; ly = pos 0 }))
+    go true =
+        sym (joined (recordAt L s 0) (atC L) (bytes-record L s b 0))
+        ∙ (λ i. half (atC L) i + 65536 * half (atC L + 2) i)
+    go false = refl
+
+pub header-written : (L : Layout) (x s : List ℕ) (l n t : ℕ) (f : Fields) →
+    Bytes s →
     Fits w16 (f .a) →
     Fits w16 (f .b) →
     f ≡ fieldsOf L (recordAt L s 0) →
-    x ≡ recordBytes v2 l 2 (f .a) (f .b) n 0 →
+    t ≡ cond (L .floors) (f .c) 0 →
+    x ≡ recordBytes v2 l 2 (f .a) (f .b) n t →
     x ≡ headerBytes v2 l (termsOf L s) n
-header-written L x s l n f fa fb e ex =
+header-written L x s l n t f b fa fb e et ex =
+    let tail = et ∙ ap (λ (g : Fields). cond (L .floors) (g .c) 0) e ∙ same-tail L s b in
     ex
     ∙ (λ i. recordBytes v2 l 2
     (same-a L x (recordAt L s 0) l f fa fb e i)
     (same-b L x (recordAt L s 0) l f fa fb e i)
-    n 0)
+    n (tail i))
 
 -- ---- lengths
 

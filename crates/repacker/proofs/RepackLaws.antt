@@ -26,7 +26,7 @@ use Rattle.repacker.specs.Repacking.{Packing, bookOf, declined, packed, 
 use Rattle.repacker.specs.declared.Repacked.{Repacked}
 use Rattle.repacker.specs.Promises.{Repacks, repackedOf, outputOf}
 use Rattle.book.proofs.Causes.{cause-number, refusal-applies, acceptance-means}
-use Rattle.book.proofs.Small.{label-small, two-bytes-small}
+use Rattle.records.proofs.Small.{label-small, two-bytes-small}
 use Rattle.book.proofs.Bounds.{chain-count, count-room, SoundRule, terms-small, accepted-entries, entry-sound, label-distinct}
 use Rattle.repacker.proofs.Output.{rules-of}
 use Rattle.repacker.proofs.Readback.{Holds, book-reads, numbered-rules, numbered-length}
@@ -40,8 +40,8 @@ usable-v2 = record { links = lit≤ tt; counts = lit≤ tt; versions = lit< tt }
 
 -- what a book of either version holds, one of version 2 can
 pub carried : (v : Version) → Carried (layoutOf v) v2
-carried One = record { records = lit≤ tt; floors = λ e. e }
-carried Two = record { records = lit≤ tt; floors = λ e. e }
+carried One = record { records = lit≤ tt; floors = λ e. refl }
+carried Two = record { records = lit≤ tt; floors = λ e. refl }
 
 -- ---- from a book to its repacked form
 

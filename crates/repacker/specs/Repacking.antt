@@ -8,12 +8,17 @@ use lib.ListN.{length}
 use lib.Dec.{ltb}
 use mir.Syntax.{w16, w32}
 use mir.Val.{ofZ}
+use Rattle.lp.specs.declared.Floors.{Floors}
 use Rattle.lp.specs.declared.Terms.{Terms}
 use Rattle.records.specs.declared.Rule.{Rule}
 use Rattle.records.specs.Layout.{Layout, width, v2}
 use Rattle.records.specs.Number.{bytesOf}
 use Rattle.records.specs.Record.{recordAt, ruleOf}
 use Rattle.book.specs.Reading.{Reading, refused, accepted, Entry, readOf}
+
+-- two floors as one number of four bytes, x in the half that counts least
+abbrev pub tailWith : Floors → ℕ
+tailWith f = ofZ w16 (f .lx) + 65536 * ofZ w16 (f .ly)
 
 module _ (L : Layout) where
   -- a record's bytes, from its fields as unsigned numbers
@@ -24,7 +29,7 @@ module _ (L : Layout) where
 
   -- the header's tail: the floors, where the layout has them, else zero
   abbrev pub tailOf : Terms → ℕ
-  tailOf t = cond (L .floors) (ofZ w16 (t .floors .lx) + 65536 * ofZ w16 (t .floors .ly)) 0
+  tailOf t = cond (L .floors) (tailWith (t .floors)) 0
 
   abbrev pub headerBytes : ℕ → Terms → ℕ → List ℕ
   headerBytes first t n =

@@ -41,12 +41,22 @@ fn record_bytes(link: u16, kind: u8, a: u16, b: u16, label: u16, c: u32) -> [u8;
     ]
 }
 
-// The header of n rules, with the objective of a book of either version.
+// The header's tail, as it is written: version 2's holds the floors, and version 1's floors are zero.
+fn tail_of(version: Version, tail: u32) -> u32
+    ensures { λ r. ⌜ r ≡ cond (layoutOf version .floors) tail 0 ⌝ }
+{
+    match version {
+        Version::One => 0,
+        Version::Two => tail,
+    }
+}
+
+// The header of n rules, with the objective and the floors of a book of either version.
 pub fn header_bytes(version: Version, book: &[u8], link: u16, n: u16) -> [u8; 14]
     ensures { λ r. ⌜ r ≡ headerBytes v2 link (termsOf (layoutOf version) (now (book .entry))) n ⌝ }
 {
     let f = fields_at(version, book, 0);
-    record_bytes(link, 2, f.a, f.b, n, 0)
+    record_bytes(link, 2, f.a, f.b, n, tail_of(version, f.c))
 }
 
 // The rule of a record, with another link.

@@ -1,23 +1,24 @@
--- Document 01's own words for its tie and its directions, from the order of functionals and the test that the definitions go by.
-use mathlib.Core.Path.{_≡_, refl, _∙_, ap}
-use mathlib.Core.List.{List, [], _∷_, List·Memᴰ, List·Memᴰ·head, List·Memᴰ·tail}
-use mathlib.Core.Logic.{inl, inr}
+-- The documents' own words for the tie, the floors and the directions, from the order of functionals and the tests that the definitions
+-- go by.
+use mathlib.Core.Path.{_≡_, refl, sym, _∙_, ap, subst}
+use mathlib.Core.List.{List, [], _∷_, List·Memᴰ, List·Memᴰ·head, List·Memᴰ·tail, List·Memᴰ·cases-cons}
+use mathlib.Core.Logic.{_⊎_, inl, inr}
 use lib.Dec.{T}
 use lib.IntN.{ℤ, pos, negsuc, _*ℤ_, _-ℤ_, +ℤ-invr}
 use lib.Signed.{clashℤ}
-use Rattle.ints.specs.Order.{_≤ᶻ_}
+use Rattle.ints.specs.Order.{_≤ᶻ_, _<ᶻ_}
 use Rattle.ints.proofs.Ring.{_⊕_, _⊖_, _⊗_, ⊝_, _≐_, con}
-use Rattle.ints.proofs.Order.{pos-nn, nn-zero, nn-sub, neg-nn, le-of-eq}
+use Rattle.ints.proofs.Order.{pos-nn, nn-zero, nn-sub, sub-nn, neg-nn, le-of-eq}
 use Rattle.lp.specs.declared.Constraint.{Constraint}
 use Rattle.lp.specs.declared.Functional.{Functional}
 use Rattle.lp.specs.declared.Floors.{Floors}
 use Rattle.lp.specs.declared.Point.{Point}
 use Rattle.lp.specs.declared.Ray.{Ray}
-use Rattle.lp.specs.Program.{along, rise, between, system}
+use Rattle.lp.specs.Program.{Keeps, Feasible, floorX, floorY, along, rise, between, system}
 use Rattle.lp.specs.Outcome.{lawful, tieOrder}
-use Rattle.lp.specs.Textbook.{NoLater, LawfulDirection}
+use Rattle.lp.specs.Textbook.{NoLater, NotBelow, LawfulDirection}
 use Rattle.lp.specs.Document.{tie}
-use Rattle.theory.proofs.Solver.{equal, nn-by, P, R, betweenᵖ}
+use Rattle.theory.proofs.Solver.{equal, nn-by, Z, P, R, betweenᵖ}
 use Rattle.theory.proofs.Direction.{AtMost}
 use Rattle.theory.proofs.Lexicographic.{Up}
 use Rattle.theory.proofs.Enumeration.{lawful-recedes, lawful-gains}
@@ -52,6 +53,47 @@ module _ (v w : Point) where
   first-in-words (inr (same, inl more)) = record { least-x = x-first (nn-zero same); then-least-y = λ e. y-next (pos-nn more) }
   first-in-words (inr (same, inr (same′, u))) =
       record { least-x = x-first (nn-zero same); then-least-y = λ e. y-next (nn-zero same′) }
+
+-- ---- not below the floors
+
+module _ (floors : Floors) (rules : List Constraint) (v : Point) where
+  -- an allowed pair is one that is not below the floors and keeps every rule
+  pub feasible-in-words : Feasible (system floors rules) v →
+      NotBelow floors v × ((r : Constraint) → List·Memᴰ r rules → Keeps r v)
+  feasible-in-words h = (
+    record {
+      x-not-below =
+          nn-sub (nn-by (Z ∷ P ∷ []) (λ l v. v .x ⊖ l ⊗ v .d ≐ ⊝ l ⊗ v .d ⊖ (con (negsuc 0) ⊗ v .x ⊕ con (pos 0) ⊗ v .y)) refl (floors .lx)
+          v (h .kept _ (List·Memᴰ·head refl)));
+      y-not-below =
+          nn-sub (nn-by (Z ∷ P ∷ []) (λ l v. v .y ⊖ l ⊗ v .d ≐ ⊝ l ⊗ v .d ⊖ (con (pos 0) ⊗ v .x ⊕ con (negsuc 0) ⊗ v .y)) refl (floors .ly)
+          v (h .kept _ (List·Memᴰ·tail (List·Memᴰ·head refl))));
+    },
+    (λ r i. h .kept r (List·Memᴰ·tail (List·Memᴰ·tail i))),
+  )
+
+  -- and the other way round
+  pub feasible-from-words : pos 0 <ᶻ v .d → NotBelow floors v → ((r : Constraint) → List·Memᴰ r rules → Keeps r v) →
+      Feasible (system floors rules) v
+  feasible-from-words p n k = record { proper = p; kept = λ r i. first r (List·Memᴰ·cases-cons i) }
+    where
+      on-x : Keeps (floorX floors) v
+      on-x =
+          nn-by (Z ∷ P ∷ []) (λ l v. ⊝ l ⊗ v .d ⊖ (con (negsuc 0) ⊗ v .x ⊕ con (pos 0) ⊗ v .y) ≐ v .x ⊖ l ⊗ v .d) refl (floors .lx) v
+          (sub-nn (n .x-not-below))
+
+      on-y : Keeps (floorY floors) v
+      on-y =
+          nn-by (Z ∷ P ∷ []) (λ l v. ⊝ l ⊗ v .d ⊖ (con (pos 0) ⊗ v .x ⊕ con (negsuc 0) ⊗ v .y) ≐ v .y ⊖ l ⊗ v .d) refl (floors .ly) v
+          (sub-nn (n .y-not-below))
+
+      second : (r : Constraint) → (r ≡ floorY floors) ⊎ List·Memᴰ r rules → Keeps r v
+      second r (inl e) = subst (λ s. Keeps s v) (sym e) on-y
+      second r (inr i) = k r i
+
+      first : (r : Constraint) → (r ≡ floorX floors) ⊎ List·Memᴰ r (floorY floors ∷ rules) → Keeps r v
+      first r (inl e) = subst (λ s. Keeps s v) (sym e) on-x
+      first r (inr i) = second r (List·Memᴰ·cases-cons i)
 
 -- ---- lawful directions
 

@@ -5,7 +5,9 @@ use mir.Syntax.{w16}
 use mir.Val.{SFits, toZ}
 use Rattle.records.specs.declared.fields.Fields.{Fields}
 use Rattle.records.proofs.Numbers.{widens, widened}
-use Rattle.records.proofs.HeaderTests.{zero-floors}
+use Rattle.records.specs.Layout.{layoutOf}
+use Rattle.records.specs.Header.{floorsIn}
+use Rattle.records.proofs.Small.{floors-read}
 use borrow.Author.Needs.{needs}
 use Rattle.records.proofs.heading_of.Statement.{statement}
 use Rattle.records.proofs.heading_of.Tie as tie
@@ -22,19 +24,21 @@ cast-t9 c =
 
 returns : tie.Need-returns
 returns c =
-    let e = c .before .before .before .fields-at .ensures in
-    let fp : SFits w16 (c .before .before .signed16 .result) = search needs in
-    let fq : SFits w16 (c .before .signed162 .result) = search needs in
+    let e = c .before .before .before .before .fields-at .ensures in
+    let fp : SFits w16 (c .before .before .before .signed16 .result) = search needs in
+    let fq : SFits w16 (c .before .before .signed162 .result) = search needs in
     let p =
-    widened w16 (c .before .before .signed16 .result) fp (lit≤ tt) ∙ c .before .before .signed16 .ensures
+    widened w16 (c .before .before .before .signed16 .result) fp (lit≤ tt) ∙ c .before .before .before .signed16 .ensures
     ∙ ap (λ (f : Fields). toZ w16 (f .a)) e in
     let q =
-    widened w16 (c .before .signed162 .result) fq (lit≤ tt) ∙ c .before .signed162 .ensures ∙ ap (λ (f : Fields). toZ w16 (f .b)) e in
+    widened w16 (c .before .before .signed162 .result) fq (lit≤ tt) ∙ c .before .before .signed162 .ensures ∙ ap (λ (f : Fields). toZ w16 (f .b)) e in
     let n = ap (λ (f : Fields). f .label) e in
     let l = ap (λ (f : Fields). f .link) e in
+    let start = c .before .before .before .before .before in
+    let L = layoutOf (start .before .args .version) in
     let z =
-    zero-floors (c .before .before .before .before .before .args .version)
-    (c .before .before .before .before .before .args .book .now) in
+    c .before .floors-in .ensures ∙ ap (λ (f : Fields). floorsIn L (f .c)) e
+    ∙ floors-read L (start .before .args .book .now) (λ i. start .shared-slice-known .given i .fits) in
     λ j. record {
       fault = c .fault .ensures j;
       terms = record { objective = record { p = p j; q = q j }; floors = z j };
@@ -51,5 +55,6 @@ heading-of-spec =
     cast-t7
     (λ c κs. search needs)
     cast-t9
+    (λ c κs. search needs)
     (λ c κs. search needs)
     returns)

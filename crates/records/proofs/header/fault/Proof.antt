@@ -111,7 +111,7 @@ returns-7 c =
     (count (c .before .before .before .before .before .before .before .before))
     (sym (goal-p (c .before .before .before .before .before .before)) ∙ c .before .before .before .before .before .if5 .left)
     (sym (goal-q (c .before .before .before)) ∙ c .before .before .if6 .left)
-    (c .if7 .taken)
+    (sym (c .before .bad-tail .ensures) ∙ c .if7 .taken)
 
 returns-8 : tie.Need-returns-8
 returns-8 c =
@@ -126,7 +126,7 @@ returns-8 c =
     (count (c .before .before .before .before .before .before .before .before))
     (sym (goal-p (c .before .before .before .before .before .before)) ∙ c .before .before .before .before .before .if5 .left)
     (sym (goal-q (c .before .before .before)) ∙ c .before .before .if6 .left)
-    (c .if7 .left)
+    (sym (c .before .bad-tail .ensures) ∙ c .if7 .left)
 
 pub fault-spec : {M : Type 1} → statement M
 fault-spec =
@@ -146,5 +146,6 @@ fault-spec =
     (λ c κs. search needs)
     (λ c κs. search needs)
     returns-6
+    (λ c κs. search needs)
     returns-7
     returns-8)
