@@ -27,7 +27,7 @@ fn random(random: &mut Random, n: usize) -> Vec<Source> {
     (0..different(n)).map(|_| chain()).collect()
 }
 
-/// Every rule moves the best pair and with it the start pair. The objective is least x; the rules are tangents of a parabola that opens to
+/// Every rule moves the best pair and the start pair. The objective is least x; the rules are tangents of a parabola that opens to
 /// larger x, from far out towards its tip and from both sides in turn, so that each cuts off the corner of the two before it.
 fn adversarial(random: &mut Random, n: usize) -> Vec<Source> {
     let mut chain = || {
@@ -90,10 +90,15 @@ mod tests {
         chains.iter().take(some).map(|chain| expected_as(&TWO, &chain.packed_as(&TWO), way).shown()).collect()
     }
 
+    /// The same chains where nothing is earned, so that the start pair's moves are what is counted.
+    fn idle(random: &mut Random, n: usize) -> Vec<Source> {
+        adversarial(random, n).into_iter().map(|chain| Source { p: 0, ..chain }).collect()
+    }
+
     #[test]
     fn adversarial_rules_all_move() {
         for n in [16, 64, 255, 1_000, 4_095] {
-            for line in shown(adversarial, n) {
+            for line in [shown(adversarial, n), shown(idle, n)].concat() {
                 assert!(line.starts_with("best") && line.ends_with(&format!(" {n} 0")), "{line}");
             }
         }

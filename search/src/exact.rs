@@ -80,7 +80,7 @@ pub fn chosen(p: i128, q: i128, corners: &[Pair], lawful: impl Iterator<Item = (
     Outcome::Best(reduced(best.unwrap()))
 }
 
-/// The start pair: the first corner by least x, then least y.
+/// The start pair: the first corner by least x + y, then least x.
 pub fn start(floors: &[Line; 2], rules: &[Line]) -> Option<Pair> {
     corners(&entries(floors, rules)).iter().min_by(|v, w| by_place(v, w)).map(reduced)
 }
@@ -109,9 +109,9 @@ pub fn meeting(h: &Line, k: &Line) -> Option<Pair> {
     }
 }
 
-/// Least x first, then least y.
+/// Least x + y first, then least x.
 fn by_place(v: &Pair, w: &Pair) -> Ordering {
-    (v.x * w.d).cmp(&(w.x * v.d)).then((v.y * w.d).cmp(&(w.y * v.d)))
+    ((v.x + v.y) * w.d).cmp(&((w.x + w.y) * v.d)).then((v.x * w.d).cmp(&(w.x * v.d)))
 }
 
 fn by_gain(p: i128, q: i128, v: &Pair, w: &Pair) -> Ordering {

@@ -134,6 +134,14 @@ mod tests {
     }
 
     #[test]
+    fn it_has_the_smaller_total() {
+        assert_eq!(counts(&[(-2, -1, -6), (0, 1, 0)]), [0, 1, 1]);
+        assert_eq!(counts(&[(-2, -1, -6), (1, 0, 0)]), [0, 1, 2]);
+        let pairs: Vec<_> = expected(floors(0, 0), &lines(&[(-2, -1, -6), (-1, -1, -4)])).iter().map(|s| s.0).collect();
+        assert_eq!(pairs, [(0, 0), (3, 0), (2, 2)].map(|(x, y)| Some(Pair { x, y, d: 1 })));
+    }
+
+    #[test]
     fn the_floors_are_where_it_begins() {
         let seen = expected(floors(-3, 2), &lines(&[(-1, 0, 3), (-1, 0, 2), (1, 0, -3)]));
         let pair = |x, y| Some(Pair { x, y, d: 1 });

@@ -84,10 +84,10 @@ fn certificate(earlier: &[Constraint], h: Constraint, j: usize, k: usize) -> Wit
     Witness { entries: [earlier.len(), j, k], weights: [u.against(w).abs(), w.against(h).abs(), h.against(u).abs()] }
 }
 
-/// The line of h, turned so that its ray (b, -a) goes up in gain, then down in x, then down in y.
+/// The line of h, turned so that its ray (b, -a) goes up in gain, then down in x + y, then down in x.
 fn upward(h: Constraint, p: i64, q: i64) -> Constraint {
     let gain = p * h.b - q * h.a;
-    let up = gain > 0 || (gain == 0 && (h.b < 0 || (h.b == 0 && h.a > 0)));
+    let up = gain > 0 || (gain == 0 && (h.b < h.a || (h.b == h.a && h.b < 0)));
     if up {
         h
     } else {

@@ -110,13 +110,13 @@ fn begin(objective: Functional, floors: Floors) -> Walk
     }
 }
 
-// Least x, then least y.
+// Least x + y, then least x.
 fn tie() -> Tie
     ensures { λ r. ⌜ r ≡ tieOf ⌝ }
 {
     Tie {
-        first: Functional { p: -1, q: 0 },
-        second: Functional { p: 0, q: -1 },
+        first: Functional { p: -1, q: -1 },
+        second: Functional { p: -1, q: 0 },
     }
 }
 

@@ -1,4 +1,4 @@
--- Document 01's own values: its tie, its floors, and its class examples marked *, with the test that one theorem runs over them.
+-- The documents' own values: the tie, version 1's floors, and its class examples marked *, with the test that one theorem runs over them.
 use mathlib.Core.Path.{_≡_}
 use mathlib.Core.List.{List, [], _∷_}
 use mathlib.Core.Bool.{Bool, true, false, _&&_}
@@ -19,13 +19,10 @@ use Rattle.lp.specs.Outcome.{outcome}
 use Rattle.lp.specs.Prefixes.{one-if, place, moves, opens}
 use Rattle.lp.specs.Certificate.{Weighted, certifies}
 
--- least x, then least y
-abbrev pub leastXThenY : Tie
-leastXThenY = record { first = functional (negsuc 0) (pos 0); second = functional (pos 0) (negsuc 0) }
-
--- the tie of the certificate in force. Every promise and every law says `tie`; what it is stands here alone
+-- least x + y, then least x (document 02, #107): the tie of the certificate in force. Every promise and every law says `tie`; what it is
+-- stands here alone
 abbrev pub tie : Tie
-tie = leastXThenY
+tie = record { first = functional (negsuc 0) (negsuc 0); second = functional (negsuc 0) (pos 0) }
 
 abbrev pub zeroFloors : Floors
 zeroFloors = record { lx = pos 0; ly = pos 0 }

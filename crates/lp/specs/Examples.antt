@@ -71,7 +71,7 @@ classExamples =
     (Optimal (point (pos 2) (pos 3) (pos 1))) 1 1
     ∷ example (atMost (pos 2) (pos 3) (pos 7) ∷ atMost (pos 3) (pos 2) (pos 7) ∷ []) (pos 1) (pos 1)
     (Optimal (point (pos 7) (pos 7) (pos 5))) 1 1
-    ∷ example (atMost (pos 2) (pos 1) (pos 4) ∷ []) (pos 2) (pos 1) (Optimal (point (pos 0) (pos 4) (pos 1))) 0 1
+    ∷ example (atMost (pos 2) (pos 1) (pos 4) ∷ []) (pos 2) (pos 1) (Optimal (point (pos 2) (pos 0) (pos 1))) 0 1
     ∷ example (atMost (pos 1) (negsuc 0) (pos 2) ∷ []) (pos 1) (pos 0) (Unbounded (point (pos 0) (pos 0) (pos 1)) (ray (pos 1) (pos 1))) 0 2
     ∷ impossible (atMost (pos 1) (pos 1) (pos 3) ∷ atLeast (pos 1) (pos 1) (pos 4) ∷ []) (pos 1) (pos 0) 2 (once 2 ∷ once 3 ∷ []) 1 1
     ∷ impossible (atMost (pos 1) (pos 0) (negsuc 0) ∷ []) (pos 0) (pos 0) 1 (once 0 ∷ once 2 ∷ []) 1 0
@@ -82,17 +82,21 @@ classExamples =
 
 -- a gaining direction where no pair is allowed; a parallel rule that is met after a move; a tie that the rule's own direction would break
 -- the other way; a broken start pair of an unlimited prefix, which is no move; a rule after the place; a direction that is a multiple of
--- its lowest terms
+-- its lowest terms; a start pair of least total that has not least x; a rule that breaks the pair of least total and would keep the one of
+-- least x, which is the best pair after it
 abbrev pub pitfalls : List Example
 pitfalls =
     impossible (atMost (pos 1) (pos 0) (negsuc 0) ∷ []) (pos 0) (pos 1) 1 (once 0 ∷ once 2 ∷ []) 0 1
     ∷ example (atMost (pos 1) (pos 0) (pos 5) ∷ atMost (pos 1) (pos 0) (pos 3) ∷ []) (pos 1) (pos 0)
     (Optimal (point (pos 3) (pos 0) (pos 1))) 1 1
-    ∷ example (atLeast (pos 2) (pos 1) (pos 4) ∷ []) (negsuc 1) (negsuc 0) (Optimal (point (pos 0) (pos 4) (pos 1))) 1 0
+    ∷ example (atLeast (pos 2) (pos 1) (pos 4) ∷ []) (negsuc 1) (negsuc 0) (Optimal (point (pos 2) (pos 0) (pos 1))) 1 0
     ∷ example (atLeast (pos 1) (pos 1) (pos 4) ∷ atMost (pos 1) (pos 1) (pos 6) ∷ []) (pos 1) (pos 1)
     (Optimal (point (pos 0) (pos 6) (pos 1))) 0 2
     ∷ impossible (atMost (pos 1) (pos 0) (negsuc 0) ∷ atMost (pos 0) (pos 1) (pos 5) ∷ []) (pos 0) (pos 0) 1 (once 0 ∷ once 2 ∷ []) 1 0
     ∷ example (atMost (pos 2) (negsuc 1) (pos 4) ∷ []) (pos 1) (pos 0) (Unbounded (point (pos 0) (pos 0) (pos 1)) (ray (pos 1) (pos 1))) 0 2
+    ∷ example (atLeast (pos 2) (pos 1) (pos 4) ∷ []) (pos 1) (pos 1) (Unbounded (point (pos 2) (pos 0) (pos 1)) (ray (pos 1) (pos 0))) 0 2
+    ∷ example (atMost (pos 2) (pos 1) (pos 4) ∷ atMost (pos 1) (pos 0) (pos 0) ∷ []) (pos 2) (pos 1)
+    (Optimal (point (pos 0) (pos 4) (pos 1))) 1 1
     ∷ []
 
 -- floors that are not zero: their corner; two floors that a rule clashes with; one that a rule clashes with; a pair below zero on a rule's

@@ -26,9 +26,11 @@ chains =
     chain [] (at (point (pos 0) (pos 0) (pos 1))) 0
     -- none does
     ∷ chain (constraint (pos 1) (pos 2) (pos 8) ∷ constraint (pos 3) (pos 1) (pos 9) ∷ []) (at (point (pos 0) (pos 0) (pos 1))) 0
-    -- every one does: (0, 4), (1, 3), (3/2, 3)
+    -- every one does: (0, 4), (1, 3), (2, 2)
     ∷ chain (atLeast (pos 1) (pos 1) (pos 4) ∷ constraint (pos 0) (pos 1) (pos 3) ∷ atLeast (pos 2) (pos 1) (pos 6) ∷ [])
-    (at (point (pos 3) (pos 6) (pos 2))) 3
+    (at (point (pos 2) (pos 2) (pos 1))) 3
+    -- the first pair is of least total and not of least x, so that the second rule breaks it: (2, 0), (0, 4)
+    ∷ chain (atLeast (pos 2) (pos 1) (pos 4) ∷ constraint (pos 1) (pos 0) (pos 0) ∷ []) (at (point (pos 0) (pos 4) (pos 1))) 2
     -- only the last does
     ∷ chain (constraint (pos 1) (pos 2) (pos 8) ∷ constraint (pos 3) (pos 1) (pos 9) ∷ atLeast (pos 1) (pos 0) (pos 1) ∷ [])
     (at (point (pos 1) (pos 0) (pos 1))) 1

@@ -1,8 +1,8 @@
--- The textbook's meaning: what infeasible, unbounded and optimal are, over all points of any size; and document 01's words for its tie
--- and its directions.
+-- The textbook's meaning: what infeasible, unbounded and optimal are, over all points of any size; and the documents' words for the tie,
+-- the floors and the directions.
 use mathlib.Core.Path.{_≡_}
 use mathlib.Core.List.{List, List·Memᴰ}
-use lib.IntN.{ℤ, pos, _*ℤ_}
+use lib.IntN.{ℤ, pos, _+ℤ_, _*ℤ_}
 use Rattle.ints.specs.Order.{_≤ᶻ_, _<ᶻ_}
 use Rattle.lp.specs.declared.Constraint.{Constraint}
 use Rattle.lp.specs.declared.Functional.{Functional}
@@ -34,10 +34,10 @@ pub record Bounded (S : List Constraint) (f : Functional) : Type 0 where
   pub possible : Possible S
   pub top : Top S f
 
--- document 01: least x, then least y. Of v and w, v is the one to take
+-- document 02, #107: least x + y, then least x. Of v and w, v is the one to take
 pub record NoLater (v w : Point) : Type 0 where
-  pub least-x : v .x *ℤ w .d ≤ᶻ w .x *ℤ v .d
-  pub then-least-y : v .x *ℤ w .d ≡ w .x *ℤ v .d → v .y *ℤ w .d ≤ᶻ w .y *ℤ v .d
+  pub least-total : (v .x +ℤ v .y) *ℤ w .d ≤ᶻ (w .x +ℤ w .y) *ℤ v .d
+  pub then-least-x : (v .x +ℤ v .y) *ℤ w .d ≡ (w .x +ℤ w .y) *ℤ v .d → v .x *ℤ w .d ≤ᶻ w .x *ℤ v .d
 
 -- document 02, #106: a pair is not below the floors
 pub record NotBelow (f : Floors) (v : Point) : Type 0 where

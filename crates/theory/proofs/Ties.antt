@@ -1,5 +1,5 @@
--- Ties that serve: the two functionals are independent, and the tie falls along every direction of the quadrant. Document 01's tie is
--- such, and so is the smaller total of request 107, whose determinant has the other sign.
+-- Ties that serve: the two functionals are independent, and the tie falls along every direction of the quadrant. The smaller total, then
+-- the smaller x, is such.
 use mathlib.Core.Path.{_≡_, refl, sym, _∙_, ap, ap₂, subst}
 use mathlib.Core.List.{[], _∷_}
 use mathlib.Core.Logic.{_⊎_, inl, inr}
@@ -13,7 +13,7 @@ use Rattle.ints.proofs.Order.{le-of-eq, zero-cancel}
 use Rattle.lp.specs.declared.Functional.{Functional}
 use Rattle.lp.specs.declared.Ray.{Ray}
 use Rattle.lp.specs.declared.Tie.{Tie}
-use Rattle.lp.specs.Program.{functional, along}
+use Rattle.lp.specs.Program.{along}
 use Rattle.lp.specs.Outcome.{tieOrder, gainOrder}
 use Rattle.lp.specs.Document.{tie}
 use Rattle.theory.proofs.Solver.{equal, F, R, alongᵖ}
@@ -103,7 +103,7 @@ module _ (t : Tie) (good : GoodTie t) where
       go (nought e) = inr (level-up f d e, tie-falls d hx hy)
       go (plus p) = clashℤ p h
 
--- ---- the two ties of the certificate's editions
+-- ---- the tie of the certificate in force
 
 -- a sum of two coordinates that are not negative and not both 0
 not-null : (d : Ray) → pos 0 ≤ᶻ d .dx → pos 0 ≤ᶻ d .dy → (Null d → ⊥) → (pos 0 <ᶻ d .dx) ⊎ ((d .dx ≡ pos 0) × (pos 0 <ᶻ d .dy))
@@ -120,45 +120,21 @@ not-null d hx hy other = go (sign (d .dx)) (sign (d .dy))
 below : (f : Functional) (d : Ray) (z : ℤ) → along f d ≡ negℤ z → pos 0 <ᶻ z → along f d <ᶻ pos 0
 below f d z e h = subst (λ x. x <ᶻ pos 0) (sym e) (pos-neg (subst (λ x. pos 0 <ᶻ x) (sym (negℤ-negℤ z)) h))
 
-least-x : (d : Ray) → along (tie .first) d ≡ negℤ (d .dx)
-least-x = equal (R ∷ []) (λ d. con (negsuc 0) ⊗ d .dx ⊕ con (pos 0) ⊗ d .dy ≐ ⊝ d .dx) refl
-
 pub tie-good : GoodTie tie
 tie-good =
-    record {
-      independent = λ e. clashℤ (pos-nat 0) (le-of-eq e);
-      falls = λ d hx hy other. go d (not-null d hx hy other);
-    }
-  where
-    least-y : (d : Ray) → along (tie .second) d ≡ negℤ (d .dy)
-    least-y = equal (R ∷ []) (λ d. con (pos 0) ⊗ d .dx ⊕ con (negsuc 0) ⊗ d .dy ≐ ⊝ d .dy) refl
-
-    go :
-        (d : Ray) →
-        (pos 0 <ᶻ d .dx) ⊎ ((d .dx ≡ pos 0) × (pos 0 <ᶻ d .dy)) →
-        (along (tie .first) d <ᶻ pos 0) ⊎ ((along (tie .first) d ≡ pos 0) × (along (tie .second) d <ᶻ pos 0))
-    go d (inl p) = inl (below (tie .first) d (d .dx) (least-x d) p)
-    go d (inr (e, p)) = inr (least-x d ∙ ap negℤ e, below (tie .second) d (d .dy) (least-y d) p)
-
--- least x + y, then least x
-abbrev pub leastTotalThenX : Tie
-leastTotalThenX = record { first = functional (negsuc 0) (negsuc 0); second = functional (negsuc 0) (pos 0) }
-
-pub least-total-then-x-good : GoodTie leastTotalThenX
-least-total-then-x-good =
     record {
       independent = λ e. clashℤ {a = negsuc 0} {b = pos 0} (ltZ-yes tt) (le-of-eq (sym e));
       falls = λ d hx hy other. go d hy (not-null d hx hy other);
     }
   where
-    least-total : (d : Ray) → along (leastTotalThenX .first) d ≡ negℤ (d .dx +ℤ d .dy)
+    least-total : (d : Ray) → along (tie .first) d ≡ negℤ (d .dx +ℤ d .dy)
     least-total = equal (R ∷ []) (λ d. con (negsuc 0) ⊗ d .dx ⊕ con (negsuc 0) ⊗ d .dy ≐ ⊝ (d .dx ⊕ d .dy)) refl
 
     go :
         (d : Ray) →
         pos 0 ≤ᶻ d .dy →
         (pos 0 <ᶻ d .dx) ⊎ ((d .dx ≡ pos 0) × (pos 0 <ᶻ d .dy)) →
-        (along (leastTotalThenX .first) d <ᶻ pos 0)
-        ⊎ ((along (leastTotalThenX .first) d ≡ pos 0) × (along (leastTotalThenX .second) d <ᶻ pos 0))
-    go d hy (inl p) = inl (below (leastTotalThenX .first) d (d .dx +ℤ d .dy) (least-total d) (pos-add-nn p hy))
-    go d hy (inr (e, p)) = inl (below (leastTotalThenX .first) d (d .dx +ℤ d .dy) (least-total d) (nn-add-pos (nn-zero e) p))
+        (along (tie .first) d <ᶻ pos 0)
+        ⊎ ((along (tie .first) d ≡ pos 0) × (along (tie .second) d <ᶻ pos 0))
+    go d hy (inl p) = inl (below (tie .first) d (d .dx +ℤ d .dy) (least-total d) (pos-add-nn p hy))
+    go d hy (inr (e, p)) = inl (below (tie .first) d (d .dx +ℤ d .dy) (least-total d) (nn-add-pos (nn-zero e) p))

@@ -4,7 +4,7 @@ use mathlib.Core.Path.{_≡_, refl, sym, _∙_, ap, subst}
 use mathlib.Core.List.{List, [], _∷_, List·Memᴰ, List·Memᴰ·head, List·Memᴰ·tail, List·Memᴰ·cases-cons}
 use mathlib.Core.Logic.{_⊎_, inl, inr}
 use lib.Dec.{T}
-use lib.IntN.{ℤ, pos, negsuc, _*ℤ_, _-ℤ_, +ℤ-invr}
+use lib.IntN.{ℤ, pos, negsuc, _+ℤ_, _*ℤ_, _-ℤ_, +ℤ-invr}
 use lib.Signed.{clashℤ}
 use Rattle.ints.specs.Order.{_≤ᶻ_, _<ᶻ_}
 use Rattle.ints.proofs.Ring.{_⊕_, _⊖_, _⊗_, ⊝_, _≐_, con}
@@ -23,36 +23,38 @@ use Rattle.theory.proofs.Direction.{AtMost}
 use Rattle.theory.proofs.Lexicographic.{Up}
 use Rattle.theory.proofs.Enumeration.{lawful-recedes, lawful-gains}
 
--- ---- least x, then least y
+-- ---- least x + y, then least x
 
 module _ (v w : Point) where
   abbrev d : Ray
   d = between w v
 
-  x-first : pos 0 ≤ᶻ along (tie .first) d → v .x *ℤ w .d ≤ᶻ w .x *ℤ v .d
-  x-first h =
+  total-first : pos 0 ≤ᶻ along (tie .first) d → (v .x +ℤ v .y) *ℤ w .d ≤ᶻ (w .x +ℤ w .y) *ℤ v .d
+  total-first h =
+      nn-sub (nn-by (P ∷ P ∷ [])
+      (λ v w. (w .x ⊕ w .y) ⊗ v .d ⊖ (v .x ⊕ v .y) ⊗ w .d ≐ con (negsuc 0) ⊗ (betweenᵖ w v) .dx ⊕ con (negsuc 0) ⊗ (betweenᵖ w v) .dy) refl
+      v w h)
+
+  x-next : pos 0 ≤ᶻ along (tie .second) d → v .x *ℤ w .d ≤ᶻ w .x *ℤ v .d
+  x-next h =
       nn-sub (nn-by (P ∷ P ∷ [])
       (λ v w. w .x ⊗ v .d ⊖ v .x ⊗ w .d ≐ con (negsuc 0) ⊗ (betweenᵖ w v) .dx ⊕ con (pos 0) ⊗ (betweenᵖ w v) .dy) refl v w h)
 
-  y-next : pos 0 ≤ᶻ along (tie .second) d → v .y *ℤ w .d ≤ᶻ w .y *ℤ v .d
-  y-next h =
-      nn-sub (nn-by (P ∷ P ∷ [])
-      (λ v w. w .y ⊗ v .d ⊖ v .y ⊗ w .d ≐ con (pos 0) ⊗ (betweenᵖ w v) .dx ⊕ con (negsuc 0) ⊗ (betweenᵖ w v) .dy) refl v w h)
-
-  -- where x is the same, the tie's first half is level
-  level : v .x *ℤ w .d ≡ w .x *ℤ v .d → along (tie .first) d ≡ pos 0
+  -- where the total is the same, the tie's first half is level
+  level : (v .x +ℤ v .y) *ℤ w .d ≡ (w .x +ℤ w .y) *ℤ v .d → along (tie .first) d ≡ pos 0
   level e =
-      equal (P ∷ P ∷ []) (λ v w. con (negsuc 0) ⊗ (betweenᵖ w v) .dx ⊕ con (pos 0) ⊗ (betweenᵖ w v) .dy ≐ w .x ⊗ v .d ⊖ v .x ⊗ w .d) refl
-      v w
-      ∙ ap (λ z. w .x *ℤ v .d -ℤ z) e
-      ∙ +ℤ-invr (w .x *ℤ v .d)
+      equal (P ∷ P ∷ []) (λ v w. con (negsuc 0) ⊗ (betweenᵖ w v) .dx ⊕ con (negsuc 0) ⊗ (betweenᵖ w v) .dy
+      ≐ (w .x ⊕ w .y) ⊗ v .d ⊖ (v .x ⊕ v .y) ⊗ w .d) refl v w
+      ∙ ap (λ z. (w .x +ℤ w .y) *ℤ v .d -ℤ z) e
+      ∙ +ℤ-invr ((w .x +ℤ w .y) *ℤ v .d)
 
   pub first-in-words : AtMost (Up (tieOrder tie)) w v → NoLater v w
   first-in-words (inl more) =
-      record { least-x = x-first (pos-nn more); then-least-y = λ e. clashℤ more (le-of-eq (level e)) }
-  first-in-words (inr (same, inl more)) = record { least-x = x-first (nn-zero same); then-least-y = λ e. y-next (pos-nn more) }
+      record { least-total = total-first (pos-nn more); then-least-x = λ e. clashℤ more (le-of-eq (level e)) }
+  first-in-words (inr (same, inl more)) =
+      record { least-total = total-first (nn-zero same); then-least-x = λ e. x-next (pos-nn more) }
   first-in-words (inr (same, inr (same′, u))) =
-      record { least-x = x-first (nn-zero same); then-least-y = λ e. y-next (nn-zero same′) }
+      record { least-total = total-first (nn-zero same); then-least-x = λ e. x-next (nn-zero same′) }
 
 -- ---- not below the floors
 
