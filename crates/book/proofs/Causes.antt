@@ -169,7 +169,7 @@ module _ (L : Layout) (s : List ℕ) where
         go false false true pa pb pc e = absurd (let z : ⊥ = omega arith in z)
         go false false false pa pb pc e = (refutes (kind-test L r) pa, refutes (slope-test L r) pb, refutes (bound-test L r) pc)
 
-    rule-clear : (WrongKind L r → ⊥) → (WrongSlope L r → ⊥) → (WrongBound L r → ⊥) → numberOf (decodedOf L r) ≡ 0
+    pub rule-clear : (WrongKind L r → ⊥) → (WrongSlope L r → ⊥) → (WrongBound L r → ⊥) → numberOf (decodedOf L r) ≡ 0
     unfolding decodedOf decodedWith
     rule-clear a b c = rw (refuted (kind-test L r) a, refuted (slope-test L r) b, refuted (bound-test L r) c)
 

@@ -71,6 +71,12 @@ place-of f (y ∷ l) x e = go (eqb x (f y)) refl e (place-of f l x)
     go true p e ih = record { place = 0; within = omega arith; value = sym (eqb-true x (f y) p) }
     go false p e ih = let r = ih e in record { place = suc (r .place); within = omega (arith, r .within); value = r .value }
 
+-- the value of what stands in a list stands in the list of the values
+pub memb-map : (f : ℕ → ℕ) (l : List ℕ) (i : ℕ) → memb i l ≡ true → memb (f i) (map f l) ≡ true
+memb-map f l i m =
+    let p = place-of (λ (j : ℕ). j) l i (ap (memb i) (map-same l) ∙ m) in
+    subst (λ (x : ℕ). memb (f x) (map f l) ≡ true) (p .value) (memb-at f l (p .place) (p .within))
+
 -- a list whose values under f differ, and one more that differs from all of them
 pub apart-snoc : (f : ℕ → ℕ) (l : List ℕ) (i : ℕ) →
     ((j : ℕ) → j < length l → f (getD l j 0) ≡ f i → ⊥) →

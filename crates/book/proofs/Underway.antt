@@ -1,4 +1,4 @@
--- The state of the walk in the code: what the runs and the tables hold where the records of the chain so far are passed, and what one link
+-- The state of the walk in the code: what the runs and the table of labels hold where the records of the chain so far are passed, and what one link
 -- more makes of it.
 use Prim.Native.Nat.{ℕ, suc, _+_, _*_, _≤_, _<_}
 use mathlib.Core.Path.{_≡_, refl, sym, ap, _∙_, subst, subst⁻¹}
@@ -31,17 +31,16 @@ use Rattle.book.proofs.Causes.{header-good, rule-good, ends-faulty, wal
 use Rattle.book.proofs.Runs.{records-length, records-snoc, rules-length, rules-snoc}
 use Rattle.book.proofs.Leading.{NewRule}
 
--- no version has more records than the table of marks has bits
+-- no version has more records than 4,096, so that their number is small
 pub few-records : (v : Version) → layoutOf v .records ≤ 4096
 few-records One = lit≤ tt
 few-records Two = lit≤ tt
 
 pub record Underway
     (L : Layout) (s : List ℕ) (first : List ℕ) (blank : List ℤ)
-    (marks labels indices : List ℕ) (rules : List ℤ) (n at link : ℕ) : Type 0 where
+    (labels indices : List ℕ) (rules : List ℤ) (n at link : ℕ) : Type 0 where
   pub done : List ℕ
   pub walked : Walked L s done at
-  pub visited : Noted 64 marks done
   pub met : Noted 1024 labels (map (labelAt L s) done)
   pub recorded : indices ≡ putRecords first 0 (map (entryAt L s) done)
   pub ruled : rules ≡ putRules blank 0 (map (entryAt L s) done)
@@ -50,13 +49,12 @@ pub record Underway
 
 pub starts : {L : Layout} {s : List ℕ} {h : Heading} (first : List ℕ) (blank : List ℤ) →
     Headed L s h →
-    Underway L s first blank (replicate 64 0) (replicate 1024 0) first blank 0 0 (h .link)
+    Underway L s first blank (replicate 1024 0) first blank 0 0 (h .link)
 unfolding putRecords putRules
 starts {L} {s} first blank h =
     record {
       done = [];
       walked = header-good L s (sym (ap (λ (x : Heading). x .fault) (h .heading)) ∙ h .clear);
-      visited = noted-start 64;
       met = noted-start 1024;
       recorded = refl;
       ruled = refl;
@@ -81,8 +79,8 @@ refused-at-once L s first blank e n q =
 
 module _
     {L : Layout} {s : List ℕ} {first : List ℕ} {blank : List ℤ}
-    {marks labels indices : List ℕ} {rules : List ℤ} {n at link : ℕ}
-    (w : Underway L s first blank marks labels indices rules n at link) where
+    {labels indices : List ℕ} {rules : List ℤ} {n at link : ℕ}
+    (w : Underway L s first blank labels indices rules n at link) where
   -- where the walk ends, the runs are as the promise says
   pub finished : {r : Reading} {h : Head} →
       endOf L s ≡ record { reading = r; passed = w .done } →
@@ -117,7 +115,7 @@ module _
 
   -- a new rule is passed
   module _
-      {r : Rule} {next : ℕ} (bytes : Bytes s) (few : L .records ≤ 4096) (some : link ≡ 0 → ⊥)
+      {r : Rule} {next : ℕ} (bytes : Bytes s) (some : link ≡ 0 → ⊥)
       (new : NewRule L s (w .done) link r next) where
     further : Walked L s (w .done ++ (link ∷ [])) link
     further =
@@ -136,20 +134,15 @@ module _
     label-is : r .label ≡ labelAt L s link
     label-is = ap (λ (x : Rule). x .label) (new .rule)
 
-    pub steps : {marks′ labels′ indices′ : List ℕ} {rules′ : List ℤ} →
-        marks′ ≡ noting marks link →
+    pub steps : {labels′ indices′ : List ℕ} {rules′ : List ℤ} →
         labels′ ≡ noting labels (r .label) →
         indices′ ≡ set indices n link →
         rules′ ≡ putEntry rules n (plannedRule r) →
-        Underway L s first blank marks′ labels′ indices′ rules′ (n + 1) link next
-    steps m l i q =
+        Underway L s first blank labels′ indices′ rules′ (n + 1) link next
+    steps l i q =
         record {
           done = w .done ++ (link ∷ []);
           walked = further;
-          visited =
-              subst⁻¹ (λ (t : List ℕ). Noted 64 t (w .done ++ (link ∷ []))) m
-              (noted-step (w .visited) link (omega (arith, new .within, count-few))
-              (w .visited .agrees link (omega (arith, new .within, count-few)) ∙ new .unvisited));
           met =
               subst⁻¹ (λ (t : List ℕ). Noted 1024 t (map (labelAt L s) (w .done ++ (link ∷ [])))) (l ∙ ap (noting labels) label-is)
               (subst (Noted 1024 (noting labels (labelAt L s link))) (sym (map-snoc (labelAt L s) (w .done) link))

@@ -1,5 +1,4 @@
--- The code's tables of the records visited and of the labels met: a bit for each, 64 to a word. Only functions that the crate keeps to
--- itself cite them.
+-- The code's table of the labels met: a bit for each, 64 to a word. Only functions that the crate keeps to itself cite it.
 use Prim.Native.Nat.{ℕ, _+_, _/_, _%_, _^_}
 use mathlib.Core.Bool.{Bool}
 use mathlib.Core.List.{List}

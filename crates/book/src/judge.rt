@@ -1,4 +1,5 @@
 // One link of the chain judged.
+use crate::again::again;
 use crate::tables::note;
 use crate::tables::noted;
 use reader::visit;
@@ -16,25 +17,23 @@ pub enum Judged {
     Refused(u8, u16),
 }
 
-// A link of the chain judged, which record `at` holds, by the records visited and the labels met before it. A sound rule is noted in both
-// tables; else they stay as they are. A link of 0 ends the chain and is not for judging: it would be taken for one to the header.
+// A link of the chain judged, which record `at` holds, by the labels met on the n records passed before it. A record that was passed was
+// sound then, and its label is noted, so a link back to it is found by its label. The label of a sound rule is noted; else the table stays
+// as it is. A link of 0 ends the chain and is not for judging: it would be taken for one to the header.
 pub fn judge(
     version: Version,
     book: &[u8],
-    marks: &mut [u64],
     labels: &mut [u64],
     count: u16,
+    n: usize,
     at: u16,
     link: u16,
 ) -> Judged
-    ensures { λ r. ⌜ Judges (layoutOf version) (now (book .entry)) (now (marks .entry)) (now (labels .entry)) count at link
-        r (now (marks .exit)) (now (labels .exit)) ⌝ }
+    ensures { λ r. ⌜ Judges (layoutOf version) (now (book .entry)) (now (labels .entry)) count n at link
+        r (now (labels .exit)) ⌝ }
 {
     if link > count {
         return Judged::Refused(6, at);
-    }
-    if noted(&*marks, link) {
-        return Judged::Refused(7, at);
     }
     let decoded = visit(version, book, link);
     let Decoded::Sound(rule, next) = decoded else {
@@ -42,9 +41,8 @@ pub fn judge(
     };
     let label = rule.label;
     if noted(&*labels, label) {
-        return Judged::Refused(12, link);
+        return again(version, book, n, at, link);
     }
-    note(marks, link);
     note(labels, label);
     Judged::Sound(rule, next)
 }

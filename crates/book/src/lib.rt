@@ -1,5 +1,6 @@
 // A rule book as a whole: what it reads as, along its chain, and what turns it back. Every function that can be called
 // from outside is total: it takes any bytes and answers.
+mod again;
 mod judge;
 mod put;
 mod tables;

@@ -1,4 +1,4 @@
-// The records visited and the labels met: a bit for each, 64 to a word. A table that is too short notes nothing beyond it.
+// The labels met: a bit for each, 64 to a word. A table that is too short notes nothing beyond it.
 ghost use mathlib.Core.Path.{_≡_};
 ghost use mathlib.Core.Bool.{false};
 ghost use Rattle.book.specs.Tables.{isNoted, noting};

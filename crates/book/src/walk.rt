@@ -25,14 +25,13 @@ pub fn walk(
     ensures { λ r. ⌜ ReadInto (layoutOf version) (now (book .entry)) (now (indices .entry)) (now (rules .entry))
         r (now (indices .exit)) (now (rules .exit)) ⌝ }
 {
-    let mut marks = [0u64; 64];
     let mut labels = [0u64; 1024];
     let count = heading.count;
     let mut n: usize = 0;
     let mut at: u16 = 0;
     let mut link = heading.link;
     while link != 0 {
-        match judge(version, book, &mut marks, &mut labels, count, at, link) {
+        match judge(version, book, &mut labels, count, n, at, link) {
             Judged::Refused(number, record) => return refused(number, record),
             Judged::Sound(rule, next) => {
                 put_record(&mut *indices, n, link);

@@ -1,4 +1,4 @@
--- `book::judge::judge` meets its contract: each way out is one case of `judged`, in the order of the documents.
+-- `book::judge::judge` meets its contract: each way out is one case of `judged`.
 use native.Mathlib.Omega.{arith}
 use Prim.Native.Nat.{ℕ}
 use mathlib.Core.Path.{_≡_, refl, sym, ap, _∙_}
@@ -14,7 +14,7 @@ use Rattle.records.specs.Record.{numberOf}
 use Rattle.records.proofs.Checks.{sound-holds}
 use Rattle.book.specs.declared.judge.Judged.the-variants.{Sound, Refused}
 use Rattle.book.specs.Tables.{isNoted}
-use Rattle.book.proofs.Leading.{judged-over, judged-again, judged-fault, judged-repeat, judged-sound}
+use Rattle.book.proofs.Leading.{judged-over, judged-fault, judged-met, judged-sound, again-kept}
 use borrow.Author.Needs.{needs}
 use Rattle.book.proofs.judge.judge.Statement.{statement}
 use Rattle.book.proofs.judge.judge.Tie as tie
@@ -28,97 +28,62 @@ fault decoded.Bound h e = omega arith
 
 returns : tie.Need-returns
 returns c =
-    let a = c .before .before .before .before .args in
+    let a = c .before .before .before .args in
     record {
-      answer =
-          judged-over (layoutOf (a .version)) (a .book .now) (a .marks .now) (a .labels .now) (a .count) (a .at) (a .link)
-          (c .if1 .taken);
-      visited = refl;
+      answer = judged-over (layoutOf (a .version)) (a .book .now) (a .labels .now) (a .count) (a .n) (a .at) (a .link) (c .if1 .taken);
       met = refl;
     }
 
 returns-2 : tie.Need-returns-2
 returns-2 c =
-    let a = c .before .before .before .before .before .before .before .args in
-    record {
-      answer =
-          judged-again (layoutOf (a .version)) (a .book .now) (a .marks .now) (a .labels .now) (a .count) (a .at) (a .link)
-          (c .before .before .before .if1 .left)
-          (sym (c .before .noted .ensures) ∙ c .if2 .taken);
-      visited = refl;
-      met = refl;
-    }
-
-returns-3 : tie.Need-returns-3
-returns-3 c =
-    let a = c .before .before .before .before .before .before .before .before .before .before .args in
+    let a = c .before .before .before .before .before .before .args in
     let d = c .before .before .visit in
     let f = fault (d .result) (c .before .match .keys2) in
     record {
       answer =
           ap (λ (k : ℕ). Refused k (a .link)) (c .number-of .ensures ∙ ap numberOf (d .ensures))
-          ∙ judged-fault (layoutOf (a .version)) (a .book .now) (a .marks .now) (a .labels .now) (a .count) (a .at) (a .link)
-          (c .before .before .before .before .before .before .if1 .left)
-          (sym (c .before .before .before .before .noted .ensures) ∙ c .before .before .before .if2 .left)
-          (rw (d .ensures) at f);
-      visited = refl;
+          ∙ judged-fault (layoutOf (a .version)) (a .book .now) (a .labels .now) (a .count) (a .n) (a .at) (a .link)
+          (c .before .before .before .if1 .left) (rw (d .ensures) at f);
       met = refl;
     }
 
-returns-4 : tie.Need-returns-4
-returns-4 c =
-    let a = c .before .before .before .before .before .before .before .before .before .before .before .before .before .before .args in
-    let d = c .before .before .before .before .before .before .visit in
-    let e = c .before .before .before .before .decoded .given .1 in
+returns-3 : tie.Need-returns-3
+returns-3 c =
+    let a = c .before .before .before .before .before .before .before .before .before .before .before .args in
+    let d = c .before .before .before .before .before .before .before .visit in
+    let e = c .before .before .before .before .before .decoded .given .1 in
     let held = sound-holds (layoutOf (a .version)) _ _ _ (sym (d .ensures) ∙ e) in
     let label = ap (λ (r : Rule). r .label) (held .0) in
     record {
       answer =
-          judged-repeat (layoutOf (a .version)) (a .book .now) (a .marks .now) (a .labels .now) (a .count) (a .at) (a .link)
-          (c .before .before .before .before .before .before .before .before .before .before .if1 .left)
-          (sym (c .before .before .before .before .before .before .before .before .noted .ensures)
-          ∙ c .before .before .before .before .before .before .before .if2 .left)
+          judged-met (layoutOf (a .version)) (a .book .now) (a .labels .now) (a .count) (a .n) (a .at) (a .link)
+          (c .before .before .before .before .before .before .before .before .if1 .left)
           (ap numberOf (sym (d .ensures) ∙ e))
-          (ap (isNoted (a .labels .now)) (sym label) ∙ sym (c .before .noted2 .ensures) ∙ c .if3 .taken);
-      visited = refl;
-      met = refl;
+          (ap (isNoted (a .labels .now)) (sym label) ∙ sym (c .before .before .noted .ensures) ∙ c .before .if2 .taken)
+          (c .again .ensures);
+      met = again-kept (layoutOf (a .version)) (a .book .now) (a .n) (a .at) (a .link) (a .labels .now) (c .again .ensures);
     }
 
 note-requires : tie.Need-note-requires
-note-requires c κs =
-    sym (c .before .before .before .before .before .before .before .before .before .noted .ensures)
-    ∙ c .before .before .before .before .before .before .before .before .if2 .left
+note-requires c κs = sym (c .before .before .noted .ensures) ∙ c .before .if2 .left
 
-note-requires-2 : tie.Need-note-requires-2
-note-requires-2 c κs =
-    sym (c .before .before .before .before .before .before .noted2 .ensures) ∙ c .before .before .before .before .before .if3 .left
-
-returns-5 : tie.Need-returns-5
-returns-5 c =
-    let a =
-    c .before .before .before .before .before .before .before .before .before .before .before .before .before .before .before .before
-    .before .before .before .before .before .before .args in
-    let d = c .before .before .before .before .before .before .before .before .before .before .before .before .before .before .visit in
-    let e = c .before .before .before .before .before .before .before .before .before .before .before .before .decoded .given .1 in
+returns-4 : tie.Need-returns-4
+returns-4 c =
+    let a = c .before .before .before .before .before .before .before .before .before .before .before .before .before .before .args in
+    let d = c .before .before .before .before .before .before .before .before .before .before .visit in
+    let e = c .before .before .before .before .before .before .before .before .decoded .given .1 in
     let held = sound-holds (layoutOf (a .version)) _ _ _ (sym (d .ensures) ∙ e) in
     let label = ap (λ (r : Rule). r .label) (held .0) in
     record {
       answer =
           (λ j. Sound (held .0 j) (held .1 j))
-          ∙ judged-sound (layoutOf (a .version)) (a .book .now) (a .marks .now) (a .labels .now) (a .count) (a .at) (a .link)
-          (c .before .before .before .before .before .before .before .before .before .before .before .before .before .before .before
-          .before .before .before .if1 .left)
-          (sym
-          (c .before .before .before .before .before .before .before .before .before .before .before .before .before .before .before
-          .before .noted .ensures)
-          ∙ c .before .before .before .before .before .before .before .before .before .before .before .before .before .before
-          .before .if2 .left)
+          ∙ judged-sound (layoutOf (a .version)) (a .book .now) (a .labels .now) (a .count) (a .n) (a .at) (a .link)
+          (c .before .before .before .before .before .before .before .before .before .before .before .if1 .left)
           (ap numberOf (sym (d .ensures) ∙ e))
           (ap (isNoted (a .labels .now)) (sym label)
-          ∙ sym (c .before .before .before .before .before .before .before .before .before .noted2 .ensures)
-          ∙ c .before .before .before .before .before .before .before .before .if3 .left);
-      visited = c .before .before .before .before .before .before .note .ensures;
-      met = c .before .before .note2 .ensures;
+          ∙ sym (c .before .before .before .before .before .noted .ensures)
+          ∙ c .before .before .before .before .if2 .left);
+      met = c .before .before .note .ensures;
     }
 
 pub judge-spec : {M : Type 1} → statement M
@@ -128,18 +93,12 @@ judge-spec =
     returns
     (λ c κs. search needs)
     (λ c. search needs)
+    (λ c κs. search needs)
     returns-2
     (λ c κs. search needs)
-    (λ c. search needs)
     (λ c κs. search needs)
     (λ c. search needs)
     returns-3
-    (λ c κs. search needs)
-    (λ c. search needs)
-    (λ c. search needs)
-    returns-4
     note-requires
-    note-requires-2
     (λ c. search needs)
-    (λ c. search needs)
-    returns-5)
+    returns-4)

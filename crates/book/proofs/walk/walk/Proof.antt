@@ -8,7 +8,7 @@ use Rattle.records.specs.Number.{Bytes}
 use Rattle.records.specs.Header.{countOf}
 use Rattle.book.specs.declared.judge.Judged.{Judged}
 use Rattle.book.specs.Runs.{putEntry}
-use Rattle.book.specs.Judging.{marksAfter, labelsAfter}
+use Rattle.book.specs.Judging.{labelsAfter}
 use Rattle.book.proofs.Leading.{NewRule, Leads, leads-to}
 use Rattle.book.proofs.Underway.{Underway, few-records, starts, finished, same-indices, same-rules, chain-ends, chain-length, more-room, count-few, steps}
 use borrow.Author.Needs.{needs}
@@ -16,11 +16,11 @@ use Rattle.book.proofs.walk.walk.Statement.{statement}
 use Rattle.book.proofs.walk.walk.Tie as tie
 
 abbrev Inv-loop : tie.InvT-loop
-Inv-loop version book heading indices₀ rules₀ marks₀ labels₀ count n₀ at₀ link₀ indices rules marks labels n at link =
-    Underway (layoutOf version) book indices₀ rules₀ marks labels indices rules n at link
+Inv-loop version book heading indices₀ rules₀ labels₀ count n₀ at₀ link₀ indices rules labels n at link =
+    Underway (layoutOf version) book indices₀ rules₀ labels indices rules n at link
 
 abbrev μ-loop : tie.MeasureT-loop
-μ-loop version book heading indices₀ rules₀ marks₀ labels₀ count n₀ at₀ link₀ indices rules marks labels n at link =
+μ-loop version book heading indices₀ rules₀ labels₀ count n₀ at₀ link₀ indices rules labels n at link =
     layoutOf version .records - n
 
 loop-holds : tie.Need-loop-holds Inv-loop μ-loop
@@ -32,60 +32,48 @@ bytes c = λ i. c .shared-slice-known .given i .fits
 
 -- what the judged link means for the walk
 told : (c : tie.After-labels2 Inv-loop μ-loop) {j : Judged} →
-    c .before .before .judge .result ≡ j →
-    Leads (bytes (c .before .before .before .before .before .before .before .before))
-    (few-records (c .before .before .before .before .before .before .before .before .before .args .version))
-    (c .before .before .before .before .before .before .loop .inv .walked)
-    (c .before .before .before .before .before .before .loop .inv .visited)
-    (c .before .before .before .before .before .before .loop .inv .met)
-    (c .before .before .before .before .before .before .loop .inv .held)
-    (c .before .before .before .before .before .loop-test .taken) j
+    c .before .judge .result ≡ j →
+    Leads (bytes (c .before .before .before .before .before .before))
+    (c .before .before .before .before .loop .inv .walked)
+    (c .before .before .before .before .loop .inv .count)
+    (c .before .before .before .before .loop .inv .met)
+    (c .before .before .before .before .loop .inv .held)
+    (c .before .before .before .loop-test .taken) j
 told c e =
-    let l = c .before .before .before .before .before .before .loop in
-    leads-to (bytes (c .before .before .before .before .before .before .before .before))
-    (few-records (c .before .before .before .before .before .before .before .before .before .args .version)) (l .inv .walked)
-    (l .inv .visited) (l .inv .met)
-    (l .inv .held) (c .before .before .before .before .before .loop-test .taken)
-    (ap (λ (h : Heading). h .count) (c .before .before .before .before .before .before .before .before .before .pre .heading))
-    (c .before .before .judge .ensures .answer) e
+    let l = c .before .before .before .before .loop in
+    leads-to (bytes (c .before .before .before .before .before .before)) (l .inv .walked) (l .inv .count) (l .inv .met) (l .inv .held)
+    (c .before .before .before .loop-test .taken)
+    (ap (λ (h : Heading). h .count) (c .before .before .before .before .before .before .before .pre .heading))
+    (c .before .judge .ensures .answer) e
 
 returns : tie.Need-returns Inv-loop μ-loop
 returns c =
-    finished (c .before .before .before .before .before .before .before .before .before .before .loop .inv)
-    (told (c .before .before .before .before) (c .before .before .number .given .1)) (c .refused .ensures)
+    finished (c .before .before .before .before .before .before .before .before .loop .inv) (told (c .before .before .before .before) (c .before .before .number .given .1)) (c .refused .ensures)
 
 -- a sound record that was not visited
 reached : (c : tie.After-known-told2 Inv-loop μ-loop) →
     NewRule
-    (layoutOf (c .before .before .before .before .before .before .before .before .before .before .before .before .args .version))
-    (c .before .before .before .before .before .before .before .before .before .before .before .before .args .book .now)
-    (c .before .before .before .before .before .before .before .before .before .loop .inv .done)
-    (c .before .before .before .before .before .before .before .before .before .loop .link)
+    (layoutOf (c .before .before .before .before .before .before .before .before .before .before .args .version))
+    (c .before .before .before .before .before .before .before .before .before .before .args .book .now)
+    (c .before .before .before .before .before .before .before .loop .inv .done)
+    (c .before .before .before .before .before .before .before .loop .link)
     (c .before .rule .given .0 .0) (c .before .rule .given .0 .1 .0)
 reached c = told (c .before .before .before) (c .before .rule .given .1)
 
 room : (c : tie.After-known-told2 Inv-loop μ-loop) →
-    c .before .before .before .before .before .before .before .before .before .loop .n < countOf
-    (layoutOf (c .before .before .before .before .before .before .before .before .before .before .before .before .args .version))
-    (c .before .before .before .before .before .before .before .before .before .before .before .before .args .book .now)
+    c .before .before .before .before .before .before .before .loop .n < countOf
+    (layoutOf (c .before .before .before .before .before .before .before .before .before .before .args .version))
+    (c .before .before .before .before .before .before .before .before .before .before .args .book .now)
 room c =
-    more-room (c .before .before .before .before .before .before .before .before .before .loop .inv)
-    (bytes (c .before .before .before .before .before .before .before .before .before .before .before))
-    (few-records (c .before .before .before .before .before .before .before .before .before .before .before .before .args .version))
-    (c .before .before .before .before .before .before .before .before .loop-test .taken) (reached c)
+    more-room (c .before .before .before .before .before .before .before .loop .inv) (bytes (c .before .before .before .before .before .before .before .before .before)) (c .before .before .before .before .before .before .loop-test .taken) (reached c)
 
 put-entry-requires : tie.Need-put-entry-requires Inv-loop μ-loop
 put-entry-requires c κs =
     omega (
       arith,
       room (c .before .before .before .before .before .before),
-      count-few
-          (c .before .before .before .before .before .before .before .before .before .before .before .before .before .before
-          .before .loop .inv),
-      few-records
-          (c .before .before .before .before .before .before .before .before .before .before .before .before .before .before
-          .before .before
-          .before .before .args .version),
+      count-few (c .before .before .before .before .before .before .before .before .before .before .before .before .before .loop .inv),
+      few-records (c .before .before .before .before .before .before .before .before .before .before .before .before .before .before .before .before .args .version),
     )
 
 add-n : tie.Need-add-n Inv-loop μ-loop
@@ -93,14 +81,8 @@ add-n c =
     omega (
       arith,
       room (c .before .before .before .before .before .before .before .before),
-      count-few
-          (c .before .before .before .before .before .before .before .before .before .before .before .before .before .before
-          .before .before
-          .before .loop .inv),
-      few-records
-          (c .before .before .before .before .before .before .before .before .before .before .before .before .before .before
-          .before .before
-          .before .before .before .before .args .version),
+      count-few (c .before .before .before .before .before .before .before .before .before .before .before .before .before .before .before .loop .inv),
+      few-records (c .before .before .before .before .before .before .before .before .before .before .before .before .before .before .before .before .before .before .args .version),
     )
 
 loop-less : tie.Need-loop-less Inv-loop μ-loop
@@ -108,41 +90,26 @@ loop-less c =
     omega (
       arith,
       room (c .before .before .before .before .before .before .before .before),
-      count-few
-          (c .before .before .before .before .before .before .before .before .before .before .before .before .before .before
-          .before .before
-          .before .loop .inv),
+      count-few (c .before .before .before .before .before .before .before .before .before .before .before .before .before .before .before .loop .inv),
     )
 
 loop-again : tie.Need-loop-again Inv-loop μ-loop
 loop-again c =
-    let l =
-    c .before .before .before .before .before .before .before .before .before .before .before .before .before .before .before
-    .before
-    .before .loop in
+    let l = c .before .before .before .before .before .before .before .before .before .before .before .before .before .before .before .loop in
     let e = c .before .before .before .before .before .before .before .before .before .rule .given .1 in
-    let judge = c .before .before .before .before .before .before .before .before .before .before .before .before .before .judge in
+    let judge = c .before .before .before .before .before .before .before .before .before .before .before .before .judge in
     steps (l .inv)
-    (bytes
-    (c .before .before .before .before .before .before .before .before .before .before .before .before .before .before .before
-    .before
-    .before .before .before))
-    (few-records
-    (c .before .before .before .before .before .before .before .before .before .before .before .before .before .before .before
-    .before
-    .before .before .before .before .args .version))
-    (c .before .before .before .before .before .before .before .before .before .before .before .before .before .before .before
-    .before .loop-test .taken) (reached (c .before .before .before .before .before .before .before .before))
-    (judge .ensures .visited ∙ ap (λ (r : Judged). marksAfter r (l .marks) (l .link)) e)
+    (bytes (c .before .before .before .before .before .before .before .before .before .before .before .before .before .before .before .before .before))
+    (c .before .before .before .before .before .before .before .before .before .before .before .before .before .before .loop-test .taken) (reached (c .before .before .before .before .before .before .before .before))
     (judge .ensures .met ∙ ap (λ (r : Judged). labelsAfter r (l .labels)) e)
     (c .before .before .before .before .before .before .put-record .ensures)
     (c .before .put-entry .ensures ∙ ap (putEntry (l .rules) (l .n)) (c .before .before .constraint .ensures))
 
 same-length : tie.Need-same-length Inv-loop μ-loop
-same-length c = same-indices (c .before .before .before .before .before .before .before .before .before .before .loop .inv)
+same-length c = same-indices (c .before .before .before .before .before .before .before .before .loop .inv)
 
 same-length-2 : tie.Need-same-length-2 Inv-loop μ-loop
-same-length-2 c = same-rules (c .before .before .before .before .before .before .before .before .before .before .loop .inv)
+same-length-2 c = same-rules (c .before .before .before .before .before .before .before .before .loop .inv)
 
 same-length-3 : tie.Need-same-length-3 Inv-loop μ-loop
 same-length-3 c = same-indices (c .before .before .loop .inv)
@@ -164,7 +131,6 @@ walk-spec =
     Inv-loop
     μ-loop
     loop-holds
-    (λ c. search needs)
     (λ c. search needs)
     (λ c κs. search needs)
     (λ c. search needs)
