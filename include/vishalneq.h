@@ -57,6 +57,13 @@ size_t vishalneq_start_after2(const uint8_t *book, size_t book_length, size_t pr
 size_t vishalneq_repack(const uint8_t *book, size_t book_length, uint8_t *out, size_t out_length);
 size_t vishalneq_repack2(const uint8_t *book, size_t book_length, uint8_t *out, size_t out_length);
 
+/* The line of one plan for two books of version 2, a site's and a tenant's: the site's rules and then the tenant's, under the tenant's
+ * objective and of each floor the greater. A witness names a rule by its book, S or T, and its record behind it; a refusal says which book
+ * is turned back, "refused site" or "refused tenant", with number and record. The line with its line feed stands at the start of `out`;
+ * hands back its length. A buffer of less than VISHALNEQ_LINE bytes is left as it is, and 0 handed back. */
+size_t vishalneq_joint(const uint8_t *site, size_t site_length, const uint8_t *tenant, size_t tenant_length, uint8_t *out,
+                       size_t out_length);
+
 #ifdef __cplusplus
 }
 #endif

@@ -42,8 +42,10 @@ fn adversarial(random: &mut Random, n: usize) -> Vec<Source> {
 fn tip(random: &mut Random, n: usize) -> (i64, i64) {
     if n <= 255 {
         (random.between(20_000, 1_000_000), random.between(200, 1_000_000))
-    } else {
+    } else if n <= 4_095 {
         (random.between(5_000_000, 10_000_000), random.between(3_000, 200_000))
+    } else {
+        (random.between(17_000_000, 25_000_000), random.between(5_000, 110_000))
     }
 }
 

@@ -8,12 +8,26 @@ mod measure;
 
 use chains::Chains;
 use measure::{least, measure, median, same_lines, Planner, FEW_ROUNDS, ROUNDS};
+use search::book::Source;
 use search::layout::Layout;
 use search::random::Random;
+
+/// A chain of one book, and one whose first half is a site's book and whose second half a tenant's, which stand one behind the other.
+pub fn single(chain: &Source, layout: &Layout) -> Vec<u8> {
+    chain.packed_as(layout)
+}
+
+pub fn halved(chain: &Source, layout: &Layout) -> Vec<u8> {
+    let (site, tenant) = chain.rules.split_at(chain.rules.len() / 2);
+    let book = |rules: &[search::book::Rule]| Source { rules: rules.to_vec(), ..chain.clone() }.packed_as(layout);
+    [book(site), book(tenant)].concat()
+}
 
 /// What a table measures: books of a version, of these lengths, by planners with names, which write into a buffer of so many bytes.
 pub struct Table<'a, const N: usize> {
     pub layout: Layout,
+    /// The bytes that a chain is written as.
+    pub written: fn(&Source, &Layout) -> Vec<u8>,
     pub lengths: &'a [usize],
     pub room: usize,
     pub planners: [(&'a str, Planner); N],
@@ -55,7 +69,7 @@ impl<const N: usize> Table<'_, N> {
     /// Measures chains of one sort and length and prints their row. Hands back the times of the shortest rounds.
     fn row(&self, name: &str, chains: Chains, n: usize) -> Result<[f64; N], String> {
         let chains = chains(&mut Random::new(n as u64), n);
-        let books: Vec<Vec<u8>> = chains.iter().map(|chain| chain.packed_as(&self.layout)).collect();
+        let books: Vec<Vec<u8>> = chains.iter().map(|chain| (self.written)(chain, &self.layout)).collect();
         let planners = self.planners.map(|(_, plan)| plan);
         if !same_lines(&planners, &books, self.room) {
             return Err(format!("the planners print different lines for a chain of {n} rules: {name}"));

@@ -1,6 +1,6 @@
 //! Whether a printed line is right. All of it is fixed by the book but the witness, which is judged by its property.
 
-use crate::exact::{Line, Outcome};
+use crate::exact::{Line, Outcome, Terms};
 use crate::layout::{Layout, ONE};
 use crate::prefixes::{search, Way};
 use crate::read::{read_as, Accepted, Entry};
@@ -21,7 +21,22 @@ pub struct Expected {
 /// The floors, which rank first, and the rules up to the place.
 struct Nameable {
     floors: [Line; 2],
-    rules: Vec<Entry>,
+    rules: Vec<Named>,
+}
+
+/// A rule with the name that a witness has for it, and its rank among the entries: floors have 0 and 1.
+#[derive(Clone, Debug)]
+pub struct Named {
+    pub name: String,
+    pub rank: usize,
+    pub line: Line,
+}
+
+impl Named {
+    /// A rule of a single book goes by its record.
+    fn of(entry: &Entry) -> Named {
+        Named { name: entry.record.to_string(), rank: entry.record + 1, line: entry.line }
+    }
 }
 
 /// The right line of a book of version 1 by the search.
@@ -30,12 +45,21 @@ pub fn expected(book: &[u8], way: Way) -> Expected {
 }
 
 pub fn expected_as(layout: &Layout, book: &[u8], way: Way) -> Expected {
-    let Accepted { terms, mut rules } = match read_as(layout, book) {
-        Ok(accepted) => accepted,
-        Err(r) => return Expected { head: format!("refused {} {}", r.number, r.record), counts: None, witness: None },
-    };
+    match read_as(layout, book) {
+        Ok(Accepted { terms, rules }) => expected_of(&terms, rules.iter().map(Named::of).collect(), way),
+        Err(r) => turned_back(format!("refused {} {}", r.number, r.record)),
+    }
+}
+
+/// The line of something that is turned back.
+pub fn turned_back(head: String) -> Expected {
+    Expected { head, counts: None, witness: None }
+}
+
+/// The right line of a list of rules.
+pub fn expected_of(terms: &Terms, mut rules: Vec<Named>, way: Way) -> Expected {
     let lines: Vec<Line> = rules.iter().map(|r| r.line).collect();
-    let chain = search(&terms, &lines, way);
+    let chain = search(terms, &lines, way);
     let head = match chain.outcome {
         Outcome::Best(v) => format!("best {} {} {}", v.x, v.y, v.d),
         Outcome::Unlimited { start: v, dx, dy } => format!("unlimited {} {} {} {dx} {dy}", v.x, v.y, v.d),
@@ -85,7 +109,7 @@ fn number(text: &str) -> Option<i128> {
     text.parse::<i128>().ok().filter(|n| *n >= 0 && n.to_string() == text)
 }
 
-/// An entry of a witness with its weight. Floors rank 0 and 1; a record ranks one above its index.
+/// An entry of a witness with its weight.
 struct Term {
     rank: usize,
     line: Line,
@@ -120,9 +144,8 @@ fn term(fields: &[&str], nameable: &Nameable) -> Result<Term, String> {
         "X" => (0, nameable.floors[0]),
         "Y" => (1, nameable.floors[1]),
         _ => {
-            let named = |r: &&Entry| r.record.to_string() == name;
-            let rule = nameable.rules.iter().find(named).ok_or("an entry that is none of the first rules")?;
-            (rule.record + 1, rule.line)
+            let rule = nameable.rules.iter().find(|r| r.name == name).ok_or("an entry that is none of the first rules")?;
+            (rule.rank, rule.line)
         }
     };
     Ok(Term { rank, line, weight })

@@ -9,6 +9,8 @@ pub mod clip;
 pub mod damage;
 pub mod exact;
 pub mod families;
+#[cfg(not(feature = "standin"))]
+pub mod joint;
 pub mod judge;
 pub mod layout;
 pub mod long;

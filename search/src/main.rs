@@ -3,6 +3,8 @@
 //! REPACKED say how many books there are of version 1, with a 2 at their ends of version 2, as LONGEST2 does, and ALIKE of both.
 //! `search program PATH [VERSION]` runs the plan program of a version, 1 unless it is named, on stored and some random books.
 //! `search panel PATH [VERSION]` and `search repacker PATH [VERSION]` run the programs of the panel and of the repacker likewise.
+//! `search joint PATH` runs the program that plans two books as one; JOINT, JOINT_LONG and JOINT_LONGEST say how many random pairs there
+//! are without words.
 //! `search repack PATH` puts stored books and REPACKS random ones through the program of the reader and the repacker.
 //! `search look [VERSION]` reads books in hexadecimal, one a line, and prints for each the right line, the planner's and the verdict.
 
@@ -28,11 +30,12 @@ fn main() -> ExitCode {
         ["panel", path, version] => run_panel(path, version),
         ["repacker", path] => run_repacker(path, "1"),
         ["repacker", path, version] => run_repacker(path, version),
+        ["joint", path] => run_joint(path),
         ["repack", path] => seed().and_then(|seed| run_repack(path, seed)),
         ["look"] => look("1"),
         ["look", version] => look(version),
         _ => {
-            Err("usage: search [look [VERSION] | program PATH [VERSION] | panel PATH [VERSION] | repacker PATH [VERSION] | repack PATH]"
+            Err("usage: search [look [VERSION] | program PATH [VERSION] | panel PATH [VERSION] | repacker PATH [VERSION] | joint PATH | repack PATH]"
                 .into())
         }
     };
@@ -54,7 +57,7 @@ fn run(seed: u64) -> Result<(), String> {
     println!("search: version 1 all right: {}", run_one(seed)?);
     println!("search: version 2 all right: {}", run_two(seed.rotate_left(32))?);
     println!("search: both versions all right: {}; SEED={seed}", run_both(seed.rotate_left(16))?);
-    Ok(())
+    joined(seed.rotate_left(48))
 }
 
 fn run_one(seed: u64) -> Result<String, String> {
@@ -118,6 +121,30 @@ fn run_repacker(path: &str, version: &str) -> Result<(), String> {
     let books = repack::program(&Layout::of_version(version)?, path, seed()?)?;
     println!("search: all right: {books} by the program that repacks version {version}");
     Ok(())
+}
+
+/// Two books joined. The twin has no such function.
+#[cfg(not(feature = "standin"))]
+fn joined(seed: u64) -> Result<(), String> {
+    let pairs = search::joint::library(seed, count("JOINT", 4_000)?, count("JOINT_LONG", 100)?, count("JOINT_LONGEST", 4)?)?;
+    println!("search: joined all right: {pairs}");
+    Ok(())
+}
+
+#[cfg(not(feature = "standin"))]
+fn run_joint(path: &str) -> Result<(), String> {
+    println!("search: all right: {} pairs of books through the joint program", search::joint::program(path, seed()?)?);
+    Ok(())
+}
+
+#[cfg(feature = "standin")]
+fn joined(_seed: u64) -> Result<(), String> {
+    Ok(())
+}
+
+#[cfg(feature = "standin")]
+fn run_joint(_path: &str) -> Result<(), String> {
+    Err("the twin has no joint program".into())
 }
 
 fn run_repack(path: &str, seed: u64) -> Result<(), String> {

@@ -220,7 +220,7 @@ fn pair(out: [i64; 3]) -> Result<Option<Pair>, String> {
 }
 
 /// What a call writes into a buffer. Bytes of the buffer after it must stay as they were.
-fn written(size: usize, write: impl FnOnce(&mut [u8]) -> usize) -> Result<Vec<u8>, String> {
+pub fn written(size: usize, write: impl FnOnce(&mut [u8]) -> usize) -> Result<Vec<u8>, String> {
     let mut out = vec![BEFORE; size];
     let length = write(&mut out);
     match out.get(length..) {

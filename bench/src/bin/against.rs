@@ -16,5 +16,5 @@ fn earlier(book: &[u8], out: &mut [u8]) -> usize {
 fn main() -> Result<(), String> {
     title();
     let planners = [("now", plan_line as Fill), ("earlier", earlier), ("twin", twin::plan_line)];
-    Table { layout: ONE, lengths: &[16, 64, 255], room: LINE, planners, growth: false }.print()
+    Table { layout: ONE, written: bench::single, lengths: &[16, 64, 255], room: LINE, planners, growth: false }.print()
 }

@@ -81,6 +81,15 @@ pub fn read<V: Version>(book: &[u8], chain: &mut Chain) -> Result<(), Refused> {
     }
 }
 
+/// Fills the chain with a site's rules and then a tenant's, under the tenant's objective and the greater floors.
+pub fn join<V: Version>(site: &[u8], tenant: &[u8], chain: &mut Chain) -> Result<(), Refused> {
+    read::<V>(site, chain)?;
+    let (lx, ly) = (chain.lx, chain.ly);
+    read::<V>(tenant, chain)?;
+    chain.set_floors(lx.max(chain.lx), ly.max(chain.ly));
+    Ok(())
+}
+
 /// Sets a bit in words, and says whether it was set before.
 pub fn set(words: &mut [u64], bit: usize) -> bool {
     let before = words[bit / 64] >> (bit % 64) & 1 == 1;

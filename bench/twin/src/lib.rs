@@ -19,6 +19,11 @@ const SHORT: usize = 32;
 const LONG: usize = 257;
 const LONGEST: usize = 4_097;
 
+/// Room for the floors and as many rules of two books.
+const TWO_SHORT: usize = 62;
+const TWO_LONG: usize = 512;
+const TWO_LONGEST: usize = 8_192;
+
 /// Writes the line of a version 1 book at the start of `out` and returns its length, as one would write it.
 #[inline(never)]
 pub fn plan_line(book: &[u8], out: &mut [u8]) -> usize {
@@ -63,6 +68,28 @@ pub fn tuned_panel2(book: &[u8], out: &mut [u8]) -> usize {
         0..=SHORT => panelled::<Two, SHORT>(book, out),
         0..=LONG => panelled::<Two, LONG>(book, out),
         _ => panelled::<Two, LONGEST>(book, out),
+    }
+}
+
+/// The line of two books of version 2 joined, each half of the bytes. It does not name books in a witness or a refusal.
+#[inline(never)]
+pub fn joint_halves(books: &[u8], out: &mut [u8]) -> usize {
+    let (site, tenant) = books.split_at(books.len() / 2);
+    match book::entries::<Two>(site).max(book::entries::<Two>(tenant)) {
+        0..=SHORT => joined::<TWO_SHORT>(site, tenant, out),
+        0..=LONG => joined::<TWO_LONG>(site, tenant, out),
+        _ => joined::<TWO_LONGEST>(site, tenant, out),
+    }
+}
+
+/// Plans two books joined likewise.
+#[inline(never)]
+fn joined<const SIZE: usize>(site: &[u8], tenant: &[u8], out: &mut [u8]) -> usize {
+    let (mut entries, mut records) = ([Constraint::NONE; SIZE], [0; SIZE]);
+    let mut chain = Chain::empty(&mut entries, &mut records);
+    match book::join::<Two>(site, tenant, &mut chain) {
+        Ok(()) => line::answer(&walk::walk::<true>(&chain), &chain, out),
+        Err((number, record)) => line::refused(number, record, out),
     }
 }
 

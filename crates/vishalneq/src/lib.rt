@@ -1,6 +1,8 @@
 // What a partner's controller loads: the planner's answers and the repacked form for programs in other languages, as a static library.
 // Each function writes to a lent buffer and hands back a count; it only calls the planner, the repacker and the writer of lines. A version
 // of the format has its own functions, which refuse the other version's books by their own table; the names of version 2's end in 2.
+pub mod joint;
+
 use answers::Refusal;
 use lp::Point;
 use records::Version;

@@ -1,0 +1,13 @@
+-- `joining::terms::greater` meets its contract.
+use Rattle.joining.proofs.Greater.{second-greater, first-greater}
+use Rattle.joining.proofs.terms.greater.Statement.{statement}
+use Rattle.joining.proofs.terms.greater.Tie as tie
+
+returns : tie.Need-returns
+returns c = second-greater (c .before .fits .a) (c .before .fits .b) (c .if1 .taken)
+
+returns-2 : tie.Need-returns-2
+returns-2 c = first-greater (c .before .fits .a) (c .before .fits .b) (c .if1 .left)
+
+pub greater-spec : {M : Type 1} → statement M
+greater-spec = tie.close (tie.spec returns returns-2)

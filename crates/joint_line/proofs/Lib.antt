@@ -1,0 +1,3 @@
+-- The laws behind a joint line.
+pub mod Entries
+pub mod Lines
