@@ -35,6 +35,10 @@ pub struct Table<'a, const N: usize> {
     pub growth: bool,
 }
 
+/// The name of an earlier commit's planner. Its lines are not compared with the others', since a request after it may have changed what a
+/// plan says.
+pub const EARLIER: &str = "earlier";
+
 /// When and how often it was measured.
 pub fn title() {
     println!(
@@ -71,7 +75,8 @@ impl<const N: usize> Table<'_, N> {
         let chains = chains(&mut Random::new(n as u64), n);
         let books: Vec<Vec<u8>> = chains.iter().map(|chain| (self.written)(chain, &self.layout)).collect();
         let planners = self.planners.map(|(_, plan)| plan);
-        if !same_lines(&planners, &books, self.room) {
+        let compared: Vec<Planner> = self.planners.iter().filter(|(name, _)| *name != EARLIER).map(|(_, plan)| *plan).collect();
+        if !same_lines(&compared, &books, self.room) {
             return Err(format!("the planners print different lines for a chain of {n} rules: {name}"));
         }
         let times = measure(planners, &books, self.room);

@@ -1,6 +1,6 @@
 //! The time of the planner of version 1 as a ratio to an earlier commit's, which `bench/against` builds and links under a name of its own.
 
-use bench::{title, Table};
+use bench::{title, Table, EARLIER};
 use search::layout::ONE;
 use search::planner::{plan_line, Fill, LINE};
 
@@ -15,6 +15,6 @@ fn earlier(book: &[u8], out: &mut [u8]) -> usize {
 
 fn main() -> Result<(), String> {
     title();
-    let planners = [("now", plan_line as Fill), ("earlier", earlier), ("twin", twin::plan_line)];
+    let planners = [("now", plan_line as Fill), (EARLIER, earlier), ("twin", twin::plan_line)];
     Table { layout: ONE, written: bench::single, lengths: &[16, 64, 255], room: LINE, planners, growth: false }.print()
 }

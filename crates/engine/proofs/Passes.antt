@@ -88,6 +88,15 @@ far-breaks m l e =
         not-below k = omega arith
     below {z = negsuc n} h = refl
 
+-- an entry that is not met along the line leaves what is held, whether the point keeps it or not
+pub not-met : (l : Constraint) (i : ℕ) (m : Constraint) (t : Held) → ltZ (pos 0) (det m l) ≡ false → tightened l i m t ≡ t
+not-met l i m t e = go (keeps m (t .point))
+  where
+    go : (b : Bool) →
+        elim b [ true ↦ t | false ↦ elim (ltZ (pos 0) (det m l)) [ true ↦ held i m (meet m l) | false ↦ t ] ] ≡ t
+    go true = refl
+    go false = rw e
+
 -- what is held is what the model found, or the point at infinity where it found nothing
 abbrev pub Holds : Constraint → Held → Found → Type 0
 Holds l t found.Nothing = t .point ≡ far l

@@ -3,13 +3,18 @@
 use mathlib.Core.Path.{_≡_, refl, sym, _∙_, ap, subst}
 use mathlib.Core.List.{List, [], _∷_}
 use mathlib.Core.Bool.{Bool, true, false, cond, _&&_}
-use Prim.Native.Nat.{ℕ, _+_, _*_, _^_, _≤_, _<_}
-use borrow.Author.Tests.{leb-true, le-leb}
+use Prim.Native.Nat.{ℕ, zero, suc, _+_, _*_, _^_, _≤_, _<_}
+use native.Mathlib.Omega.{arith}
+use native.Mathlib.Decide.{decLt}
+use borrow.Author.Tests.{leb-true, le-leb, lt-leb}
 use lib.ListN.{length}
 use lib.Dec.{T, leb}
-use lib.IntN.{ℤ, pos, natAbs}
-use lib.Signed.{ltZ, ltZ-yes, mag}
-use Rattle.ints.proofs.Bits.{read}
+use lib.IntN.{ℤ, pos, negsuc, negℤ, natAbs, _-ℤ_, +ℤ-idl}
+use lib.Signed.{leZ, ltZ, ltZ-yes, mag}
+use mir.Syntax.{w64}
+use mir.Val.{SFits, toZ}
+use mir.Facts.{toZ-ofZ}
+use Rattle.ints.proofs.Bits.{read, low}
 use Rattle.fraction.proofs.Quotients.{unread}
 use Rattle.ints.specs.Within.{Within}
 use Rattle.lp.specs.declared.Constraint.{Constraint}
@@ -37,6 +42,35 @@ up-to {n} {z} h = le-leb (natAbs z) n (h .small)
 within : (n : ℕ) (z : ℤ) → upTo n z ≡ true → Within n z
 within n z e = record { small = leb-true (natAbs z) n e }
 
+-- from -n to n, as the code asks it
+from-to : (n : ℕ) (z : ℤ) → (leZ (negℤ (pos n)) z && leZ z (pos n)) ≡ upTo n z
+from-to zero (pos k) = rw (le-leb 0 k (omega arith))
+from-to (suc n) (pos k) = refl
+from-to zero (negsuc k) = sym (lt-leb (suc k) 0 (omega arith))
+from-to (suc n) (negsuc k) = go (decLt n k)
+  where
+    go : Dec (n < k) → (leb k n && true) ≡ leb (suc k) (suc n)
+    go (yes h) = rw (lt-leb k n h, lt-leb (suc k) (suc n) (omega arith))
+    go (no h) = rw (le-leb k n (omega arith), le-leb (suc k) (suc n) (omega arith))
+
+module _ (n : ℕ) (h : n < 2 ^ 32) where
+  most-is : toZ w64 n ≡ pos n
+  most-is = toZ-ofZ {w = w64} {z = pos n} (record { sfits = omega arith })
+
+  least-is : pos 0 -ℤ toZ w64 n ≡ negℤ (pos n)
+  least-is = ap (λ (y : ℤ). pos 0 -ℤ y) most-is ∙ +ℤ-idl (negℤ (pos n))
+
+  pub least-fits : SFits w64 (pos 0 -ℤ toZ w64 n)
+  least-fits = subst (λ (y : ℤ). SFits w64 y) (sym least-is) (low n (omega arith))
+
+  pub up-to-is : (z : ℤ) →
+      mag z < 2 ^ 63 →
+      (leZ (read (pos 0 -ℤ toZ w64 n)) (read z) && leZ (read z) (toZ w64 n)) ≡ upTo n z
+  up-to-is z k =
+      let least = toZ-ofZ {w = w64} least-fits ∙ least-is in
+      let same = unread {z = z} k in
+      (λ i. leZ (least i) (same i) && leZ (same i) (most-is i)) ∙ from-to n z
+
 -- ---- tests joined by `and`
 
 pub both : (s t : Bool) → (s && t) ≡ true → (s ≡ true) × (t ≡ true)
@@ -50,6 +84,10 @@ is-true false h = absurd h
 -- a number that a call took is read back from its bits
 pub passed : (n : ℕ) (z : ℤ) → mag z < 2 ^ 63 → {t : Bool} → t ≡ upTo n (read z) → t ≡ upTo n z
 passed n z h e = e ∙ ap (upTo n) (unread {z = z} h)
+
+-- and so is one whose magnitude was worked out
+pub far-passed : (n : ℕ) (z : ℤ) → mag z < 2 ^ 63 → {m : ℕ} → m ≡ natAbs (read z) → leb m n ≡ upTo n z
+far-passed n z h e = ap (λ (m : ℕ). leb m n) (e ∙ ap natAbs (unread {z = z} h))
 
 -- two numbers of one range
 pub two-passed :

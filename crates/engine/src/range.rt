@@ -5,10 +5,12 @@ use lp::Point;
 ghost use mathlib.Core.Path.{_≡_};
 ghost use Rattle.engine.specs.Tests.{upTo, ruleInRange, pointInRange};
 
-pub fn up_to(n: u64, z: i64) -> bool
+// From -n to n. The compiler makes one comparison of the two, and works out no magnitude.
+pub fn up_to(n: u32, z: i64) -> bool
     ensures { λ t. ⌜ t ≡ upTo n z ⌝ }
 {
-    magnitude(z) <= n
+    let most = n as i64;
+    (0 - most <= z) & (z <= most)
 }
 
 pub fn rule_in_range(r: Constraint) -> bool
@@ -20,5 +22,8 @@ pub fn rule_in_range(r: Constraint) -> bool
 pub fn point_in_range(v: Point) -> bool
     ensures { λ t. ⌜ t ≡ pointInRange v ⌝ }
 {
-    up_to(65534000000000, v.x) & up_to(65534000000000, v.y) & up_to(2147352578, v.d) & (0 < v.d)
+    (magnitude(v.x) <= 65534000000000)
+        & (magnitude(v.y) <= 65534000000000)
+        & up_to(2147352578, v.d)
+        & (0 < v.d)
 }

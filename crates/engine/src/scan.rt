@@ -40,21 +40,22 @@ fn at_infinity(line: Constraint) -> Held
     }
 }
 
-// Entry m, at index i, is met along the line, and before the point held so far. Whether the point keeps it is asked first: most entries
-// it keeps.
+// Entry m, at index i, is met along the line, and before the point held so far. Whether it is met at all is asked first, since that takes
+// fewer products.
 fn tighter(line: Constraint, i: usize, m: Constraint, held: Held) -> Held
     requires { ⌜ Tightening line m held ⌝ }
     ensures { λ t. ⌜ t ≡ tightened line i m held ⌝ }
 {
     let p = held.point;
-    if keeps(m, p) {
-        return held;
-    }
     if 0 < det(m, line) {
-        Held {
-            index: i,
-            entry: m,
-            point: meet(m, line),
+        if keeps(m, p) {
+            held
+        } else {
+            Held {
+                index: i,
+                entry: m,
+                point: meet(m, line),
+            }
         }
     } else {
         held

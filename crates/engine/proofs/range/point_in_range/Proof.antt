@@ -5,7 +5,7 @@ use mathlib.Core.Bool.{_&&_}
 use lib.IntN.{pos}
 use lib.Signed.{ltZ}
 use Rattle.fraction.proofs.Quotients.{unread}
-use Rattle.engine.proofs.Tests.{passed}
+use Rattle.engine.proofs.Tests.{passed, far-passed}
 use Rattle.engine.proofs.range.point_in_range.Statement.{statement}
 use Rattle.engine.proofs.range.point_in_range.Tie as tie
 
@@ -13,9 +13,9 @@ returns : tie.Need-returns
 returns c =
     let v = c .before .before .before .before .before .before .before .before .args .v in
     let h = c .struct-told4 .given in
-    let x = passed 65534000000000 (v .x) (h .0 .1) (c .before .before .before .before .before .before .up-to .ensures) in
-    let y = passed 65534000000000 (v .y) (h .1 .0 .1) (c .before .before .before .before .up-to2 .ensures) in
-    let d = passed 2147352578 (v .d) (h .1 .1 .0 .1) (c .before .before .up-to3 .ensures) in
+    let x = far-passed 65534000000000 (v .x) (h .0 .1) (c .before .before .before .before .before .before .magnitude .ensures) in
+    let y = far-passed 65534000000000 (v .y) (h .1 .0 .1) (c .before .before .before .before .magnitude2 .ensures) in
+    let d = passed 2147352578 (v .d) (h .1 .1 .0 .1) (c .before .before .up-to .ensures) in
     let p = ap (ltZ (pos 0)) (unread {z = v .d} (h .1 .1 .0 .1)) in
     λ i. x i && y i && d i && p i
 

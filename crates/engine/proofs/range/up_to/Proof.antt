@@ -1,17 +1,14 @@
--- `engine::range::up_to` meets its contract.
+-- `engine::range::up_to` meets its contract: a number from -n to n has a magnitude of at most n.
 use borrow.Author.Needs.{needs}
-use mathlib.Core.Path.{_∙_, ap}
-use Prim.Native.Nat.{ℕ}
-use lib.Dec.{leb}
-use lib.IntN.{natAbs}
-use Rattle.fraction.proofs.Quotients.{unread}
+use Rattle.engine.proofs.Tests.{least-fits, up-to-is}
 use Rattle.engine.proofs.range.up_to.Statement.{statement}
 use Rattle.engine.proofs.range.up_to.Tie as tie
 
+sub-result : tie.Need-sub-result
+sub-result c = least-fits (c .args .n) (c .fits .n .fits)
+
 returns : tie.Need-returns
-returns c =
-    let s = c .before in
-    ap (λ (m : ℕ). leb m (s .args .n)) (c .magnitude .ensures ∙ ap natAbs (unread {z = s .args .z} (s .fits .z .sfits)))
+returns c = up-to-is (c .args .n) (c .fits .n .fits) (c .args .z) (c .fits .z .sfits)
 
 pub up-to-spec : {M : Type 1} → statement M
-up-to-spec = tie.close (tie.spec (λ c κs. search needs) returns)
+up-to-spec = tie.close (tie.spec (λ c. search needs) sub-result returns)
