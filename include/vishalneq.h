@@ -7,9 +7,9 @@
  * A book is of version 1, records of 12 bytes and at most 255 rules, or of version 2, records of 14 bytes and at most 4,095 rules. Each
  * version has its own functions, those of version 2 with a 2 at the end of their names; a book of the other version is refused.
  *
- * Stack: a call takes at most VISHALNEQ_STACK bytes, whatever the book; a call of a repacker at most VISHALNEQ_REPACK_STACK. Measured
- * on x86-64: 116,648 for a plan's line, 116,488 for a panel, 116,520 for a start pair, 17,368 for a repacked form. No memory is
- * allocated. */
+ * Stack: a call takes at most VISHALNEQ_STACK bytes, whatever the book; a call of a repacker at most VISHALNEQ_REPACK_STACK, one of
+ * vishalneq_joint or vishalneq_slip at most VISHALNEQ_LONG_STACK. Measured on x86-64, with what a thread takes for itself: 127,720 for a
+ * plan's line, 226,520 for two books joined, 119,816 for a batch, 234,312 for a slip and 119,960 for its check. No memory is allocated. */
 #ifndef VISHALNEQ_H
 #define VISHALNEQ_H
 
@@ -29,6 +29,7 @@ extern "C" {
 
 #define VISHALNEQ_STACK 131072
 #define VISHALNEQ_REPACK_STACK 20480
+#define VISHALNEQ_LONG_STACK 245760
 
 /* What vishalneq_start_after and vishalneq_repack hand back is a count below this, or a refusal: its number is the quotient by this,
  * its record the remainder. */
@@ -63,6 +64,32 @@ size_t vishalneq_repack2(const uint8_t *book, size_t book_length, uint8_t *out, 
  * hands back its length. A buffer of less than VISHALNEQ_LINE bytes is left as it is, and 0 handed back. */
 size_t vishalneq_joint(const uint8_t *site, size_t site_length, const uint8_t *tenant, size_t tenant_length, uint8_t *out,
                        size_t out_length);
+
+/* The answers to 1 to 32 objectives for one book of version 2, which is read once; its header's objective plays no part. An objective is 4
+ * bytes, p and then q, signed, little-endian. An answer is VISHALNEQ_ANSWER bytes, in the objectives' order, at the start of `out`: the
+ * outcome (1 best, 2 unlimited, 3 impossible), seven zeros, then X, Y and D, signed, little-endian, in 8 bytes each: the best pair, the
+ * start pair, or zeros. Hands back how many bytes that takes, and leaves the bytes after them as they are. A refused book, objectives that
+ * are not 4 to 128 bytes in multiples of 4 or have a -32,768 (number 16, record 0), and an output of fewer bytes (number 11, record 0)
+ * leave `out` as it is, and VISHALNEQ_REFUSED times the number plus the record is handed back. */
+#define VISHALNEQ_ANSWER 32
+size_t vishalneq_batch(const uint8_t *book, size_t book_length, const uint8_t *objectives, size_t objectives_length, uint8_t *out,
+                       size_t out_length);
+
+/* A slip, by which a plan is rechecked without planning: VISHALNEQ_SLIP numbers, the outcome (1 best, 2 unlimited, 3 impossible), a count of
+ * entries, X, Y, D, dx, dy, a scale, and then three times an entry's code and its weight. Code 0 is floor x, 1 floor y, and r + 1 the rule in
+ * record r. What is not used is 0. Books are of version 2. */
+#define VISHALNEQ_SLIP 14
+
+/* The slip of a book's plan, with its pair and direction, at the start of `out`. Hands back VISHALNEQ_SLIP. A run of fewer numbers is left
+ * as it is, and 0 handed back; a refused book leaves it as it is too, and VISHALNEQ_REFUSED times its number plus its record is handed
+ * back. */
+size_t vishalneq_slip(const uint8_t *book, size_t book_length, int64_t *out, size_t out_length);
+
+/* Whether a slip of a book is right, whoever wrote it: 1 is yes, 0 is no. A refused book, and a slip with a field out of its range, an entry
+ * that is no floor and no rule of the chain, or one named twice (number 17, record 0), hand back VISHALNEQ_REFUSED times the number plus the
+ * record; so does a run of another length. Yes for impossible means that no pair is allowed; for unlimited, that pairs are and gains have
+ * no top; for best, that the pair is allowed and no allowed pair gains more. */
+size_t vishalneq_check(const uint8_t *book, size_t book_length, const int64_t *slip, size_t slip_length);
 
 #ifdef __cplusplus
 }

@@ -31,6 +31,13 @@ pub fn each(terms: &Terms, rules: &[Line]) -> Vec<Outcome> {
     (FLOORS..=entries.len()).map(|m| chosen(p, q, &alive(&corners, m).collect::<Vec<_>>(), alive(&directions, m))).collect()
 }
 
+/// The corners that all entries together leave; one may be there more than once.
+pub fn corners(floors: &[Line; 2], rules: &[Line]) -> Vec<Pair> {
+    let entries = entries(floors, rules);
+    let corners: Vec<Life<Pair>> = (0..entries.len()).flat_map(|i| corners_on(&entries, i)).collect();
+    alive(&corners, entries.len()).collect()
+}
+
 /// The outcome of all rules together.
 pub fn whole(terms: &Terms, rules: &[Line]) -> Outcome {
     let &Terms { p, q, floors } = terms;

@@ -92,7 +92,7 @@ pub fn entries(floors: &[Line; 2], rules: &[Line]) -> Vec<Line> {
 
 /// Every pair where two entries meet and that keeps all entries. In long chains the last rules are often the tightest, so that they are
 /// asked first.
-fn corners(entries: &[Line]) -> Vec<Pair> {
+pub fn corners(entries: &[Line]) -> Vec<Pair> {
     let pairs = entries.iter().enumerate().flat_map(|(i, h)| entries[..i].iter().map(move |k| (h, k)));
     let meetings = pairs.filter_map(|(h, k)| meeting(h, k));
     meetings.filter(|v| entries.iter().rev().all(|e| e.kept_by(v))).collect()
@@ -137,7 +137,7 @@ fn least_steep(directions: impl Iterator<Item = (i128, i128)>) -> Option<(i128, 
     directions.min_by(|d, e| (d.1 * e.0).cmp(&(e.1 * d.0))).map(|(dx, dy)| (dx / divisor(dx, dy), dy / divisor(dx, dy)))
 }
 
-fn reduced(v: &Pair) -> Pair {
+pub fn reduced(v: &Pair) -> Pair {
     let g = divisor(divisor(v.x, v.y), v.d);
     Pair { x: v.x / g, y: v.y / g, d: v.d / g }
 }

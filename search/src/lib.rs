@@ -1,11 +1,15 @@
 //! Tests of the planner from outside. Books are made at random or from a table (`book`, `families`, `damage`, `stored`), read again by an
 //! independent reader (`read`), searched exhaustively (`exact`, `prefixes`) or, where they are long, by cutting lines (`clip`), and the
-//! planner's line is judged (`judge`), as are the lines of the panel (`panel`).
+//! planner's line is judged (`judge`), as are the lines of the panel (`panel`), batches of objectives (`batch`), two books joined (`joint`),
+//! slips (`slips`), sessions (`session`) and corners (`corners`).
 //! Nothing here shares a step with the planner: no walk, no pair carried from one prefix to the next, 128-bit integers
 //! throughout.
 
+#[cfg(not(feature = "standin"))]
+pub mod batch;
 pub mod book;
 pub mod clip;
+pub mod corners;
 pub mod damage;
 pub mod exact;
 pub mod families;
@@ -22,6 +26,9 @@ pub mod random;
 pub mod read;
 pub mod repack;
 pub mod runs;
+#[cfg(not(feature = "standin"))]
+pub mod slips;
+pub mod session;
 #[cfg(not(feature = "standin"))]
 pub mod starts;
 pub mod stored;

@@ -1,10 +1,13 @@
 //! `search` plans stored and random books of both versions, judges each line and ends with three summary lines; a mismatch prints the book
 //! in hexadecimal with both lines and fails. The environment's SEED repeats a run; SHORT, LONG, BUSY, DAMAGED, ORDERS, PANELS, STARTS and
-//! REPACKED say how many books there are of version 1, with a 2 at their ends of version 2, as LONGEST2 does, and ALIKE of both.
+//! REPACKED say how many books there are of version 1, with a 2 at their ends of version 2, as LONGEST2, BATCHES and SLIPS do, and ALIKE of
+//! both.
 //! `search program PATH [VERSION]` runs the plan program of a version, 1 unless it is named, on stored and some random books.
 //! `search panel PATH [VERSION]` and `search repacker PATH [VERSION]` run the programs of the panel and of the repacker likewise.
 //! `search joint PATH` runs the program that plans two books as one; JOINT, JOINT_LONG and JOINT_LONGEST say how many random pairs there
 //! are without words.
+//! `search session PATH` runs SCRIPTS random scripts of 300 steps through the session program, `search corners PATH` the corner program on
+//! what the plan program is run on.
 //! `search repack PATH` puts stored books and REPACKS random ones through the program of the reader and the repacker.
 //! `search look [VERSION]` reads books in hexadecimal, one a line, and prints for each the right line, the planner's and the verdict.
 
@@ -31,11 +34,13 @@ fn main() -> ExitCode {
         ["repacker", path] => run_repacker(path, "1"),
         ["repacker", path, version] => run_repacker(path, version),
         ["joint", path] => run_joint(path),
+        ["session", path] => run_session(path),
+        ["corners", path] => run_corners(path),
         ["repack", path] => seed().and_then(|seed| run_repack(path, seed)),
         ["look"] => look("1"),
         ["look", version] => look(version),
         _ => {
-            Err("usage: search [look [VERSION] | program PATH [VERSION] | panel PATH [VERSION] | repacker PATH [VERSION] | joint PATH | repack PATH]"
+            Err("usage: search [look [VERSION] | program PATH [VERSION] | panel PATH [VERSION] | repacker PATH [VERSION] | joint PATH | session PATH | corners PATH | repack PATH]"
                 .into())
         }
     };
@@ -91,9 +96,11 @@ fn run_two(seed: u64) -> Result<String, String> {
     let shuffled = timed("ORDERS2", 100, |n| orders(&TWO, seed ^ 1 << 63, n))?;
     let panels = timed("PANELS2", 2_000, |n| panel::panels(&TWO, seed ^ 1 << 60, n))?;
     let starts = timed("STARTS2", 2_000, |n| starts(&TWO, seed ^ 1 << 59, n))?;
+    let batches = batches(seed ^ 1 << 56, count("BATCHES", 4_000)?)?;
+    let slips = timed("SLIPS", 10_000, |n| slips(seed ^ 1 << 55, n))?;
     Ok(format!(
         "{stored} stored books, {short} of 0 to 12 rules, {long} of 0 to 255, {longest} of 0 to 4,095, {busy} busy ones of 1,000 to 4,095, \
-         {damaged} damaged ({tally}), {shuffled} in ten orders, {panels} panels, {starts} start pairs"
+         {damaged} damaged ({tally}), {shuffled} in ten orders, {panels} panels, {starts} start pairs, {batches}, {slips} slips"
     ))
 }
 
@@ -147,6 +154,18 @@ fn run_joint(_path: &str) -> Result<(), String> {
     Err("the twin has no joint program".into())
 }
 
+fn run_session(path: &str) -> Result<(), String> {
+    let steps = search::session::program(path, seed()?, count("SCRIPTS", 40)?, 300)?;
+    println!("search: all right: {steps} steps through the session program");
+    Ok(())
+}
+
+fn run_corners(path: &str) -> Result<(), String> {
+    let books = search::corners::program(path, seed()?)?;
+    println!("search: all right: {books} books through the corner program");
+    Ok(())
+}
+
 fn run_repack(path: &str, seed: u64) -> Result<(), String> {
     println!(
         "search: all right: {} through the reader and the repacker",
@@ -160,6 +179,22 @@ fn run_repack(path: &str, seed: u64) -> Result<(), String> {
 use search::starts::starts;
 #[cfg(feature = "standin")]
 fn starts(_planner: &search::planner::Planner, _seed: u64, _books: u64) -> Result<u64, String> {
+    Ok(0)
+}
+
+/// Batches of objectives. The twin has none.
+#[cfg(not(feature = "standin"))]
+use search::batch::batches;
+#[cfg(feature = "standin")]
+fn batches(_seed: u64, _books: u64) -> Result<&'static str, String> {
+    Ok("no batches")
+}
+
+/// Slips, whole and damaged. The twin writes none.
+#[cfg(not(feature = "standin"))]
+use search::slips::slips;
+#[cfg(feature = "standin")]
+fn slips(_seed: u64, _books: u64) -> Result<u64, String> {
     Ok(0)
 }
 

@@ -12,6 +12,7 @@ use Rattle.lp.specs.Document.{Example, holds}
 use Rattle.lp.specs.Slack.{slackOf}
 use Rattle.lp.specs.Examples.{classExamples, pitfalls, floorExamples, Slack, slacks}
 use Rattle.lp.specs.Starts.{chains, starts}
+use Rattle.lp.specs.Corners.{regions, cornered}
 
 pub class-examples-hold : T (every holds classExamples)
 unfolding gcd
@@ -33,6 +34,11 @@ slacks-hold = refl
 pub chains-start : T (every starts chains)
 unfolding gcd
 chains-start = tt
+
+-- the corners of a region
+pub regions-cornered : T (every cornered regions)
+unfolding gcd
+regions-cornered = tt
 
 -- what holds of a table holds of its rows
 at-row : (test : Example → Bool) (table : List Example) → T (every test table) → (e : Example) → List·Memᴰ e table → T (test e)

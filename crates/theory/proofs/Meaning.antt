@@ -267,6 +267,10 @@ member-counted r (s ∷ l) i =
         (and-both (same (r .a) (r .a) && same (r .b) (r .b)) (same (r .c) (r .c))
         (and-both (same (r .a) (r .a)) (same (r .b) (r .b)) (same-self (r .a)) (same-self (r .b))) (same-self (r .c))))
 
+-- what is alike in rules has the same members
+pub alike-members : (l m : List Constraint) → AlikeInRules l m → (r : Constraint) → List·Memᴰ r l → List·Memᴰ r m
+alike-members l m alike r i = counted-member r m (subst (λ n. 0 < n) (alike r) (member-counted r l i))
+
 -- two systems with the same floors and, for each (a, b, c), the same count of it, have the same outcome, point and ray
 pub outcome-order-free :
     (t : Tie) →
@@ -275,5 +279,4 @@ pub outcome-order-free :
     AlikeInRules l m →
     defined.outcome t floors f l ≡ defined.outcome t floors f m
 outcome-order-free t good floors f l m alike =
-    outcome-by-members t good floors f l m (λ r i. counted-member r m (subst (λ n. 0 < n) (alike r) (member-counted r l i)))
-    (λ r i. counted-member r l (subst (λ n. 0 < n) (sym (alike r)) (member-counted r m i)))
+    outcome-by-members t good floors f l m (alike-members l m alike) (alike-members m l (λ r. sym (alike r)))

@@ -1,3 +1,5 @@
--- What the loaded functions promise of the buffers that are lent to them.
+-- What the loaded functions promise of the buffers that are lent to them (Loaded, JointLoaded, Batch, Exchange).
 pub mod Loaded
 pub mod JointLoaded
+pub mod Batch
+pub mod Exchange

@@ -1,0 +1,2 @@
+-- What arranging promises (Arranging).
+pub mod Arranging

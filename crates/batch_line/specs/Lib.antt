@@ -1,0 +1,2 @@
+-- The line of a batch's answer (Line).
+pub mod Line

@@ -1,0 +1,3 @@
+-- What the code writes (Written), and that it reads back (Readback).
+pub mod Written
+pub mod Readback

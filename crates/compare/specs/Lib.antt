@@ -1,0 +1,2 @@
+-- What the comparisons promise for every number (Comparing).
+pub mod Comparing

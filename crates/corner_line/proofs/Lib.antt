@@ -1,0 +1,2 @@
+-- How a number without a space is spelt (Signed).
+pub mod Signed

@@ -1,0 +1,2 @@
+-- What is printed of a corner (Line).
+pub mod Line

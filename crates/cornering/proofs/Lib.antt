@@ -1,0 +1,7 @@
+-- The order of the rules (Counting), the corners laid out (Layouts), what they come to for a book (Finishing, Books), and that a list
+-- is within its output (Within).
+pub mod Counting
+pub mod Layouts
+pub mod Finishing
+pub mod Books
+pub mod Within

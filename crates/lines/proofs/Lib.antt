@@ -1,0 +1,2 @@
+-- What lawful constraints give to the tests (Sides).
+pub mod Sides

@@ -1,0 +1,19 @@
+-- `lines::is_lawful` meets its contract.
+use borrow.Author.Needs.{needs}
+use mathlib.Core.Bool.{_&&_}
+use Rattle.engine.proofs.Tests.{passed}
+use Rattle.lines.proofs.is_lawful.Statement.{statement}
+use Rattle.lines.proofs.is_lawful.Tie as tie
+
+returns : tie.Need-returns
+returns c =
+    let r = c .before .before .before .before .before .before .args .r in
+    let h = c .before .before .before .before .before .struct-told .given in
+    let a = passed 32767 (r .a) (h .0 .1) (c .before .before .before .before .up-to .ensures) in
+    let b = passed 32767 (r .b) (h .1 .0 .1) (c .before .before .up-to2 .ensures) in
+    let k = passed 1000000000 (r .c) (h .1 .1 .0 .1) (c .up-to3 .ensures) in
+    λ i. a i && b i && k i
+
+pub is-lawful-spec : {M : Type 1} → statement M
+is-lawful-spec =
+    tie.close (tie.spec (λ c κs. search needs) (λ c κs. search needs) (λ c κs. search needs) returns)

@@ -1,0 +1,2 @@
+-- What the exact tests promise for any constraints (Sides).
+pub mod Sides

@@ -1,0 +1,2 @@
+-- Why the loop writes the list (Written).
+pub mod Written

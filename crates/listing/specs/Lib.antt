@@ -1,0 +1,2 @@
+-- What is written of a run of points (Listing).
+pub mod Listing

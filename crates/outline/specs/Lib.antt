@@ -1,0 +1,2 @@
+-- The corners of a book: what its bytes come to (Outline).
+pub mod Outline

@@ -1,0 +1,9 @@
+-- The laws of sessions.
+pub mod Labels
+pub mod Checks
+pub mod Laid
+pub mod Starts
+pub mod Held
+pub mod Kept
+pub mod Led
+pub mod Demands

@@ -1,0 +1,28 @@
+-- `sessions::check::cause_of_adding` meets its contract: 8, 9, 10, then 12.
+use borrow.Author.Needs.{needs}
+use Rattle.sessions.proofs.Led.{rule-turned, label-turned, none-turned}
+use Rattle.sessions.proofs.check.cause_of_adding.Statement.{statement}
+use Rattle.sessions.proofs.check.cause_of_adding.Tie as tie
+
+returns : tie.Need-returns
+returns c =
+    let start = c .before .before in
+    let cause = c .before .cause in
+    rule-turned (start .args .session) (start .args .rule) (cause .result) (cause .ensures) (c .if1 .taken)
+
+returns-2 : tie.Need-returns-2
+returns-2 c =
+    let start = c .before .before .before .before in
+    let cause = c .before .before .before .cause in
+    label-turned (start .args .session) (start .args .rule) (cause .result) (cause .ensures) (c .before .before .if1 .left)
+    (c .before .label-held .ensures) (c .if2 .taken)
+
+returns-3 : tie.Need-returns-3
+returns-3 c =
+    let start = c .before .before .before .before in
+    let cause = c .before .before .before .cause in
+    none-turned (start .args .session) (start .args .rule) (cause .result) (cause .ensures) (c .before .before .if1 .left)
+    (c .before .label-held .ensures) (c .if2 .left)
+
+pub cause-of-adding-spec : {M : Type 1} → statement M
+cause-of-adding-spec = tie.close (tie.spec (λ c κs. search needs) returns (λ c κs. search needs) returns-2 returns-3)

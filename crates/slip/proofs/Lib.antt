@@ -1,0 +1,8 @@
+-- The laws of the checker: sizes of what is computed (Sizes), the passes over the chain (Passes), the slots looked up (Slots), that they
+-- say what the list of shares says (Shares), and what is answered (Judging).
+pub mod Sizes
+pub mod Passes
+pub mod Slots
+pub mod Shares
+pub mod Judging
+pub mod Read

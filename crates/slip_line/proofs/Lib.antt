@@ -1,0 +1,2 @@
+-- The laws of the printed slip: its parts (Parts).
+pub mod Parts

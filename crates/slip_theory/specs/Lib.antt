@@ -1,0 +1,2 @@
+-- The facts of a slip in words.
+pub mod Words

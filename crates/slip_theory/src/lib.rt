@@ -1,0 +1,1 @@
+// What a yes of the checker means: laws alone, no code.
