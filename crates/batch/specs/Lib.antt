@@ -1,0 +1,2 @@
+-- What the batch program's private functions tell one another.
+pub mod Loading
