@@ -4,6 +4,7 @@ use crate::exact::{Line, Outcome, Terms};
 use crate::layout::{Layout, ONE};
 use crate::prefixes::{search, Way};
 use crate::read::{read_as, Accepted, Entry};
+use crate::spare::has_spare;
 
 /// The greatest weight of a witness.
 const HEAVIEST: i128 = 2_147_352_578;
@@ -131,6 +132,9 @@ fn judge_witness(fields: &[&str], nameable: &Nameable) -> Result<(), String> {
     }
     if sum(|l| l.c) >= 0 {
         return Err("the weighted sum of c is not below 0".into());
+    }
+    if has_spare(&terms.iter().map(|t| t.line).collect::<Vec<_>>()) {
+        return Err("an entry is spare: the others clash without it".into());
     }
     Ok(())
 }

@@ -14,7 +14,7 @@ use Rattle.lp.specs.declared.Ray.{Ray}
 use Rattle.lp.specs.declared.Outcome.the-variants as outcome
 use Rattle.lp.specs.Program.{Feasible, system, gain}
 use Rattle.lp.specs.Textbook.{Infeasible, Unbounded, Bounded, NoLater, LawfulDirection}
-use Rattle.lp.specs.Certificate.{named}
+use Rattle.lp.specs.Certificate.{named, NothingSpare}
 use Rattle.lp.specs.Document.{tie, count, AlikeInRules}
 use Rattle.records.specs.Layout.{v2}
 use Rattle.book.specs.Reading.{Reading, refused, accepted, Entry, readOf, rulesOf, recordsOf}
@@ -254,6 +254,12 @@ module _
       AddsUp (ruleNamed (joinedTerms t t′ .floors) s u) (joinedNames es fs) (p .place) (p .witness)
   witness-sums =
       list.witness-sums (joinedTerms t t′) (joinedNames es fs) (joinedRules es fs) p planned (joined-named s u t t′ es fs e e′)
+      (ruleNamed (joinedTerms t t′ .floors) s u) (looked s u t t′ es fs e e′ (joinedTerms t t′ .floors))
+
+  -- whichever of the named entries is given up, the others, looked up by book and record, no longer clash
+  pub witness-lean : p .outcome ≡ outcome.Infeasible → NothingSpare (ruleNamed (joinedTerms t t′ .floors) s u) (named (p .witness))
+  witness-lean =
+      list.witness-lean (joinedTerms t t′) (joinedNames es fs) (joinedRules es fs) p planned (joined-named s u t t′ es fs e e′)
       (ruleNamed (joinedTerms t t′ .floors) s u) (looked s u t t′ es fs e e′ (joinedTerms t t′ .floors))
 
   -- floors first, then the site's records rising, then the tenant's

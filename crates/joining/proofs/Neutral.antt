@@ -105,7 +105,7 @@ module _ (t : Terms) (fs : List Entry) (p : Plan) (h : PlannedAs t (map tenantNa
       go outcome.Infeasible e w =
           by-certificate (w .certificate) (w .same-entries)
           (subst (Witnessed t (recordsOf fs) (rulesOf fs) (p .place) (rising (coded (recordsOf fs) (w .certificate)))) (sym e)
-          (record { certificate = w .certificate; valid = w .valid; same-entries = refl }))
+          (record { certificate = w .certificate; valid = w .valid; lean = w .lean; same-entries = refl }))
       go (outcome.Unbounded v d) e w =
           by-certificate nobody w
           (subst (Witnessed t (recordsOf fs) (rulesOf fs) (p .place) (rising (coded (recordsOf fs) nobody))) (sym e) refl)

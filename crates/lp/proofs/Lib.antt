@@ -1,2 +1,3 @@
 -- What the checker computes of the definitions.
 pub mod Examples
+pub mod Minimal

@@ -11,5 +11,6 @@ pub mod Start
 pub mod Certificate
 pub mod Document
 pub mod Starts
+pub mod Minimal
 pub mod Examples
 pub mod Corners

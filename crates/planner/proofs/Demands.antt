@@ -16,7 +16,7 @@ use Rattle.lp.specs.declared.Ray.{Ray}
 use Rattle.lp.specs.declared.Outcome.the-variants as outcome
 use Rattle.lp.specs.Program.{Feasible, system, gain}
 use Rattle.lp.specs.Textbook.{Infeasible, Unbounded, Bounded, NoLater, NotBelow, LawfulDirection}
-use Rattle.lp.specs.Certificate.{named}
+use Rattle.lp.specs.Certificate.{named, NothingSpare}
 use Rattle.lp.specs.Document.{tie, AlikeInRules}
 use Rattle.records.specs.Layout.{Layout}
 use Rattle.book.specs.Reading.{Reading, refused, accepted, Entry, readOf, rulesOf, recordsOf}
@@ -178,6 +178,11 @@ module _ (L : Layout) (s : List ℕ) (a : Answer) (promise : Answers L s a)
   pub witness-sums : p .outcome ≡ outcome.Infeasible → AddsUp (ruleNamed L (t .floors) s) (recordsOf es) (p .place) (p .witness)
   witness-sums =
       list.witness-sums t (recordsOf es) (rulesOf es) p planned (chain-named L s t es e) (ruleNamed L (t .floors) s) (looked L s t es e)
+
+  -- whichever of the named entries is given up, the others, looked up in the book, no longer clash
+  pub witness-lean : p .outcome ≡ outcome.Infeasible → NothingSpare (ruleNamed L (t .floors) s) (named (p .witness))
+  witness-lean =
+      list.witness-lean t (recordsOf es) (rulesOf es) p planned (chain-named L s t es e) (ruleNamed L (t .floors) s) (looked L s t es e)
 
   -- its entries in the printed order: floors first, then records rising
   pub witness-rises : p .outcome ≡ outcome.Infeasible → InOrder (p .witness)

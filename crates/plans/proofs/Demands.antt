@@ -16,7 +16,7 @@ use Rattle.lp.specs.declared.Outcome.the-variants as outcome
 use Rattle.lp.specs.Program.{Feasible, constraint, system, gain}
 use Rattle.lp.specs.Outcome as defined
 use Rattle.lp.specs.Textbook.{Infeasible, Unbounded, Bounded, NoLater, NotBelow, LawfulDirection}
-use Rattle.lp.specs.Certificate.{named}
+use Rattle.lp.specs.Certificate.{named, NothingSpare}
 use Rattle.lp.specs.Range.{SmallFloors, SmallSystem}
 use Rattle.lp.specs.Document.{tie, AlikeInRules}
 use Rattle.answers.specs.declared.Plan.{Plan}
@@ -35,7 +35,7 @@ use Rattle.plans.specs.Planning.{Named, Proves, Witnessed, PlannedAs}
 use Rattle.plans.specs.Adding.{AddsUp}
 use Rattle.plans.proofs.Ordered.{InOrder, NoneTwice, rising-in-order, rising-none-twice}
 use Rattle.plans.proofs.Names.{coded-apart, one-to-three}
-use Rattle.plans.proofs.Sums.{witness-adds-up}
+use Rattle.plans.proofs.Sums as sums
 
 -- every number of the outcome is within document 01's bounds
 pub outcome-small : (t : Terms) (rules : List Constraint) →
@@ -177,7 +177,17 @@ module _ (t : Terms) (names : List ℕ) (rules : List Constraint) (p : Plan) (pl
         p .outcome ≡ outcome.Infeasible →
         AddsUp look names (p .place) (p .witness)
     witness-sums look looked f =
-        witness-adds-up t names rules n (p .place) look (looked (p .place)) (p .witness) (witness-given f)
+        sums.witness-adds-up t names rules n (p .place) look (looked (p .place)) (p .witness) (witness-given f)
+
+    -- whichever of the named entries is given up, the others no longer clash
+    pub witness-lean : (look : ℕ → Constraint) →
+        ((k i : ℕ) →
+        i < length (system (t .floors) (take k rules)) →
+        look (codeAt names i) ≡ getD (system (t .floors) (take k rules)) i (constraint (pos 0) (pos 0) (pos 0))) →
+        p .outcome ≡ outcome.Infeasible →
+        NothingSpare look (named (p .witness))
+    witness-lean look looked f =
+        sums.witness-lean t names rules n (p .place) look (looked (p .place)) (p .witness) (witness-given f)
 
   -- ---- the counts
 

@@ -102,6 +102,7 @@ module _ (t : Terms) (names : List ℕ) (rules : List Constraint) (low : SmallFl
         record {
           certificate = c;
           valid = valid;
+          lean = over .certified .lean;
           same-entries =
               ap rising
               (coded-same names run (length rules) agree (system (t .floors) (take p rules)) (omega (arith, length-take p rules)) c valid);

@@ -15,8 +15,8 @@ use Rattle.ints.proofs.Order.{pos-nat, le-of-eq}
 use Rattle.ints.proofs.Ring.{ring, con, _⊕_, _⊗_, _≐_}
 use Rattle.lp.specs.declared.Constraint.{Constraint}
 use Rattle.lp.specs.declared.Certificate.{Certificate}
-use Rattle.lp.specs.Program.{system}
-use Rattle.lp.specs.Certificate.{Weighted, weighted, named, total, greatestWeight, isZero}
+use Rattle.lp.specs.Program.{Keeps, system}
+use Rattle.lp.specs.Certificate.{Weighted, weighted, named, entryIn, total, greatestWeight, isZero, GivenUp, NothingSpare}
 use Rattle.theory.proofs.Lists.{for-members}
 use Rattle.theory.proofs.Farkas.{is-zero, Refutes, certificate-weights, certificate-refutes}
 use Rattle.witness.specs.Witness.{codeAt, codeOf, coded, rising}
@@ -178,6 +178,32 @@ module _ (t : Terms) (names : List ℕ) (rules : List Constraint) (n : Named nam
           subst (λ v. (x : Weighted) → List·Memᴰ x (named v) → P (x .entry) (x .weight)) (sym (proof .same-entries))
           (of-named P (rising (coded names c))
           (rising-slots P (coded names c) (coded-slots P names c (slots-of (λ i u. P (codeAt names i) u) h))))
+
+      -- an entry of the witness is one of the certificate's, under its code
+      record From (e : ℕ) : Type 0 where
+        source : Weighted
+        listed : List·Memᴰ source (named c)
+        under : codeAt names (source .entry) ≡ e
+
+      from : (x : Weighted) → List·Memᴰ x (named w) → From (x .entry)
+      from = of-witness (λ e u. From e) (λ x i. record { source = x; listed = i; under = refl })
+
+      -- so whichever entry is given up, the others no longer clash, each looked up by its code
+      pub witness-lean : NothingSpare look (named w)
+      witness-lean x i =
+          let f = from x i in
+          let rest : GivenUp (entryIn S) (named c) (f .source) = proof .lean (f .source) (f .listed) in
+          record { pair = rest .pair; proper = rest .proper; others-kept = λ y j other. kept f rest y (from y j) other }
+        where
+          kept : (f : From (x .entry)) (rest : GivenUp (entryIn S) (named c) (f .source)) (y : Weighted) →
+              From (y .entry) →
+              (y .entry ≡ x .entry → ⊥) →
+              Keeps (look (y .entry)) (rest .pair)
+          kept f rest y g other =
+              let found : look (y .entry) ≡ entryIn S (g .source .entry) =
+              ap look (sym (g .under)) ∙ looked (g .source .entry) (refutes .sound (g .source) (g .listed) .entered) in
+              subst (λ r. Keeps r (rest .pair)) (sym found)
+              (rest .others-kept (g .source) (g .listed) (λ e. other (sym (g .under) ∙ ap (codeAt names) e ∙ f .under)))
 
       same-sum : (part : Constraint → ℤ) → sumOf look part (named w) ≡ total part S (named c)
       same-sum part =

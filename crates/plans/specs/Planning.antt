@@ -13,7 +13,7 @@ use Rattle.lp.specs.declared.Outcome.the-variants as outcome
 use Rattle.lp.specs.Program.{system}
 use Rattle.lp.specs.Outcome.{outcome}
 use Rattle.lp.specs.Prefixes.{place, moves, opens}
-use Rattle.lp.specs.Certificate.{named, certifies}
+use Rattle.lp.specs.Certificate.{named, entryIn, certifies, NothingSpare}
 use Rattle.lp.specs.Document.{tie}
 use Rattle.answers.specs.declared.Plan.{Plan}
 use Rattle.engine.specs.declared.Solution.{Solution}
@@ -26,10 +26,11 @@ pub record Named (names : List ℕ) (rules : List Constraint) : Type 0 where
   pub apart : (i j : ℕ) → i < j → j < length names → getD names i 0 ≡ getD names j 0 → ⊥
 
 module _ (t : Terms) (names : List ℕ) (rules : List Constraint) where
-  -- a witness of the first k rules: a valid certificate, its entries named and rising
+  -- a witness of the first k rules: a valid certificate with nothing spare, its entries named and rising
   pub record Proves (k : ℕ) (w : Certificate) : Type 0 where
     pub certificate : Certificate
     pub valid : T (certifies (system (t .floors) (take k rules)) (named certificate))
+    pub lean : NothingSpare (entryIn (system (t .floors) (take k rules))) (named certificate)
     pub same-entries : w ≡ rising (coded names certificate)
 
   -- an impossible list has a witness, any other none

@@ -20,18 +20,20 @@ use Rattle.lp.specs.declared.Certificate.{Certificate}
 use Rattle.lp.specs.declared.Point.{Point}
 use Rattle.lp.specs.Program.{constraint, slack, Keeps}
 use Rattle.lp.specs.Outcome.{det, meet, every}
-use Rattle.lp.specs.Certificate.{Weighted, weighted, named, total, distinct, greatestWeight, isZero, certifies}
+use Rattle.lp.specs.Certificate.{Weighted, weighted, named, entryIn, total, distinct, greatestWeight, isZero, certifies, NothingSpare}
 use Rattle.lp.specs.Range.{SmallConstraint}
 use Rattle.model.specs.Scan.{facing}
 use Rattle.model.specs.Step.{alone, lineWeight, conflict}
 use Rattle.theory.proofs.Lists.{and-both, every-of, for-members, At, at-member, at-getD, at-below, at-append, at-new, at-unique}
 use Rattle.theory.proofs.Line.{meet-on-first}
+use Rattle.theory.proofs.Lean.{conflict-lean, alone-lean}
 use Rattle.theory.proofs.Farkas.{Sound, Refutes, line-weight-positive, weights-cancel-a, weights-cancel-b, weights-sum-c}
 
--- valid whatever the coefficients, and within the bound where they are within their ranges
+-- valid whatever the coefficients, and within the bound where they are within their ranges; with nothing spare
 pub record Certified (S : List Constraint) (c : Certificate) : Type 0 where
   pub refutes : Refutes S (named c)
   pub valid : ((r : Constraint) → List·Memᴰ r S → SmallConstraint r) → T (certifies S (named c))
+  pub lean : NothingSpare (entryIn S) (named c)
 
 abbrev none : Constraint
 none = constraint (pos 0) (pos 0) (pos 0)
@@ -271,7 +273,14 @@ module _ (S : List Constraint) (h : Constraint) where
         }
 
     pub conflict-certified : Certified S′ (conflict side (length S) h j k i m)
-    conflict-certified = record { refutes = refuted; valid = valid }
+    conflict-certified =
+        record {
+          refutes = refuted;
+          valid = valid;
+          lean =
+              conflict-lean (entryIn S′) side (length S) h j k i m (at-getD S′ (length S) h none new-entry) (entry-of j k at-k)
+              (entry-of i m at-m) crosses away weight-positive;
+        }
       where
         valid : ((r : Constraint) → List·Memᴰ r S′ → SmallConstraint r) → T (certifies S′ (named (conflict side (length S) h j k i m)))
         valid lawful =
@@ -322,4 +331,5 @@ module _ (S : List Constraint) (h : Constraint) where
               λ lawful. certifies-of S′ (named (alone (length S))) alone-refuted tt tt tt
               (for-members (λ w. T (leZ (pos 1) (w .weight) && leZ (w .weight) greatestWeight))
               (record { entry = length S; weight = pos 1 }) [] tt (λ w i. absurd (List·Memᴰ·not-nil i)));
+          lean = alone-lean (entryIn S′) (length S);
         }

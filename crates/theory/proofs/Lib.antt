@@ -15,6 +15,7 @@ pub mod Reduction
 pub mod Vertex
 pub mod Ties
 pub mod Peak
+pub mod Lean
 pub mod Conflict
 pub mod Restart
 pub mod Enumeration
