@@ -1,0 +1,3 @@
+-- The session program: what its parts need.
+pub mod Opposites
+pub mod Turns

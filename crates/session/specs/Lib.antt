@@ -1,0 +1,2 @@
+-- What the session program's private functions tell one another.
+pub mod Lines
