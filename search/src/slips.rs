@@ -11,6 +11,7 @@ use crate::planner::TWO as PLANNER;
 use crate::program::short_stored_books;
 use crate::random::Random;
 use crate::read::{read_as, Accepted, Refused};
+use crate::spare::has_spare;
 
 const WEIGHT: i128 = 2_147_352_578;
 const REACH: i128 = 65_534_000_000_000;
@@ -147,6 +148,13 @@ fn compare(name: &str, book: &[u8], numbers: &[i64]) -> Result<bool, String> {
     Ok(said == Said::Answered(true))
 }
 
+/// Whether something is spare among the entries of an impossible slip.
+fn entry_to_spare(book: &[u8], numbers: &[i64]) -> bool {
+    let n: Vec<i128> = numbers.iter().map(|&z| i128::from(z)).collect();
+    let used = read_as(&TWO, book).ok().and_then(|accepted| entries(&accepted, &n, 1, 3)).unwrap_or_default();
+    has_spare(&used.iter().map(|(line, _)| *line).collect::<Vec<_>>())
+}
+
 /// A slip with one field, or another length, damaged: ends of ranges on both sides, neighbours, and numbers of any size.
 fn damaged(numbers: &[i64; 14], random: &mut Random) -> Vec<i64> {
     let mut slip = numbers.to_vec();
@@ -167,7 +175,7 @@ fn damaged(numbers: &[i64; 14], random: &mut Random) -> Vec<i64> {
     slip
 }
 
-/// The planner's slip has its plan's pair and direction, and gets a yes; then it is damaged in many ways.
+/// The planner's slip has its plan's pair and direction, gets a yes and has nothing spare; then it is damaged in many ways.
 fn try_book(name: &str, book: &[u8], ways: u64, random: &mut Random) -> Result<u64, String> {
     let written = slip(book)?;
     let line = PLANNER.line(book)?;
@@ -193,6 +201,9 @@ fn try_book(name: &str, book: &[u8], ways: u64, random: &mut Random) -> Result<u
     }
     if !compare(name, book, n)? {
         return complain("the planner's slip got no yes");
+    }
+    if n[0] == 3 && entry_to_spare(book, n) {
+        return complain("an entry is spare: the others clash without it");
     }
     for _ in 0..ways {
         compare(name, book, &damaged(n, random))?;

@@ -1,4 +1,4 @@
--- The slip of an impossible book gets a yes: the plan's witness, its entries by code and rising, as a slip's shares.
+-- The slip of an impossible book gets a yes and has nothing spare: the plan's witness, its entries by code and rising, as a slip's shares.
 use mathlib.Core.Path.{_≡_, refl, sym, _∙_, ap, subst}
 use mathlib.Core.List.{List, [], _∷_, _++_, map, List·Memᴰ, List·Memᴰ·head, List·Memᴰ·tail}
 use mathlib.Core.Bool.{Bool, true, false, not, cond, _&&_}
@@ -17,7 +17,7 @@ use Rattle.lp.specs.declared.Certificate.{Certificate}
 use Rattle.lp.specs.declared.Outcome.the-variants as outcome
 use Rattle.lp.specs.Program.{system}
 use Rattle.lp.specs.Outcome.{every}
-use Rattle.lp.specs.Certificate.{Weighted, weighted, named, greatestWeight, isZero}
+use Rattle.lp.specs.Certificate.{Weighted, weighted, named, greatestWeight, isZero, NothingSpare}
 use Rattle.lp.specs.Document.{same}
 use Rattle.theory.proofs.Lists.{is-true, for-members}
 use Rattle.theory.proofs.Farkas.{is-zero}
@@ -34,7 +34,7 @@ use Rattle.slip.specs.Facts.{Share, share, shares, distinct, none, ranges, weig
 use Rattle.slip.specs.Facts.{shareInRange, sums, answered, judged}
 use Rattle.slip.proofs.Shares.{both}
 use Rattle.slips.specs.Weights.{weightsWith, usedOf, conflictWeights, SmallCodes}
-use Rattle.slips.specs.Writing.{Tidy}
+use Rattle.slips.specs.Writing.{Tidy, weightedOf, Lean}
 use Rattle.slips.proofs.Yes.{range-test, rule-entry}
 
 -- ---- what a witness names
@@ -134,17 +134,27 @@ module _ (t : Terms) (names : List ℕ) (rules : List Constraint) (n : Named nam
   abbrev Said : Weights → Type 0
   Said w = judged t names rules (record { outcome = outcome.Infeasible; weights = w }) ≡ Yes
 
-  -- with the entries that the witness names
-  listed-yes : (l : List Weighted) →
-      named k ≡ l →
-      (w : Weights) →
-      shares w ≡ map toShare l →
-      ranges (pos 1) (w .count) (pos 3) ≡ true →
-      distinct (map toShare l) ≡ true →
-      Said w
-  listed-yes l e w es count different =
-      λ i. answered (count i && each i && separate i) (a-zero i && b-zero i && c-below i)
+  -- the entries that the witness names are the shares of w, in number and apart
+  record Listed (w : Weights) : Type 0 where
+    entries : List Weighted
+    all-named : named k ≡ entries
+    all-shares : shares w ≡ map toShare entries
+    few : ranges (pos 1) (w .count) (pos 3) ≡ true
+    different : distinct (map toShare entries) ≡ true
+
+  listed-yes : (w : Weights) → Listed w → Said w
+  listed-yes w at =
+      λ i. answered (at .few i && each i && separate i) (a-zero i && b-zero i && c-below i)
     where
+      l : List Weighted
+      l = at .entries
+
+      e : named k ≡ l
+      e = at .all-named
+
+      es : shares w ≡ map toShare l
+      es = at .all-shares
+
       each : every (shareInRange t names rules) (shares w) ≡ true
       each =
           ap (every (shareInRange t names rules)) es
@@ -152,7 +162,7 @@ module _ (t : Terms) (names : List ℕ) (rules : List Constraint) (n : Named nam
           (subst (λ m. (x : Weighted) → List·Memᴰ x m → (pos 1 ≤ᶻ x .weight) × (x .weight ≤ᶻ greatestWeight)) e (adds .weights))
 
       separate : distinct (shares w) ≡ true
-      separate = ap distinct es ∙ different
+      separate = ap distinct es ∙ at .different
 
       a-zero : isZero (sums t names rules (shares w) .a) ≡ true
       a-zero =
@@ -167,6 +177,16 @@ module _ (t : Terms) (names : List ℕ) (rules : List Constraint) (n : Named nam
           ap (λ z. ltZ z (pos 0)) (ap (λ m. sums t names rules m .c) es ∙ sums-c l ∙ ap (sumOf look (λ r. r .c)) (sym e))
           ∙ is-true (ltZ (sumOf look (λ r. r .c) (named k)) (pos 0)) (adds .falls .lt)
 
+  -- a slip's entries are the witness's, so nothing is spare in it either
+  back : (l : List Weighted) → l ≡ map weightedOf (map toShare l)
+  back [] = refl
+  back (x ∷ l) = ap (λ m. x ∷ m) (back l)
+
+  listed-lean : (w : Weights) → Listed w → Lean t names rules w
+  listed-lean w at =
+      subst (NothingSpare look) (at .all-named ∙ back (at .entries) ∙ ap (map weightedOf) (sym (at .all-shares)))
+      (list.witness-lean t names rules p planned n look looked f)
+
   -- ---- by how many are in use
 
   first-used : weighted (k .first) (k .«first_weight») ≡ entry (k .first) (k .«first_weight») ∷ []
@@ -176,47 +196,64 @@ module _ (t : Terms) (names : List ℕ) (rules : List Constraint) (n : Named nam
   with-count c =
       weightsWith (pos 0) c (pos (k .first)) (k .«first_weight») (pos (k .second)) (k .«second_weight») (pos (k .third)) (k .«third_weight»)
 
-  pub conflict-yes : Said (conflictWeights k)
-  conflict-yes = go (isZero (k .«second_weight»)) refl (isZero (k .«third_weight»)) refl
+  conflict-listed : Listed (conflictWeights k)
+  conflict-listed = go (isZero (k .«second_weight»)) refl (isZero (k .«third_weight»)) refl
     where
       go : (b : Bool) →
           isZero (k .«second_weight») ≡ b →
           (c : Bool) →
           isZero (k .«third_weight») ≡ c →
-          Said (with-count (elim b [ true ↦ pos 1 | false ↦ elim c [ true ↦ pos 2 | false ↦ pos 3 ] ]))
+          Listed (with-count (elim b [ true ↦ pos 1 | false ↦ elim c [ true ↦ pos 2 | false ↦ pos 3 ] ]))
       go true eb true ec =
-          listed-yes (entry (k .first) (k .«first_weight») ∷ [])
-          (λ i. first-used i ++ (weighted-unused (k .second) (k .«second_weight») eb i ++ weighted-unused (k .third)
-          (k .«third_weight») ec i))
-          (with-count (pos 1)) refl refl refl
+          record {
+            entries = entry (k .first) (k .«first_weight») ∷ [];
+            all-named = λ i. first-used i ++ (weighted-unused (k .second) (k .«second_weight») eb i ++ weighted-unused (k .third)
+                (k .«third_weight») ec i);
+            all-shares = refl;
+            few = refl;
+            different = refl;
+          }
       go true eb false ec =
           absurd
           (subst T (sym eb ∙ used-not (isZero (k .«second_weight»)) (apart .third-above (not-used (isZero (k .«third_weight»)) ec) .0)) tt)
       go false eb true ec =
-          listed-yes (entry (k .first) (k .«first_weight») ∷ entry (k .second) (k .«second_weight») ∷ [])
-          (λ i. first-used i ++ (weighted-used (k .second) (k .«second_weight») eb i ++ weighted-unused (k .third)
-          (k .«third_weight») ec i))
-          (with-count (pos 2)) refl refl
-          (λ i. elim (not (rising-differ (k .first) (k .second) rises i)) [ true ↦ true | false ↦ false ] && true)
+          record {
+            entries = entry (k .first) (k .«first_weight») ∷ entry (k .second) (k .«second_weight») ∷ [];
+            all-named = λ i. first-used i ++ (weighted-used (k .second) (k .«second_weight») eb i ++ weighted-unused (k .third)
+                (k .«third_weight») ec i);
+            all-shares = refl;
+            few = refl;
+            different = λ i. elim (not (rising-differ (k .first) (k .second) rises i)) [ true ↦ true | false ↦ false ] && true;
+          }
         where
           rises : k .first < k .second
           rises = apart .second-above (not-used (isZero (k .«second_weight»)) eb)
       go false eb false ec =
-          listed-yes
-          (entry (k .first) (k .«first_weight») ∷ entry (k .second) (k .«second_weight») ∷ entry (k .third) (k .«third_weight») ∷ [])
-          (λ i. first-used i ++ (weighted-used (k .second) (k .«second_weight») eb i ++ weighted-used (k .third) (k .«third_weight») ec i))
-          (with-count (pos 3)) refl refl
-          (λ i. elim (not (rising-differ (k .first) (k .second) rises i)) [
-            | true ↦ elim (not (rising-differ (k .first) (k .third) (omega (arith, rises, last)) i)) [ true ↦ true | false ↦ false ]
-            | false ↦ false
-          ]
-          && (elim (not (rising-differ (k .second) (k .third) last i)) [ true ↦ true | false ↦ false ] && true))
+          record {
+            entries =
+                entry (k .first) (k .«first_weight») ∷ entry (k .second) (k .«second_weight») ∷ entry (k .third) (k .«third_weight») ∷ [];
+            all-named = λ i. first-used i ++ (weighted-used (k .second) (k .«second_weight») eb i
+                ++ weighted-used (k .third) (k .«third_weight») ec i);
+            all-shares = refl;
+            few = refl;
+            different = λ i. elim (not (rising-differ (k .first) (k .second) rises i)) [
+              | true ↦ elim (not (rising-differ (k .first) (k .third) (omega (arith, rises, last)) i)) [ true ↦ true | false ↦ false ]
+              | false ↦ false
+            ]
+                && (elim (not (rising-differ (k .second) (k .third) last i)) [ true ↦ true | false ↦ false ] && true);
+          }
         where
           rises : k .first < k .second
           rises = apart .second-above (not-used (isZero (k .«second_weight»)) eb)
 
           last : k .second < k .third
           last = apart .third-above (not-used (isZero (k .«third_weight»)) ec) .1
+
+  pub conflict-yes : Said (conflictWeights k)
+  conflict-yes = listed-yes (conflictWeights k) conflict-listed
+
+  pub conflict-lean : Lean t names rules (conflictWeights k)
+  conflict-lean = listed-lean (conflictWeights k) conflict-listed
 
 -- ---- codes of a witness are small, and 0 where they are not used
 

@@ -39,13 +39,25 @@ use Rattle.slips.specs.declared.Written.the-variants as written
 use Rattle.slips.specs.declared.pass.Held.{Held}
 use Rattle.slips.specs.Pass.{normalOf, dot, heldOf}
 use Rattle.slips.specs.Weights.{weightsWith, noWeights, oneWeight, twoWeights, weightsOf, bestWeights, conflictWeights, SmallCodes}
-use Rattle.slips.specs.Writing.{BestOf, Tidy, TidyFor, Planned, Plans, Slips, WrittenBy, Writes}
+use Rattle.slips.specs.Writing.{BestOf, Tidy, TidyFor, Lean, Planned, Plans, Slips, WrittenBy, Writes}
 use Rattle.slips.proofs.Yes.{optimum-yes, unlimited-yes}
-use Rattle.slips.proofs.Conflict.{conflict-yes, codes-small, unused-codes, conflict-tidy, Unused}
+use Rattle.slips.proofs.Conflict.{conflict-yes, conflict-lean, codes-small, unused-codes, conflict-tidy, Unused}
 use Rattle.plans.proofs.Demands as list
 
 never : (p : Plan) (x : Refusal) → answer.Planned p ≡ answer.Refused x → ⊥
 never p x e =
+    let z : _≡_ {A = ℕ} 0 1 = cc in
+    let b : ⊥ = omega arith in
+    b
+
+unlimited-not-impossible : {v : Point} {d : Ray} → outcome.Unbounded v d ≡ outcome.Infeasible → ⊥
+unlimited-not-impossible e =
+    let z : _≡_ {A = ℕ} 0 1 = cc in
+    let b : ⊥ = omega arith in
+    b
+
+best-not-impossible : {v : Point} → outcome.Optimal v ≡ outcome.Infeasible → ⊥
+best-not-impossible e =
     let z : _≡_ {A = ℕ} 0 1 = cc in
     let b : ⊥ = omega arith in
     b
@@ -130,6 +142,7 @@ module _ (s : List ℕ) (p : Plan) (promise : Plans s p) where
         record {
           outcome-defined = planned .outcome-defined;
           checked = (λ i. judged t names rules (record { outcome = o i; weights = ew i })) ∙ conflict-yes t names rules n p planned o;
+          lean = λ q. subst (Lean t names rules) (sym ew) (conflict-lean t names rules n p planned o);
           unused = subst (λ x. TidyFor x w) (sym o) (
             ap (λ (x : Weights). x .scale) ew,
             subst Tidy (sym ew)
@@ -152,6 +165,7 @@ module _ (s : List ℕ) (p : Plan) (promise : Plans s p) where
               ∙ unlimited-yes t names rules n v d w (subst SmallOutcome o bounded .0) (subst SmallOutcome o bounded .1)
               (plan.start-pair v2 s (answer.Planned p) promise t es e p refl v d o .feasible)
               (plan.direction-lawful v2 s (answer.Planned p) promise t es e p refl v d o);
+          lean = λ q. absurd (unlimited-not-impossible (sym o ∙ q));
           unused = subst (λ x. TidyFor x w) (sym o) ew;
         }
 
@@ -167,6 +181,7 @@ module _ (s : List ℕ) (p : Plan) (promise : Plans s p) where
               ∙ optimum-yes t names rules n v (terms-small v2 s e) (rules-small v2 s e) (subst SmallOutcome o bounded)
               (plan.best-pair v2 s (answer.Planned p) promise t es e p refl v o .feasible)
               (plan.best-pair v2 s (answer.Planned p) promise t es e p refl v o .no-more);
+          lean = λ q. absurd (best-not-impossible (sym o ∙ q));
           unused = subst (λ x. TidyFor x w) (sym o)
               (subst Tidy (sym ew) (optimum-tidy (normalOf (t .objective)) (heldOf (t .objective) v (t .floors) names rules)));
         }

@@ -1,10 +1,10 @@
 -- What the writer promises: for an accepted book of version 2 a slip that has its plan's outcome, with its pair and direction, and that
 -- gets a yes; what it does not use is 0. Its entries, weights and scale are free, with document 02's facts as their property.
 use mathlib.Core.Path.{_≡_}
-use mathlib.Core.List.{List}
+use mathlib.Core.List.{List, map}
 use mathlib.Core.Bool.{Bool, true, false}
 use Prim.Native.Nat.{ℕ}
-use lib.IntN.{ℤ, pos}
+use lib.IntN.{ℤ, pos, natAbs}
 use lib.Signed.{ltZ}
 use Rattle.lp.specs.declared.Constraint.{Constraint}
 use Rattle.lp.specs.declared.Terms.{Terms}
@@ -12,6 +12,7 @@ use Rattle.lp.specs.declared.Point.{Point}
 use Rattle.lp.specs.declared.Outcome.{Outcome}
 use Rattle.lp.specs.declared.Outcome.the-variants as outcome
 use Rattle.lp.specs.Outcome.{outcome}
+use Rattle.lp.specs.Certificate.{Weighted, NothingSpare}
 use Rattle.lp.specs.Document.{tie}
 use Rattle.records.specs.Layout.{v2}
 use Rattle.book.specs.Reading.{Reading, refused, accepted, Entry, readOf, rulesOf, recordsOf}
@@ -23,7 +24,7 @@ use Rattle.planner.specs.Planning.{Answers}
 use Rattle.slip.specs.declared.Weights.{Weights}
 use Rattle.slip.specs.declared.Slip.{Slip}
 use Rattle.slip.specs.declared.Verdict.the-variants.{Yes}
-use Rattle.slip.specs.Facts.{verdictOf}
+use Rattle.slip.specs.Facts.{Share, shares, ruleAt, verdictOf}
 use Rattle.slip.specs.Runs.{Roomy, SmallPair}
 use Rattle.slips.specs.declared.Written.{Written}
 use Rattle.slips.specs.declared.Written.the-variants as written
@@ -55,12 +56,23 @@ TidyFor outcome.Infeasible w = (w .scale ≡ pos 0) × Tidy w
 TidyFor (outcome.Unbounded v d) w = w ≡ noWeights (pos 0)
 TidyFor (outcome.Optimal v) w = Tidy w
 
+-- ---- nothing spare
+
+-- an entry of a slip as one of a witness; the codes of a slip that gets a yes are not below 0
+abbrev pub weightedOf : Share → Weighted
+weightedOf s = record { entry = natAbs (s .code); weight = s .weight }
+
+-- whichever of the slip's entries is given up, the others no longer clash, each looked up as the checker does
+abbrev pub Lean : Terms → List ℕ → List Constraint → Weights → Type 0
+Lean t names rules w = NothingSpare (λ c. ruleAt t names rules (pos c)) (map weightedOf (shares w))
+
 -- ---- the promise
 
--- of an accepted book: its plan's outcome, pair and direction, and a yes
+-- of an accepted book: its plan's outcome, pair and direction, and a yes; an impossible one's entries have nothing spare
 pub record Planned (t : Terms) (es : List Entry) (s : Slip) : Type 0 where
   pub outcome-defined : s .outcome ≡ outcome tie (t .floors) (t .objective) (rulesOf es)
   pub checked : verdictOf (accepted t es) s ≡ Yes
+  pub lean : s .outcome ≡ outcome.Infeasible → Lean t (recordsOf es) (rulesOf es) (s .weights)
   pub unused : TidyFor (s .outcome) (s .weights)
 
 abbrev pub WrittenBy : Reading → Written → Type 0
