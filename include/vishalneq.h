@@ -8,8 +8,9 @@
  * version has its own functions, those of version 2 with a 2 at the end of their names; a book of the other version is refused.
  *
  * Stack: a call takes at most VISHALNEQ_STACK bytes, whatever the book; a call of a repacker at most VISHALNEQ_REPACK_STACK, one of
- * vishalneq_joint or vishalneq_slip at most VISHALNEQ_LONG_STACK. Measured on x86-64, with what a thread takes for itself: 127,720 for a
- * plan's line, 226,520 for two books joined, 119,816 for a batch, 234,312 for a slip and 119,960 for its check. No memory is allocated. */
+ * vishalneq_joint, vishalneq_slip or vishalneq_corners at most VISHALNEQ_LONG_STACK. Measured on x86-64, with what a thread takes for
+ * itself: 127,720 for a plan's line, 226,520 for two books joined, 242,872 for the corners of 4,095 rules, 119,816 for a batch, 234,312 for
+ * a slip and 119,960 for its check. No memory is allocated. */
 #ifndef VISHALNEQ_H
 #define VISHALNEQ_H
 
@@ -20,7 +21,8 @@
 extern "C" {
 #endif
 
-/* Room for every line of a plan; for every panel, by version; and for every repacked form, by the version of the book. */
+/* Room for every line of a plan; for every panel, by version; and for every repacked form, by the version of the book.
+ * VISHALNEQ_CORNERS below is room for the corners of every book. */
 #define VISHALNEQ_LINE 256
 #define VISHALNEQ_PANEL 16384
 #define VISHALNEQ_PANEL2 262144
@@ -29,7 +31,7 @@ extern "C" {
 
 #define VISHALNEQ_STACK 131072
 #define VISHALNEQ_REPACK_STACK 20480
-#define VISHALNEQ_LONG_STACK 245760
+#define VISHALNEQ_LONG_STACK 262144
 
 /* What vishalneq_start_after and vishalneq_repack hand back is a count below this, or a refusal: its number is the quotient by this,
  * its record the remainder. */
@@ -64,6 +66,15 @@ size_t vishalneq_repack2(const uint8_t *book, size_t book_length, uint8_t *out, 
  * hands back its length. A buffer of less than VISHALNEQ_LINE bytes is left as it is, and 0 handed back. */
 size_t vishalneq_joint(const uint8_t *site, size_t site_length, const uint8_t *tenant, size_t tenant_length, uint8_t *out,
                        size_t out_length);
+
+/* The corners of the region of a book of version 2, smaller x first and then smaller y: the allowed pairs at which two rules or floors that
+ * are not parallel hold with equality. X, Y and D of each, signed, little-endian, in 8 bytes, so that a corner takes 24, at the start of
+ * `out`. Hands back how many there are, at most as many as rules and floors, and leaves the bytes after them as they are; 0 says that no
+ * pair is allowed. A refused book leaves `out` as it is, and VISHALNEQ_REFUSED times its number plus its record is handed back. So does an
+ * output of fewer bytes: its number is 11, and in the record's place stands how many corners there are. */
+#define VISHALNEQ_CORNER 24
+#define VISHALNEQ_CORNERS 98328
+size_t vishalneq_corners(const uint8_t *book, size_t book_length, uint8_t *out, size_t out_length);
 
 /* The answers to 1 to 32 objectives for one book of version 2, which is read once; its header's objective plays no part. An objective is 4
  * bytes, p and then q, signed, little-endian. An answer is VISHALNEQ_ANSWER bytes, in the objectives' order, at the start of `out`: the

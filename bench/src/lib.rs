@@ -5,6 +5,7 @@
 mod chains;
 mod date;
 mod measure;
+pub mod regions;
 
 use chains::Chains;
 use measure::{least, measure, median, same_lines, Planner, FEW_ROUNDS, ROUNDS};
@@ -86,6 +87,12 @@ impl<const N: usize> Table<'_, N> {
         println!("| {name} | {n} | {medians} |{ratios}");
         Ok(shortest)
     }
+}
+
+/// The median time a book of one function alone.
+pub fn microseconds(fill: Planner, books: &[Vec<u8>], room: usize) -> f64 {
+    let [times] = measure([fill], books, room);
+    median(times)
 }
 
 /// The median of the ratios of neighbouring rounds, and the ratio of the shortest rounds.

@@ -2,9 +2,12 @@
 //! to the latter.
 
 use bench::{halved, single, title, Table};
-use search::layout::{ONE, TWO};
+#[cfg(not(feature = "standin"))]
 use search::joint::joint_halves;
+use search::layout::{ONE, TWO};
 use search::planner::{panel_lines2, plan_line, plan_line2, Fill, LINE, PANEL2};
+#[cfg(feature = "standin")]
+use twin::joint_halves;
 
 fn main() -> Result<(), String> {
     title();

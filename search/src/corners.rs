@@ -3,11 +3,11 @@
 
 use crate::book::to_hex;
 use crate::clip;
-use crate::exact::{self, entries, reduced, Line, Pair};
+use crate::exact::{self, entries, reduced, Line, Pair, Terms};
 use crate::layout::TWO;
 use crate::program::{inputs, printed};
 use crate::random::Random;
-use crate::read::{read_as, Accepted};
+use crate::read::{read_as, Accepted, Entry};
 
 /// The longest chain whose corners are searched by trying every two entries.
 const TRIED: usize = 60;
@@ -28,13 +28,17 @@ fn listed(floors: &[Line; 2], rules: &[Line]) -> Vec<Pair> {
     }
 }
 
+/// The corners of an accepted book.
+pub fn corners_of(terms: &Terms, rules: &[Entry]) -> Vec<Pair> {
+    listed(&terms.floors, &rules.iter().map(|r| r.line).collect::<Vec<Line>>())
+}
+
 /// The lines of a book's corners, or that of its refusal.
 fn expected(book: &[u8]) -> String {
     match read_as(&TWO, book) {
         Err(r) => format!("refused {} {}\n", r.number, r.record),
         Ok(Accepted { terms, rules }) => {
-            let lines: Vec<Line> = rules.iter().map(|r| r.line).collect();
-            listed(&terms.floors, &lines).iter().map(|v| format!("{} {} {}\n", v.x, v.y, v.d)).collect()
+            corners_of(&terms, &rules).iter().map(|v| format!("{} {} {}\n", v.x, v.y, v.d)).collect()
         }
     }
 }

@@ -1,7 +1,8 @@
 //! Tests of the planner from outside. Books are made at random or from a table (`book`, `families`, `damage`, `stored`), read again by an
 //! independent reader (`read`), searched exhaustively (`exact`, `prefixes`) or, where they are long, by cutting lines (`clip`), and the
 //! planner's line is judged (`judge`, `spare`), as are the lines of the panel (`panel`), batches of objectives (`batch`), two books joined
-//! (`joint`), slips (`slips`), sessions (`session`) and corners (`corners`).
+//! (`joint`), slips (`slips`), sessions (`session`) and corners (`corners`,
+//! `corner_bytes`).
 //! Nothing here shares a step with the planner: no walk, no pair carried from one prefix to the next, 128-bit integers
 //! throughout.
 
@@ -9,6 +10,8 @@
 pub mod batch;
 pub mod book;
 pub mod clip;
+#[cfg(not(feature = "standin"))]
+pub mod corner_bytes;
 pub mod corners;
 pub mod damage;
 pub mod exact;
@@ -26,10 +29,10 @@ pub mod random;
 pub mod read;
 pub mod repack;
 pub mod runs;
-pub mod spare;
+pub mod session;
 #[cfg(not(feature = "standin"))]
 pub mod slips;
-pub mod session;
+pub mod spare;
 #[cfg(not(feature = "standin"))]
 pub mod starts;
 pub mod stored;

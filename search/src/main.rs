@@ -1,7 +1,7 @@
 //! `search` plans stored and random books of both versions, judges each line and ends with three summary lines; a mismatch prints the book
 //! in hexadecimal with both lines and fails. The environment's SEED repeats a run; SHORT, LONG, BUSY, DAMAGED, ORDERS, PANELS, STARTS and
-//! REPACKED say how many books there are of version 1, with a 2 at their ends of version 2, as LONGEST2, BATCHES and SLIPS do, and ALIKE of
-//! both.
+//! REPACKED say how many books there are of version 1, with a 2 at their ends of version 2, as LONGEST2, BATCHES, SLIPS and CORNERS do, and
+//! ALIKE of both.
 //! `search program PATH [VERSION]` runs the plan program of a version, 1 unless it is named, on stored and some random books.
 //! `search panel PATH [VERSION]` and `search repacker PATH [VERSION]` run the programs of the panel and of the repacker likewise.
 //! `search joint PATH` runs the program that plans two books as one; JOINT, JOINT_LONG and JOINT_LONGEST say how many random pairs there
@@ -98,9 +98,10 @@ fn run_two(seed: u64) -> Result<String, String> {
     let starts = timed("STARTS2", 2_000, |n| starts(&TWO, seed ^ 1 << 59, n))?;
     let batches = batches(seed ^ 1 << 56, count("BATCHES", 4_000)?)?;
     let slips = timed("SLIPS", 10_000, |n| slips(seed ^ 1 << 55, n))?;
+    let corners = timed("CORNERS", 10_000, |n| corner_bytes(seed ^ 1 << 54, n))?;
     Ok(format!(
         "{stored} stored books, {short} of 0 to 12 rules, {long} of 0 to 255, {longest} of 0 to 4,095, {busy} busy ones of 1,000 to 4,095, \
-         {damaged} damaged ({tally}), {shuffled} in ten orders, {panels} panels, {starts} start pairs, {batches}, {slips} slips"
+         {damaged} damaged ({tally}), {shuffled} in ten orders, {panels} panels, {starts} start pairs, {batches}, {slips} slips, {corners} lists of corners"
     ))
 }
 
@@ -195,6 +196,14 @@ fn batches(_seed: u64, _books: u64) -> Result<&'static str, String> {
 use search::slips::slips;
 #[cfg(feature = "standin")]
 fn slips(_seed: u64, _books: u64) -> Result<u64, String> {
+    Ok(0)
+}
+
+/// Lists of corners. The twin writes none.
+#[cfg(not(feature = "standin"))]
+use search::corner_bytes::corner_bytes;
+#[cfg(feature = "standin")]
+fn corner_bytes(_seed: u64, _books: u64) -> Result<u64, String> {
     Ok(0)
 }
 

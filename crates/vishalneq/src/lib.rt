@@ -1,6 +1,8 @@
-// What a partner's controller loads: the planner's answers, the repacked form, joined books, batches and slips for programs in other
-// languages, as a static library. Each function writes to a lent buffer and hands back a count; it only calls what the other crates promise. A version
-// of the format has its own functions, which refuse the other version's books by their own table; the names of version 2's end in 2.
+// What a partner's controller loads: the planner's answers, the repacked form, joined books, corners, batches and slips for programs in
+// other languages, as a static library. Each function writes to a lent buffer and hands back a count; it only calls what the other crates
+// promise. A version of the format has its own functions, which refuse the other version's books by their own table; the names of version
+// 2's end in 2.
+mod corners;
 mod exchange;
 pub mod joint;
 mod prices;
