@@ -1,7 +1,7 @@
 //! The corners that the static library writes, 24 bytes each, into buffers that are too short by a byte, just long enough and longer,
 //! against the search's list.
 
-use crate::book::to_hex;
+use crate::book::{to_hex, Rule, Source};
 use crate::corners::corners_of;
 use crate::damage::damage;
 use crate::exact::Pair;
@@ -58,10 +58,35 @@ fn try_book(name: &str, book: &[u8]) -> Result<(), String> {
     Ok(())
 }
 
+/// A region by its name, its floors, and a, b and c of its rules.
+type Shape = (&'static str, [i16; 2], &'static [(i16, i16, i32)]);
+
+const SHAPES: [Shape; 11] = [
+    ("a point", [0, 0], &[(1, 1, 0)]),
+    ("a segment", [0, 0], &[(1, 1, 3), (-1, -1, -3)]),
+    ("a ray", [0, 0], &[(0, 1, 0)]),
+    ("a strip", [0, 0], &[(1, 0, 5)]),
+    ("a strip across", [0, 0], &[(1, -1, 2), (-1, 1, 3)]),
+    ("a wedge", [0, 0], &[(1, -2, 0), (-2, 1, 0)]),
+    ("empty", [0, 0], &[(1, 1, -1)]),
+    ("many lines through one corner", [0, 0], &[(1, 0, 4), (0, 1, 4), (1, 1, 8), (2, 1, 12), (1, 2, 12)]),
+    ("repeated and parallel lines", [0, 0], &[(1, 1, 4), (1, 1, 4), (2, 2, 8), (1, 1, 5), (-1, -1, -1)]),
+    ("the least and the greatest floor", [-32_768, 32_767], &[(1, 1, 7), (3, 2, 50_000), (0, 0, 0)]),
+    ("the greatest and the least floor", [32_767, -32_768], &[(1, 1, 7), (2, 3, 50_000)]),
+];
+
+fn shaped() -> Vec<(&'static str, Vec<u8>)> {
+    let book = |(name, [lx, ly], sides): Shape| {
+        let rule = |(i, &(a, b, c)): (usize, &(i16, i16, i32))| Rule { kind: 1, a, b, c, label: i as u16 };
+        (name, Source { p: 1, q: 1, lx, ly, rules: sides.iter().enumerate().map(rule).collect() }.packed_as(&TWO))
+    };
+    SHAPES.into_iter().map(book).collect()
+}
+
 /// Stored books and so many random ones, some of them damaged. Says how many there were.
 pub fn corner_bytes(seed: u64, books: u64) -> Result<u64, String> {
     let mut random = Random::new(seed);
-    let stored = short_stored_books(&TWO);
+    let stored = [short_stored_books(&TWO), shaped()].concat();
     for (name, book) in &stored {
         try_book(name, book)?;
     }
