@@ -33,8 +33,8 @@ extern "C" {
 #define VISHALNEQ_REPACK_STACK 20480
 #define VISHALNEQ_LONG_STACK 262144
 
-/* What vishalneq_start_after and vishalneq_repack hand back is a count below this, or a refusal: its number is the quotient by this,
- * its record the remainder. */
+/* What a function that writes no line hands back is a count or an answer below this, or a refusal: its number is the quotient by this, its
+ * record the remainder. */
 #define VISHALNEQ_REFUSED 65536
 
 /* The line of a book's plan, or of its refusal, with its line feed, at the start of `out`. Hands back its length. A buffer of less than
