@@ -7,9 +7,6 @@ use Rattle.slip_line.specs.Line.{writtenFields}
 use Rattle.slip_line.proofs.append_written.Statement.{statement}
 use Rattle.slip_line.proofs.append_written.Tie as tie
 
-append-slip-requires : tie.Need-append-slip-requires
-append-slip-requires c κs = record { free = omega (arith, c .before .before .before .before .before .pre .free) }
-
 returns : tie.Need-returns
 unfolding writtenFields
 returns c =
@@ -20,7 +17,7 @@ returns c =
 returns-2 : tie.Need-returns-2
 unfolding writtenFields
 returns-2 c = spelt (ap writtenFields (sym (c .before .before .before .before .before .written2 .given .1)))
-    (c .before .before .append-slip .ensures)
+    (c .before .before .append-slip .ensures .fits (omega (arith, c .before .before .before .before .before .before .before .before .pre .free)))
 
 pub append-written-spec : {M : Type 1} → statement M
 append-written-spec =
@@ -29,7 +26,7 @@ append-written-spec =
     (λ c. search needs)
     (λ c κs. search needs)
     (λ c. search needs)
-    append-slip-requires
+    (λ c κs. search needs)
     (λ c. search needs)
     returns
     (λ c. search needs)

@@ -1,2 +1,0 @@
--- What the batch program's private functions tell one another.
-pub mod Loading

@@ -1,0 +1,2 @@
+-- What a file gave is within its buffer.
+pub mod Given

@@ -1,2 +1,0 @@
--- What the joint program's private functions tell one another.
-pub mod Loading

@@ -1,2 +1,0 @@
--- The laws of the printed slip: its parts (Parts).
-pub mod Parts

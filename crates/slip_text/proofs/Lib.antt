@@ -1,0 +1,2 @@
+-- The laws of a slip's text: its parts (Parts).
+pub mod Parts

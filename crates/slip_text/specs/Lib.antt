@@ -1,0 +1,2 @@
+-- What a reader must believe of a slip's text.
+pub mod Text
