@@ -17,13 +17,14 @@ use Rattle.joining.specs.Running.{BothFew, Roomy, bothWithin}
 few-of-length : (s : List ℕ) (n : ℕ) → length s ≤ (n + 1) * 14 → Few v2 s n
 few-of-length s n h clear = omega (arith, h, count-is v2 s clear)
 
+pub few-of-lengths : (s u : List ℕ) (n bytes : ℕ) → bytes ≡ (n + 1) * 14 → length s ≤ bytes → length u ≤ bytes → BothFew s u n
+few-of-lengths s u n bytes e hs hu =
+    record { site = few-of-length s n (omega (arith, e, hs)); tenant = few-of-length u n (omega (arith, e, hu)) }
+
 pub few-by-length : (s u : List ℕ) (n bytes : ℕ) → bytes ≡ (n + 1) * 14 → {b : Bool} → b ≡ bothWithin s u bytes → b ≡ true → BothFew s u n
 few-by-length s u n bytes e told held =
     let tests = both (leb (length s) bytes) (leb (length u) bytes) (sym told ∙ held) in
-    record {
-      site = few-of-length s n (omega (arith, e, leb-true (length s) bytes (tests .0)));
-      tenant = few-of-length u n (omega (arith, e, leb-true (length u) bytes (tests .1)));
-    }
+    few-of-lengths s u n bytes e (leb-true (length s) bytes (tests .0)) (leb-true (length u) bytes (tests .1))
 
 pub roomy : (s u : List ℕ) (n : ℕ) →
     BothFew s u n →

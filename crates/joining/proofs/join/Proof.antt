@@ -1,29 +1,22 @@
--- `joining::join` meets its contract: by their lengths the books have no more rules than the runs have room for.
+-- `joining::join` meets its contract: by their lengths books that are not long have no more than 255 rules.
 use mathlib.Core.Path.{refl}
 use borrow.Author.Needs.{needs}
-use Rattle.joining.proofs.Classes.{few-by-length}
+use Rattle.joining.proofs.Classes.{few-of-lengths}
 use Rattle.joining.proofs.join.Statement.{statement}
 use Rattle.joining.proofs.join.Tie as tie
 
-join-short-requires : tie.Need-join-short-requires
-join-short-requires c κs =
+join-few-requires : tie.Need-join-few-requires
+join-few-requires c κs =
     let start = c .before .before .before .before in
-    few-by-length (start .args .site .now) (start .args .tenant .now) 30 434 refl (c .before .within .ensures) (c .if1 .taken)
-
-join-middle-requires : tie.Need-join-middle-requires
-join-middle-requires c κs =
-    let start = c .before .before .before .before .before .before in
-    few-by-length (start .args .site .now) (start .args .tenant .now) 255 3584 refl (c .before .within2 .ensures) (c .if2 .taken)
+    few-of-lengths (start .args .site .now) (start .args .tenant .now) 255 3584 refl (c .before .if1 .left) (c .if2 .left)
 
 pub join-spec : {M : Type 1} → statement M
 join-spec =
     tie.close
     (tie.spec
     (λ c κs. search needs)
-    join-short-requires
     (λ c. search needs)
     (λ c κs. search needs)
-    join-middle-requires
     (λ c. search needs)
-    (λ c κs. search needs)
+    join-few-requires
     (λ c. search needs))
