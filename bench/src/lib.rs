@@ -2,7 +2,7 @@
 //! The median of the ratios of neighbouring rounds is the verdict; the ratio of the shortest rounds is nearly free of what else the machine
 //! does.
 
-mod chains;
+pub mod chains;
 mod date;
 mod measure;
 pub mod regions;
@@ -93,6 +93,14 @@ impl<const N: usize> Table<'_, N> {
 pub fn microseconds(fill: Planner, books: &[Vec<u8>], room: usize) -> f64 {
     let [times] = measure([fill], books, room);
     median(times)
+}
+
+/// The median times a book of two functions, and the first one's as a ratio to the other's. What they write is not compared.
+pub fn beside(first: Planner, other: Planner, books: &[Vec<u8>], room: usize) -> String {
+    let times = measure([first, other], books, room);
+    let ratio = ratio(&times[0], &times[1]);
+    let [first, other] = times.map(median);
+    format!("{first:.2} | {other:.2} |{ratio}")
 }
 
 /// The median of the ratios of neighbouring rounds, and the ratio of the shortest rounds.

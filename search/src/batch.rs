@@ -81,12 +81,16 @@ fn right(book: &[u8], objectives: &[u8], room: usize) -> Result<Vec<u8>, Refused
     Ok(numbers.chunks(2).flat_map(|n| answer(&Terms { p: n[0], q: n[1], floors }, &lines)).collect())
 }
 
+/// The answers to some objectives at the start of a buffer.
+pub fn batch(book: &[u8], objectives: &[u8], out: &mut [u8]) -> usize {
+    // SAFETY: the three slices are live for the call, and `out` is lent for writing to this call alone.
+    unsafe { vishalneq_batch(book.as_ptr(), book.len(), objectives.as_ptr(), objectives.len(), out.as_mut_ptr(), out.len()) }
+}
+
 /// What the batch under test comes to; bytes after the answers, and all of them where it is turned back, must stay as they were.
 fn tried(book: &[u8], objectives: &[u8], room: usize) -> Result<Result<Vec<u8>, Refused>, String> {
     let mut out = vec![BEFORE; room];
-    // SAFETY: the three slices are live for the call, and `out` is lent for writing to this call alone.
-    let told =
-        unsafe { vishalneq_batch(book.as_ptr(), book.len(), objectives.as_ptr(), objectives.len(), out.as_mut_ptr(), out.len()) };
+    let told = batch(book, objectives, &mut out);
     let filled = if told < REFUSED { told } else { 0 };
     if filled > room || out[filled..].iter().any(|&b| b != BEFORE) {
         return Err("a byte after the answers was changed".into());

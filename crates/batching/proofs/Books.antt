@@ -2,7 +2,6 @@
 -- numbers are within their ranges.
 use Prim.Native.Nat.{ℕ, _+_, _*_, _≤_}
 use mathlib.Core.Path.{_≡_, sym, ap, _∙_, subst}
-use mathlib.Core.Bool.{false}
 use mathlib.Core.List.{List, _++_}
 use native.Mathlib.Omega.{arith}
 use lib.ListN.{length, length-append}
@@ -20,8 +19,7 @@ use Rattle.book.proofs.Runs.{rules-length}
 use Rattle.book.proofs.Said.{Accepted, none-said}
 use Rattle.engine.specs.Entries.{entries}
 use Rattle.planner.proofs.Laid.{chain-entries}
-use Rattle.batching.specs.Objectives.{badObjectives}
-use Rattle.batching.specs.Asked.{Laid, Filling}
+use Rattle.batching.specs.Asked.{Laid}
 
 -- what is known of an accepted book
 pub record Ready (s : List ℕ) (h : Head) (l : List ℤ) : Type 0 where
@@ -79,11 +77,3 @@ module _
               rules-small = subst SmallSystem (sym chained) (rules-small v2 s (known .reads));
             };
       }
-
--- what the answers ask for
-pub filling : {s : List ℕ} {h : Head} {l : List ℤ} {objectives out : List ℕ} →
-    Ready s h l →
-    badObjectives objectives ≡ false →
-    8 * length objectives ≤ length out →
-    Filling (h .terms .floors) (h .n) l objectives out
-filling x sound room = record { laid = x .laid; sound = sound; room = room }

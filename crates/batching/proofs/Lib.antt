@@ -1,10 +1,15 @@
--- The laws of a batch: objectives and their ranges (Sound), the answers as bytes one after the other (Written), a book's rules in the run
--- that is lent (Books), one objective planned with them (Planned), what a batch comes
--- to (Output), and what its promise means (Wrong, Demands).
+-- The laws of a batch: objectives and their ranges (Sound), the answers as bytes one after the other (Written), numbers that fit (Sizes),
+-- the order of corners (Orders), a book's rules in the run that is lent (Books), what a batch comes to (Output), and what its promise means
+-- (Wrong, Demands).
 pub mod Sound
 pub mod Written
+pub mod Sizes
+pub mod Orders
+pub mod Passes
+pub mod Layouts
 pub mod Planned
 pub mod Books
+pub mod Runs
 pub mod Output
 pub mod Wrong
 pub mod Demands

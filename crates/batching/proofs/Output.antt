@@ -54,11 +54,13 @@ module _ (s objectives out : List ℕ) where
 
     pub batch-answered : badObjectives objectives ≡ false →
         8 * length objectives ≤ length out →
+        {n : ℕ} →
+        n ≡ h .n →
         {after : List ℕ} →
-        after ≡ answersFor (h .terms .floors) (entries l 2 (h .n)) (objectivesOf objectives) ++ drop (8 * length objectives) out →
+        after ≡ answersFor (h .terms .floors) (entries l 2 n) (objectivesOf objectives) ++ drop (8 * length objectives) out →
         Batches s objectives out (record { refusal = h .refusal; filled = 8 * length objectives }) after
     unfolding batchOf
-    batch-answered e room {after} ea =
+    batch-answered e room {n} en {after} ea =
         let bytes = answersFor (x .terms .floors) (rulesOf (x .chain)) (objectivesOf objectives) in
         let long : length bytes ≡ 8 * length objectives =
         omega (
@@ -67,8 +69,9 @@ module _ (s objectives out : List ℕ) where
           length-objectives objectives 0 (length objectives / 4),
           whole-objectives objectives e,
         ) in
-        let same : answersFor (h .terms .floors) (entries l 2 (h .n)) (objectivesOf objectives) ≡ bytes =
-        (λ j. answersFor (x .head j .terms .floors) (x .rules j) (objectivesOf objectives)) in
+        let same : answersFor (h .terms .floors) (entries l 2 n) (objectivesOf objectives) ≡ bytes =
+        ap (λ (k : ℕ). answersFor (h .terms .floors) (entries l 2 k) (objectivesOf objectives)) en
+        ∙ (λ j. answersFor (x .head j .terms .floors) (x .rules j) (objectivesOf objectives)) in
         comes-to (answered bytes) (rw (x .reads, e, le-ltb (length out) (8 * length objectives) room))
         (λ j. record { refusal = x .head j .refusal; filled = sym long j })
         (ea ∙ (λ j. same j ++ drop (sym long j) out))

@@ -1,61 +1,95 @@
--- One objective with rules that stand in the engine's run: all numbers are in range, so that the engine plans them, and what it says is
--- the defined outcome. The rules stay where they are.
-use Prim.Native.Nat.{ℕ, _≤_}
-use mathlib.Core.Path.{_≡_, ap, _∙_}
-use mathlib.Core.List.{List}
+-- What an objective is answered from the corners and rays of a region is what a plan would give.
+use mathlib.Core.Path.{_≡_, refl, sym, _∙_, ap, subst}
+use mathlib.Core.List.{List, [], _∷_, List·Memᴰ}
+use mathlib.Core.Logic.{_↔_}
+use Prim.Native.Nat.{ℕ, suc, _-_, _<_}
 use native.Mathlib.Omega.{arith}
-use lib.ListN.{length}
 use lib.IntN.{ℤ}
+use Rattle.lp.specs.declared.Constraint.{Constraint}
 use Rattle.lp.specs.declared.Functional.{Functional}
 use Rattle.lp.specs.declared.Floors.{Floors}
-use Rattle.lp.specs.declared.Terms.{Terms}
+use Rattle.lp.specs.declared.Point.{Point}
+use Rattle.lp.specs.declared.Ray.{Ray}
+use Rattle.lp.specs.Program.{system}
+use Rattle.lp.specs.Outcome.{tieOrder, gainOrder}
 use Rattle.lp.specs.Document.{tie}
-use Rattle.lp.specs.Outcome.{outcome}
-use Rattle.model.specs.Step.{walk}
-use Rattle.engine.specs.declared.Solution.{Solution}
-use Rattle.engine.specs.declared.Solved.the-variants.{Outside, Walked}
-use Rattle.engine.specs.Entries.{entries}
-use Rattle.engine.specs.Solving.{solutionOf, solvedOf, withFloors}
-use Rattle.engine.proofs.Tests.{solved, floors-laid}
-use Rattle.engine.proofs.Laid.{laid-length, laid-rules}
+use Rattle.model.specs.declared.Cone.{Cone}
+use Rattle.model.specs.declared.Gain.{Gain}
+use Rattle.model.specs.declared.Gain.the-variants as gain
+use Rattle.model.specs.Step.{gaining}
 use Rattle.theory.proofs.Ties.{tie-good}
-use Rattle.theory.proofs.Theorems.{walk-is-defined}
-use Rattle.batching.specs.declared.offers.Offer.{Offer}
-use Rattle.batching.specs.Offers.{offerOf}
-use Rattle.batching.specs.Asked.{Offering, Offers}
+use Rattle.theory.proofs.Enumeration.{allowedVertices}
+use Rattle.batch_theory.specs.Rays.{raysOf}
+use Rattle.batch_theory.proofs.Theorems.{none-impossible, gaining-unlimited, resting-best}
+use Rattle.batching.specs.Offers.{offer, offerOf, offerFor, answersFor}
+use Rattle.batching.specs.Listed.{pointsFrom, nowhere, firstBy, offerAlong, offerIn, answersBy}
+use Rattle.batching.specs.Asked.{Lays}
+use Rattle.batching.proofs.Written.{answers-planned}
 
-module _ (f : Functional) (floors : Floors) (n : ℕ) (l : List ℤ) (x : Offering f floors n l) where
-  abbrev terms : Terms
-  terms = record { objective = f; floors = floors }
+-- ---- with corners in a run
 
-  walked : solvedOf terms l n ≡ Walked (solutionOf f (walk tie floors f (entries l 2 n)))
-  walked =
-      solved terms l n (record { objective-small = x .objective-small; floors-small = x .laid .floors-small }) (x .laid .room)
-      (x .laid .rules-small)
+module _ (cone : Cone) (l : List ℤ) (f : Functional) where
+  pub offer-none : {n : ℕ} → n ≡ 0 → offer 3 nowhere ≡ offerIn cone (pointsFrom l 0 n) f
+  offer-none e = sym (ap (λ (m : ℕ). offerIn cone (pointsFrom l 0 m) f) e)
 
-  pub never-outside : Outside ≡ solvedOf terms l n → ⊥
-  never-outside q =
-      let clash = q ∙ walked in
-      let z : _≡_ {A = ℕ} 0 1 = cc in
-      let b : ⊥ = omega arith in
-      b
+  offer-some : {n : ℕ} →
+      0 < n →
+      offerAlong (gaining f cone) (firstBy (tieOrder tie) (pointsFrom l 0 n)) (firstBy (gainOrder f tie) (pointsFrom l 0 n))
+      ≡ offerIn cone (pointsFrom l 0 n) f
+  offer-some {n} h =
+      subst
+      (λ (m : ℕ). offerAlong (gaining f cone) (firstBy (tieOrder tie) (pointsFrom l 0 m)) (firstBy (gainOrder f tie) (pointsFrom l 0 m))
+      ≡ offerIn cone (pointsFrom l 0 m) f)
+      (sym more) refl
+    where
+      more : n ≡ suc (n - 1)
+      more = omega arith
 
-  pub offered-planned : {s : Solution} →
-      Walked s ≡ solvedOf terms l n →
-      {r : Offer} {after : List ℤ} →
-      after ≡ withFloors floors l →
-      r ≡ offerOf (s .outcome) →
-      Offers f floors n l r after
-  offered-planned {s} q {r} {after} ea er =
-      let both = q ∙ walked in
-      let same : s ≡ solutionOf f (walk tie floors f (entries l 2 n)) = cc in
-      let six : 6 ≤ length l = omega (arith, x .laid .room) in
-      let laid = ea ∙ floors-laid floors l (x .laid .floors-small) six in
-      record {
-        answer =
-            er
-            ∙ ap (λ (y : Solution). offerOf (y .outcome)) same
-            ∙ ap offerOf (walk-is-defined tie tie-good floors f (entries l 2 n) .outcome-defined);
-        same = ap length laid ∙ laid-length floors l;
-        rules = ap (λ (m : List ℤ). entries m 2 n) laid ∙ laid-rules floors l 2 n (omega arith);
-      }
+  module _ (n : ℕ) (some : 0 < n) {g : Gain} (eg : g ≡ gaining f cone) where
+    pub offer-unlimited : {d : Ray} →
+        g ≡ gain.Along d →
+        {start : Point} →
+        start ≡ firstBy (tieOrder tie) (pointsFrom l 0 n) →
+        offer 2 start ≡ offerIn cone (pointsFrom l 0 n) f
+    offer-unlimited {d} e es =
+        ap (offer 2) es
+        ∙ ap (λ (h : Gain). offerAlong h (firstBy (tieOrder tie) (pointsFrom l 0 n)) (firstBy (gainOrder f tie) (pointsFrom l 0 n)))
+        (sym e ∙ eg)
+        ∙ offer-some some
+
+    pub offer-best : g ≡ gain.Nowhere →
+        {best : Point} →
+        best ≡ firstBy (gainOrder f tie) (pointsFrom l 0 n) →
+        offer 1 best ≡ offerIn cone (pointsFrom l 0 n) f
+    offer-best e eb =
+        ap (offer 1) eb
+        ∙ ap (λ (h : Gain). offerAlong h (firstBy (tieOrder tie) (pointsFrom l 0 n)) (firstBy (gainOrder f tie) (pointsFrom l 0 n)))
+        (sym e ∙ eg)
+        ∙ offer-some some
+
+-- ---- the theorem
+
+module _ (floors : Floors) (rules : List Constraint) where
+  pub offer-planned : (vs : List Point) →
+      ((v : Point) → List·Memᴰ v vs ↔ List·Memᴰ v (allowedVertices (system floors rules))) →
+      (f : Functional) →
+      offerIn (raysOf rules) vs f ≡ offerFor floors rules f
+  offer-planned [] exactly f = sym (ap offerOf (none-impossible tie tie-good floors f rules [] exactly refl))
+  offer-planned (v ∷ vs) exactly f = go (gaining f (raysOf rules)) refl
+    where
+      go : (g : Gain) →
+          gaining f (raysOf rules) ≡ g →
+          offerAlong g (firstBy (tieOrder tie) (v ∷ vs)) (firstBy (gainOrder f tie) (v ∷ vs)) ≡ offerFor floors rules f
+      go (gain.Along d) e = sym (ap offerOf (gaining-unlimited tie tie-good floors f rules (v ∷ vs) exactly v vs refl d e .1))
+      go gain.Nowhere e = sym (ap offerOf (resting-best tie tie-good floors f rules (v ∷ vs) exactly v vs refl e))
+
+  -- all of them, from the corners that were laid out
+  pub answers-laid : {cone : Cone} →
+      cone ≡ raysOf rules →
+      (l : List ℤ) (n : ℕ) →
+      Lays floors rules n l →
+      (fs : List Functional) →
+      answersBy (offerIn cone (pointsFrom l 0 n)) fs ≡ answersFor floors rules fs
+  answers-laid {cone} e l n laid =
+      answers-planned (offerIn cone (pointsFrom l 0 n)) floors rules
+      (λ f. ap (λ (c : Cone). offerIn c (pointsFrom l 0 n) f) e ∙ offer-planned (pointsFrom l 0 n) (laid .exactly) f)

@@ -7,10 +7,10 @@ use answers::Refusal;
 use records::Version;
 ghost use Rattle.records.specs.Layout.{v2};
 ghost use Rattle.book.specs.Runs.{Few};
-ghost use Rattle.planner.specs.Running.{Roomy};
 ghost use mathlib.Core.Path.{_≡_};
 ghost use Rattle.batching.specs.Promises as promised;
 ghost use Rattle.batching.specs.Promises.{batchedOf, Batches};
+ghost use Rattle.batching.specs.Asked.{Roomy};
 
 // A batch that is turned back.
 fn declined(number: u8) -> Batched
@@ -20,15 +20,18 @@ fn declined(number: u8) -> Batched
     Batched { refusal, filled: 0 }
 }
 
-// With the runs lent: the book's own refusals, then 16, then 11, and then the answers.
+// With the runs lent: the book's own refusals, then 16, then 11, and then the answers. The records of the chain give way to the order in
+// which the rules enter the region's boundary.
 fn batch_in(
     book: &[u8],
     objectives: &[u8],
     out: &mut [u8],
     records: &mut [u16],
     run: &mut [i64],
+    ring: &mut [u16],
+    corners: &mut [i64],
 ) -> Batched
-    requires { ⌜ Roomy v2 (now book) (now records) (now run) ⌝ }
+    requires { ⌜ Roomy (now book) (now records) (now run) (now ring) (now corners) ⌝ }
     ensures { λ r. ⌜ Batches (now (book .entry)) (now (objectives .entry)) (now (out .entry)) r (now (out .exit)) ⌝ }
 {
     let head = book::read(Version::Two, book, &mut *records, &mut run[6..]);
@@ -44,7 +47,16 @@ fn batch_in(
         return declined(11);
     }
     let terms = head.terms;
-    answer(terms.floors, run, head.n, objectives, out);
+    let n = head.n;
+    answer(
+        terms.floors,
+        run,
+        &mut records[0..n],
+        ring,
+        corners,
+        objectives,
+        out,
+    );
     Batched { refusal, filled }
 }
 
@@ -54,8 +66,18 @@ pub fn batch_short(book: &[u8], objectives: &[u8], out: &mut [u8]) -> Batched
     ensures { λ r. ⌜ Batches (now (book .entry)) (now (objectives .entry)) (now (out .entry)) r (now (out .exit)) ⌝ }
 {
     let mut records = [0u16; 30];
-    let mut run = [0i64; 96];
-    batch_in(book, objectives, out, &mut records, &mut run)
+    let mut run = [0i64; 99];
+    let mut ring = [0u16; 68];
+    let mut corners = [0i64; 99];
+    batch_in(
+        book,
+        objectives,
+        out,
+        &mut records,
+        &mut run,
+        &mut ring,
+        &mut corners,
+    )
 }
 
 // Of one with 255.
@@ -64,8 +86,18 @@ pub fn batch_middle(book: &[u8], objectives: &[u8], out: &mut [u8]) -> Batched
     ensures { λ r. ⌜ Batches (now (book .entry)) (now (objectives .entry)) (now (out .entry)) r (now (out .exit)) ⌝ }
 {
     let mut records = [0u16; 255];
-    let mut run = [0i64; 771];
-    batch_in(book, objectives, out, &mut records, &mut run)
+    let mut run = [0i64; 774];
+    let mut ring = [0u16; 518];
+    let mut corners = [0i64; 774];
+    batch_in(
+        book,
+        objectives,
+        out,
+        &mut records,
+        &mut run,
+        &mut ring,
+        &mut corners,
+    )
 }
 
 // Of one with as many as a book can have.
@@ -73,6 +105,16 @@ pub fn batch_long(book: &[u8], objectives: &[u8], out: &mut [u8]) -> Batched
     ensures { λ r. ⌜ Batches (now (book .entry)) (now (objectives .entry)) (now (out .entry)) r (now (out .exit)) ⌝ }
 {
     let mut records = [0u16; 4095];
-    let mut run = [0i64; 12291];
-    batch_in(book, objectives, out, &mut records, &mut run)
+    let mut run = [0i64; 12294];
+    let mut ring = [0u16; 8198];
+    let mut corners = [0i64; 12294];
+    batch_in(
+        book,
+        objectives,
+        out,
+        &mut records,
+        &mut run,
+        &mut ring,
+        &mut corners,
+    )
 }

@@ -1,8 +1,13 @@
-// Many price lists for one book (request 109): the book is read and checked a single time, and each objective gets the outcome and the pair
-// that a plan alone would give. It takes any bytes as a book of version 2, any as objectives, and any output.
+// Many price lists for one book (request 109): the book is read and checked a single time, the corners of its region are listed once, and
+// each objective gets the outcome and the pair that a plan alone would give. It takes any bytes as a book of version 2, any as objectives,
+// and any output.
 mod classes;
+mod exact;
+mod lay;
 mod objectives;
 mod offers;
+mod picks;
+mod rays;
 
 use answers::Refusal;
 ghost use Rattle.batching.specs.Promises.{Batches};
