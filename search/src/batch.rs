@@ -7,10 +7,11 @@ use crate::damage::damage;
 use crate::exact::{outcome, Line, Outcome, Pair, Terms};
 use crate::families::source;
 use crate::layout::{signed, TWO};
-use crate::program::short_stored_books;
+use crate::program::{inputs, short_stored_books, streams_with};
 use crate::random::Random;
 use crate::read::{read_as, Refused};
 use std::fmt;
+use std::path::PathBuf;
 
 extern "C" {
     fn vishalneq_batch(
@@ -184,4 +185,93 @@ pub fn batches(seed: u64, books: u64) -> Result<Tally, String> {
         tries(name, &book, &mut random)?;
     }
     Ok(tally)
+}
+
+/// A book with more bytes has few objectives in the program's run, since one takes half a second to search.
+const LONG: usize = 4_200;
+
+/// The line of an answer.
+fn line(answer: &[u8]) -> String {
+    let number = |at: usize| signed(&answer[at..at + 8]);
+    let pair = || format!("{} {} {}", number(8), number(16), number(24));
+    match answer[0] {
+        1 => format!("best {}\n", pair()),
+        2 => format!("unlimited {}\n", pair()),
+        _ => "impossible\n".into(),
+    }
+}
+
+/// The lines of a batch, or that of its refusal.
+fn lines(book: &[u8], objectives: &[u8]) -> String {
+    match right(book, objectives, 8 * objectives.len()) {
+        Err(r) => format!("refused {} {}\n", r.number, r.record),
+        Ok(bytes) => bytes.chunks(ANSWER).map(line).collect(),
+    }
+}
+
+/// A file for the book, which is gone again when this is.
+struct File(PathBuf);
+
+impl File {
+    fn new(book: &[u8]) -> Result<File, String> {
+        let name = std::env::temp_dir().join(format!("batch-{}.book", std::process::id()));
+        std::fs::write(&name, book).map_err(|e| e.to_string())?;
+        Ok(File(name))
+    }
+}
+
+impl Drop for File {
+    fn drop(&mut self) {
+        // A file that is gone already is as good.
+        let _ = std::fs::remove_file(&self.0);
+    }
+}
+
+/// What the program prints for a book in a file and objectives that arrive in two pieces.
+fn printed(path: &str, book: &[u8], objectives: &[u8], first: usize) -> Result<String, String> {
+    let file = File::new(book)?;
+    let (out, error) = streams_with(path, &[file.0.as_os_str()], objectives, first)?;
+    if !error.is_empty() {
+        return Err(String::from_utf8_lossy(&error).into());
+    }
+    Ok(String::from_utf8_lossy(&out).into())
+}
+
+/// Runs the program on all books that a plan program is run on, with some objectives each; a book that is missing has a line on standard
+/// error and none on standard output. Says how many runs there were.
+pub fn program(path: &str, seed: u64) -> Result<u64, String> {
+    let mut random = Random::new(seed);
+    let books = inputs(&TWO, &mut random);
+    for (name, book) in &books {
+        let rules: Vec<Line> = read_as(&TWO, book).map_or(Vec::new(), |a| a.rules.iter().map(|r| r.line).collect());
+        let mut objectives = objectives(&mut random, &rules);
+        objectives.truncate(if book.len() > LONG { 8 } else { 256 });
+        let (right, told) = (lines(book, &objectives), printed(path, book, &objectives, random.below(objectives.len() + 1))?);
+        if told != right {
+            let (book, objectives) = (to_hex(book), to_hex(&objectives));
+            return Err(format!(
+                "mismatch: {name}: a batch\nbook       {book}\nobjectives {objectives}\nright\n{right}printed\n{told}"
+            ));
+        }
+    }
+    let (out, error) = streams_with(path, &[], &[0; 4], 4)?;
+    if !out.is_empty() || error.is_empty() {
+        return Err("a missing book must have a line on standard error alone".into());
+    }
+    Ok(books.len() as u64 + 1)
+}
+
+#[cfg(test)]
+mod tests {
+    use super::*;
+    use crate::stored::source;
+
+    #[test]
+    fn lines_of_the_class_example() {
+        let book = source(0, 0, &[(1, 1, 2, 8), (1, 3, 1, 9)]).packed_as(&TWO);
+        assert_eq!(lines(&book, &[1, 0, 1, 0, 0, 0, 0, 0]), "best 2 3 1\nbest 0 0 1\n");
+        assert_eq!(lines(&book, &[1, 0, 1]), "refused 16 0\n");
+        assert_eq!(lines(&source(0, 0, &[]).packed_as(&TWO), &[1, 0, 0, 0]), "unlimited 0 0 1\n");
+        assert_eq!(lines(&source(0, 0, &[(1, 1, 0, -1)]).packed_as(&TWO), &[1, 0, 0, 0]), "impossible\n");
+    }
 }

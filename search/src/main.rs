@@ -7,7 +7,7 @@
 //! `search joint PATH` runs the program that plans two books as one; JOINT, JOINT_LONG and JOINT_LONGEST say how many random pairs there
 //! are without words.
 //! `search session PATH` runs SCRIPTS random scripts of 300 steps through the session program, `search corners PATH` the corner program on
-//! what the plan program is run on.
+//! what the plan program is run on, `search batch PATH` the batch program likewise, with some objectives for each book.
 //! `search repack PATH` puts stored books and REPACKS random ones through the program of the reader and the repacker.
 //! `search look [VERSION]` reads books in hexadecimal, one a line, and prints for each the right line, the planner's and the verdict.
 
@@ -36,11 +36,12 @@ fn main() -> ExitCode {
         ["joint", path] => run_joint(path),
         ["session", path] => run_session(path),
         ["corners", path] => run_corners(path),
+        ["batch", path] => run_batch(path),
         ["repack", path] => seed().and_then(|seed| run_repack(path, seed)),
         ["look"] => look("1"),
         ["look", version] => look(version),
         _ => {
-            Err("usage: search [look [VERSION] | program PATH [VERSION] | panel PATH [VERSION] | repacker PATH [VERSION] | joint PATH | session PATH | corners PATH | repack PATH]"
+            Err("usage: search [look [VERSION] | program PATH [VERSION] | panel PATH [VERSION] | repacker PATH [VERSION] | joint PATH | session PATH | corners PATH | batch PATH | repack PATH]"
                 .into())
         }
     };
@@ -164,6 +165,12 @@ fn run_session(path: &str) -> Result<(), String> {
 fn run_corners(path: &str) -> Result<(), String> {
     let books = search::corners::program(path, seed()?)?;
     println!("search: all right: {books} books through the corner program");
+    Ok(())
+}
+
+fn run_batch(path: &str) -> Result<(), String> {
+    let runs = search::batch::program(path, seed()?)?;
+    println!("search: all right: {runs} batches through the batch program");
     Ok(())
 }
 

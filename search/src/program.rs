@@ -6,6 +6,7 @@ use crate::prefixes::Way;
 use crate::random::Random;
 use crate::runs::try_line_as;
 use crate::{stored, stored_two};
+use std::ffi::OsStr;
 use std::io::Write;
 use std::process::{Command, Stdio};
 
@@ -75,8 +76,13 @@ pub fn printed(path: &str, book: &[u8], first: usize) -> Result<Vec<u8>, String>
 
 /// What the program writes to standard output and to standard error. It must end normally.
 pub fn streams(path: &str, book: &[u8], first: usize) -> Result<(Vec<u8>, Vec<u8>), String> {
+    streams_with(path, &[], book, first)
+}
+
+/// The same with words after the program's name.
+pub fn streams_with(path: &str, words: &[&OsStr], book: &[u8], first: usize) -> Result<(Vec<u8>, Vec<u8>), String> {
     let mut command = Command::new(path);
-    command.stdin(Stdio::piped()).stdout(Stdio::piped()).stderr(Stdio::piped());
+    command.args(words).stdin(Stdio::piped()).stdout(Stdio::piped()).stderr(Stdio::piped());
     let mut child = command.spawn().map_err(|e| format!("{path}: {e}"))?;
     let mut input = child.stdin.take().ok_or("no standard input")?;
     for piece in [&book[..first], &book[first..]] {

@@ -3,7 +3,7 @@ use mathlib.Core.Path.{_≡_, refl, sym, _∙_, ap, subst}
 use mathlib.Core.List.{List, [], _∷_, _++_, map, List·Memᴰ, List·Memᴰ·head, List·Memᴰ·tail}
 use mathlib.Core.Logic.{_↔_}
 use mathlib.Core.Bool.{Bool, true, false, cond, true≢false}
-use Prim.Native.Nat.{ℕ, zero, suc, _+_, _*_, _≤_, _<_}
+use Prim.Native.Nat.{ℕ, zero, suc, _+_, _<_}
 use native.Mathlib.Omega.{arith}
 use native.Mathlib.Nat.{add-zero}
 use native.Mathlib.Numerals.{add-one}
@@ -21,7 +21,7 @@ use Rattle.region.specs.declared.Listed.{Listed}
 use Rattle.region.specs.declared.Listed.the-variants as listed
 use Rattle.region.specs.Listing.{Lists, taken, cornersOf, putPoints}
 use Rattle.region.proofs.Theorems.{places, order-names-rules, listed-exactly, listed-at-most}
-use Rattle.region.proofs.Frames.{Fit, fit-taken}
+use Rattle.region.proofs.Frames.{fit-taken}
 use Rattle.region.proofs.Points.{readPoint, corners-read}
 use Rattle.batching.specs.Listed.{pointAt, pointsFrom}
 use Rattle.batching.specs.Asked.{Points, Laying, Lays}

@@ -1,4 +1,4 @@
--- The laws of a batch: objectives and their ranges (Sound), the answers as bytes one after the other (Written), numbers that fit (Sizes),
+-- The laws of a batch: the objectives and their ranges (Sound), the answers as bytes one after the other (Written), numbers that fit (Sizes),
 -- the order of corners (Orders), a book's rules in the run that is lent (Books), what a batch comes to (Output), and what its promise means
 -- (Wrong, Demands).
 pub mod Sound

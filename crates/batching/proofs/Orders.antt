@@ -2,7 +2,7 @@
 use mathlib.Core.Path.{_≡_, refl, sym, _∙_, ap}
 use mathlib.Core.List.{List, [], _∷_}
 use mathlib.Core.Bool.{Bool, true, false}
-use lib.IntN.{ℤ, pos, _-ℤ_, _*ℤ_}
+use lib.IntN.{ℤ, pos, _*ℤ_}
 use lib.Signed.{ltZ}
 use Rattle.ints.proofs.Ring.{ring, _⊕_, _⊖_, _⊗_, _≐_, con}
 use Rattle.ints.proofs.Machine.{within-numeral}
@@ -14,11 +14,9 @@ use Rattle.lp.specs.Corners.{less}
 use Rattle.lp.specs.Outcome.{above, better, pick, tieOrder, gainOrder}
 use Rattle.lp.specs.Document.{tie}
 use Rattle.lp.specs.Range.{SmallFunctional}
-use Rattle.compare.specs.Comparing.{Denominators}
 use Rattle.compare.proofs.Parts.{same-test}
 use Rattle.engine.proofs.Steps.{above-gains, above-loses, above-level, above-last}
 use Rattle.batching.specs.Listed.{firstBy}
-use Rattle.batching.specs.Asked.{Tying, Weighing}
 
 -- ---- two corners
 

@@ -1,12 +1,11 @@
 -- The passes over the rules, for their rays, and over the corners, for the first of them: what is left of a pass gives, with what is held
 -- so far, the answer of the whole. One record says so for each loop, with its start, its step and its end.
-use mathlib.Core.Path.{_≡_, refl, sym, _∙_, ap, subst}
-use mathlib.Core.List.{List, [], _∷_}
+use mathlib.Core.Path.{_≡_, sym, _∙_, ap, subst}
+use mathlib.Core.List.{List, _∷_}
 use mathlib.Core.Bool.{Bool, true, false}
-use Prim.Native.Nat.{ℕ, zero, suc, _+_, _*_, _-_, _≤_, _<_}
+use Prim.Native.Nat.{ℕ, suc, _+_, _-_, _≤_, _<_}
 use native.Mathlib.Omega.{arith}
 use native.Mathlib.Numerals.{add-one}
-use lib.ListN.{length}
 use lib.IntN.{ℤ}
 use Rattle.lp.specs.declared.Constraint.{Constraint}
 use Rattle.lp.specs.declared.Functional.{Functional}

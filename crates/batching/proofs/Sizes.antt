@@ -25,7 +25,7 @@ use Rattle.model.proofs.Bounds.{floorX-small, floorY-small, meet-small, reduce-
 use Rattle.theory.proofs.Lists.{for-members}
 use Rattle.theory.proofs.Vertex.{Vertex}
 use Rattle.batch_theory.specs.Rays.{narrowAll, axes, raysOf}
-use Rattle.compare.specs.Comparing.{isDenominator, lessIn, Denominators}
+use Rattle.compare.specs.Comparing.{isDenominator, lessIn}
 use Rattle.compare.proofs.Points.{less-exact}
 use Rattle.fraction.proofs.Quotients.{unread}
 use Rattle.engine.specs.Sizes.{Risen, Gained}
@@ -111,7 +111,7 @@ weighed {f} {w} {v} h fy fz ey ez e =
 
 -- ---- the corners and rays of a system whose rules are in range
 
-small-member : (S : List Constraint) → SmallSystem S → (r : Constraint) → List·Memᴰ r S → SmallConstraint r
+pub small-member : (S : List Constraint) → SmallSystem S → (r : Constraint) → List·Memᴰ r S → SmallConstraint r
 small-member [] h = λ r m. absurd (List·Memᴰ·not-nil m)
 small-member (c ∷ S) h = for-members SmallConstraint c S (h .0) (small-member S (h .1))
 

@@ -17,7 +17,8 @@ use Rattle.region.specs.Listing.{Lists, taken, chosen, cornersOf, putPoints}
 use Rattle.region.proofs.Theorems.{places, order-names-rules, rules-enter, only-rules, listed-at-most}
 use Rattle.region.proofs.Frames.{Fit, fit-taken}
 use Rattle.region.proofs.Points.{corners-read}
-use Rattle.cornering.specs.Asked.{Names, Laying, Lays}
+use Rattle.batching.specs.Asked.{Laying}
+use Rattle.cornering.specs.Asked.{Names, Lays}
 
 indices-places : (i n : ℕ) → indices i n ≡ places i n
 indices-places i zero = refl
@@ -44,7 +45,7 @@ module _
         few = omega (arith, h .few);
         room = h .room;
         ring-room = omega (arith, h .ring-room, same);
-        out-room = omega (arith, h .keys-room, same);
+        out-room = omega (arith, h .corners-room, same);
         floors = floors-pass {f = f} (h .floors-small);
         rules = system-passes (entries e 2 n) (h .rules-small);
         ordered = order-names-rules n order to from;
@@ -78,7 +79,7 @@ module _
           laid =
               (λ i. map (pointAt (put i)) (indices 0 (so i)))
               ∙ ap (map (pointAt (putPoints keys 0 (cornersOf f e order)))) (indices-places 0 (length (cornersOf f e order)))
-              ∙ corners-read f e order keys (omega (arith, h .keys-room, same));
+              ∙ corners-read f e order keys (omega (arith, h .corners-room, same));
           few = omega (arith, so, same, listed-at-most f e order);
         }
       where

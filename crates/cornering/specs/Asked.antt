@@ -8,24 +8,13 @@ use lib.ListN.{length}
 use lib.IntN.{ℤ}
 use Rattle.lp.specs.declared.Constraint.{Constraint}
 use Rattle.lp.specs.declared.Floors.{Floors}
-use Rattle.lp.specs.Range.{SmallFloors, SmallSystem}
+use Rattle.lp.specs.Range.{SmallFloors}
 use Rattle.boundary.specs.Ring.{grown, corners}
 use Rattle.answers.specs.Refusal.{refusal, notRefused}
-use Rattle.records.specs.Layout.{v2}
-use Rattle.records.specs.Header.{headerFault, countOf}
-use Rattle.engine.specs.Entries.{entries}
 use Rattle.sorting.specs.Keys.{pointAt, comesAt}
 use Rattle.arranging.specs.Arranging.{indices, kept, keptRun, orderOf}
 use Rattle.listing.specs.Listing.{written}
 use Rattle.outline.specs.declared.Outlined.{Outlined}
-
--- the runs of a book have room: its chain, its rules between the floors and the horizon, the ring, and its corners
-pub record Roomy (s records : List ℕ) (run : List ℤ) (ring : List ℕ) (keys : List ℤ) : Type 0 where
-  pub names : headerFault v2 s ≡ 0 → countOf v2 s ≤ length records
-  pub rules : headerFault v2 s ≡ 0 → 3 * (countOf v2 s + 3) ≤ length run
-  pub floors : 6 ≤ length run
-  pub ring-room : headerFault v2 s ≡ 0 → countOf v2 s + 4 ≤ length ring
-  pub keys-room : headerFault v2 s ≡ 0 → 3 * (countOf v2 s + 3) ≤ length keys
 
 pub record Ordering (f : Floors) (order : List ℕ) : Type 0 where
   pub floors-small : SmallFloors f
@@ -35,14 +24,6 @@ pub record Ordering (f : Floors) (order : List ℕ) : Type 0 where
 pub record Names (n : ℕ) (order : List ℕ) : Type 0 where
   pub to : (k : ℕ) → List·Memᴰ k (indices 2 n) → List·Memᴰ k order
   pub from : (k : ℕ) → List·Memᴰ k order → List·Memᴰ k (indices 2 n)
-
-pub record Laying (f : Floors) (e : List ℤ) (order ring : List ℕ) (keys : List ℤ) : Type 0 where
-  pub floors-small : SmallFloors f
-  pub few : length order ≤ 4095
-  pub room : 3 * (length order + 3) ≤ length e
-  pub rules-small : SmallSystem (entries e 2 (length order))
-  pub ring-room : length order + 4 ≤ length ring
-  pub keys-room : 3 * (length order + 3) ≤ length keys
 
 -- the first r points of the keys are the corners of a ring of n rules, whatever the order in which they entered
 pub record Lays (f : Floors) (rules : List Constraint) (n r : ℕ) (keys : List ℤ) : Type 0 where

@@ -7,7 +7,7 @@ use records::Version;
 ghost use Rattle.records.specs.Layout.{v2};
 ghost use Rattle.book.specs.Runs.{Few};
 ghost use Rattle.outline.specs.Outline.{Outlines};
-ghost use Rattle.cornering.specs.Asked.{Roomy};
+ghost use Rattle.batching.specs.Asked.{Roomy};
 
 // With the runs lent: the book's own refusals, and then the list. The records of the chain give way to the order in which the rules enter.
 fn corners_in(

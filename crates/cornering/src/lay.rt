@@ -4,7 +4,8 @@ use lp::Floors;
 use region::Listed;
 ghost use lib.ListN.{length};
 ghost use Rattle.engine.specs.Entries.{entries};
-ghost use Rattle.cornering.specs.Asked.{Laying, Lays};
+ghost use Rattle.batching.specs.Asked.{Laying};
+ghost use Rattle.cornering.specs.Asked.{Lays};
 
 // Lays out the corners of the rules that stand in the run, as many as the order is long; how many points these are.
 pub fn lay(

@@ -9,7 +9,8 @@ use Rattle.records.specs.Header.{countOf}
 use Rattle.book.proofs.Said.{said-refused}
 use Rattle.planner.proofs.Runs.{part-room}
 use Rattle.batching.proofs.Books.{ready}
-use Rattle.cornering.proofs.Books.{rules-room, named, ordered, ringed, pointed, few-points, laying, outlines-refused, outlines}
+use Rattle.batching.proofs.Runs.{rules-room, named, ordered, laying}
+use Rattle.cornering.proofs.Books.{ringed, pointed, few-points, outlines-refused, outlines}
 use borrow.Author.Needs.{needs}
 use Rattle.cornering.proofs.classes.corners_in.Statement.{statement}
 use Rattle.cornering.proofs.classes.corners_in.Tie as tie

@@ -1,7 +1,7 @@
 -- `cornering::classes::corners_long` meets its contract: there is room for 4,095 rules.
 use Rattle.records.specs.declared.Version.the-variants.{Two}
 use Rattle.repacker.proofs.Output.{most-rules}
-use Rattle.cornering.proofs.Books.{few-roomy}
+use Rattle.batching.proofs.Runs.{few-roomy}
 use borrow.Author.Needs.{needs}
 use Rattle.cornering.proofs.classes.corners_long.Statement.{statement}
 use Rattle.cornering.proofs.classes.corners_long.Tie as tie

@@ -1,5 +1,5 @@
 -- `cornering::classes::corners_middle` meets its contract: there is room for 255 rules.
-use Rattle.cornering.proofs.Books.{few-roomy}
+use Rattle.batching.proofs.Runs.{few-roomy}
 use borrow.Author.Needs.{needs}
 use Rattle.cornering.proofs.classes.corners_middle.Statement.{statement}
 use Rattle.cornering.proofs.classes.corners_middle.Tie as tie
