@@ -7,11 +7,10 @@ use crate::damage::damage;
 use crate::exact::{outcome, Line, Outcome, Pair, Terms};
 use crate::families::source;
 use crate::layout::{signed, TWO};
-use crate::program::{inputs, short_stored_books, streams_with};
+use crate::program::{inputs, printed_of, short_stored_books, streams_with};
 use crate::random::Random;
 use crate::read::{read_as, Refused};
 use std::fmt;
-use std::path::PathBuf;
 
 extern "C" {
     fn vishalneq_batch(
@@ -209,34 +208,6 @@ fn lines(book: &[u8], objectives: &[u8]) -> String {
     }
 }
 
-/// A file for the book, which is gone again when this is.
-struct File(PathBuf);
-
-impl File {
-    fn new(book: &[u8]) -> Result<File, String> {
-        let name = std::env::temp_dir().join(format!("batch-{}.book", std::process::id()));
-        std::fs::write(&name, book).map_err(|e| e.to_string())?;
-        Ok(File(name))
-    }
-}
-
-impl Drop for File {
-    fn drop(&mut self) {
-        // A file that is gone already is as good.
-        let _ = std::fs::remove_file(&self.0);
-    }
-}
-
-/// What the program prints for a book in a file and objectives that arrive in two pieces.
-fn printed(path: &str, book: &[u8], objectives: &[u8], first: usize) -> Result<String, String> {
-    let file = File::new(book)?;
-    let (out, error) = streams_with(path, &[file.0.as_os_str()], objectives, first)?;
-    if !error.is_empty() {
-        return Err(String::from_utf8_lossy(&error).into());
-    }
-    Ok(String::from_utf8_lossy(&out).into())
-}
-
 /// Runs the program on all books that a plan program is run on, with some objectives each; a book that is missing has a line on standard
 /// error and none on standard output. Says how many runs there were.
 pub fn program(path: &str, seed: u64) -> Result<u64, String> {
@@ -246,7 +217,7 @@ pub fn program(path: &str, seed: u64) -> Result<u64, String> {
         let rules: Vec<Line> = read_as(&TWO, book).map_or(Vec::new(), |a| a.rules.iter().map(|r| r.line).collect());
         let mut objectives = objectives(&mut random, &rules);
         objectives.truncate(if book.len() > LONG { 8 } else { 256 });
-        let (right, told) = (lines(book, &objectives), printed(path, book, &objectives, random.below(objectives.len() + 1))?);
+        let (right, told) = (lines(book, &objectives), printed_of(path, book, &objectives, random.below(objectives.len() + 1))?);
         if told != right {
             let (book, objectives) = (to_hex(book), to_hex(&objectives));
             return Err(format!(

@@ -1,8 +1,7 @@
 //! Tests of the planner from outside. Books are made at random or from a table (`book`, `families`, `damage`, `stored`), read again by an
 //! independent reader (`read`), searched exhaustively (`exact`, `prefixes`) or, where they are long, by cutting lines (`clip`), and the
 //! planner's line is judged (`judge`, `spare`), as are the lines of the panel (`panel`), batches of objectives (`batch`), two books joined
-//! (`joint`), slips (`slips`), sessions (`session`) and corners (`corners`,
-//! `corner_bytes`).
+//! (`joint`), slips and their lines (`slips`, `slip_lines`), sessions (`session`) and corners (`corners`, `corner_bytes`).
 //! Nothing here shares a step with the planner: no walk, no pair carried from one prefix to the next, 128-bit integers
 //! throughout.
 
@@ -30,6 +29,8 @@ pub mod read;
 pub mod repack;
 pub mod runs;
 pub mod session;
+#[cfg(not(feature = "standin"))]
+pub mod slip_lines;
 #[cfg(not(feature = "standin"))]
 pub mod slips;
 pub mod spare;

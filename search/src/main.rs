@@ -7,7 +7,8 @@
 //! `search joint PATH` runs the program that plans two books as one; JOINT, JOINT_LONG and JOINT_LONGEST say how many random pairs there
 //! are without words.
 //! `search session PATH` runs SCRIPTS random scripts of 300 steps through the session program, `search corners PATH` the corner program on
-//! what the plan program is run on, `search batch PATH` the batch program likewise, with some objectives for each book.
+//! what the plan program is run on, `search batch PATH` the batch program likewise, with some objectives for each book,
+//! `search check PATH` the check program on lines of slips and on texts that are none.
 //! `search repack PATH` puts stored books and REPACKS random ones through the program of the reader and the repacker.
 //! `search look [VERSION]` reads books in hexadecimal, one a line, and prints for each the right line, the planner's and the verdict.
 
@@ -37,11 +38,12 @@ fn main() -> ExitCode {
         ["session", path] => run_session(path),
         ["corners", path] => run_corners(path),
         ["batch", path] => run_batch(path),
+        ["check", path] => run_check(path),
         ["repack", path] => seed().and_then(|seed| run_repack(path, seed)),
         ["look"] => look("1"),
         ["look", version] => look(version),
         _ => {
-            Err("usage: search [look [VERSION] | program PATH [VERSION] | panel PATH [VERSION] | repacker PATH [VERSION] | joint PATH | session PATH | corners PATH | batch PATH | repack PATH]"
+            Err("usage: search [look [VERSION] | program PATH [VERSION] | panel PATH [VERSION] | repacker PATH [VERSION] | joint PATH | session PATH | corners PATH | batch PATH | check PATH | repack PATH]"
                 .into())
         }
     };
@@ -168,10 +170,28 @@ fn run_corners(path: &str) -> Result<(), String> {
     Ok(())
 }
 
+#[cfg(not(feature = "standin"))]
 fn run_batch(path: &str) -> Result<(), String> {
     let runs = search::batch::program(path, seed()?)?;
     println!("search: all right: {runs} batches through the batch program");
     Ok(())
+}
+
+#[cfg(feature = "standin")]
+fn run_batch(_path: &str) -> Result<(), String> {
+    Err("the twin has no batch program".into())
+}
+
+#[cfg(not(feature = "standin"))]
+fn run_check(path: &str) -> Result<(), String> {
+    let texts = search::slip_lines::program(path, seed()?)?;
+    println!("search: all right: {texts} texts through the check program");
+    Ok(())
+}
+
+#[cfg(feature = "standin")]
+fn run_check(_path: &str) -> Result<(), String> {
+    Err("the twin has no check program".into())
 }
 
 fn run_repack(path: &str, seed: u64) -> Result<(), String> {

@@ -8,6 +8,7 @@ use crate::runs::try_line_as;
 use crate::{stored, stored_two};
 use std::ffi::OsStr;
 use std::io::Write;
+use std::path::PathBuf;
 use std::process::{Command, Stdio};
 
 /// What every program of a version is run on: the stored books, inputs that are too long, some random books, and some of the longest.
@@ -98,4 +99,33 @@ pub fn streams_with(path: &str, words: &[&OsStr], book: &[u8], first: usize) -> 
         return Err(format!("{}, {}", output.status, String::from_utf8_lossy(&output.stderr)));
     }
     Ok((output.stdout, output.stderr))
+}
+
+/// A file for the book, which is gone again when this is.
+struct File(PathBuf);
+
+impl File {
+    fn new(book: &[u8]) -> Result<File, String> {
+        let name = std::env::temp_dir().join(format!("{}.book", std::process::id()));
+        std::fs::write(&name, book).map_err(|e| e.to_string())?;
+        Ok(File(name))
+    }
+}
+
+impl Drop for File {
+    fn drop(&mut self) {
+        // A file that is gone already is as good.
+        let _ = std::fs::remove_file(&self.0);
+    }
+}
+
+/// What a program prints for a book in a file, which its argument names, and an input that arrives in two pieces. It must print nothing to
+/// standard error.
+pub fn printed_of(path: &str, book: &[u8], input: &[u8], first: usize) -> Result<String, String> {
+    let file = File::new(book)?;
+    let (out, error) = streams_with(path, &[file.0.as_os_str()], input, first)?;
+    if !error.is_empty() {
+        return Err(String::from_utf8_lossy(&error).into());
+    }
+    Ok(String::from_utf8_lossy(&out).into())
 }

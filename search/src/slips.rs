@@ -29,7 +29,7 @@ fn refusal(told: usize) -> Option<Refused> {
 }
 
 /// The planner's slip. The number after it must stay as it was, as a run that is too short must, and one for a refused book.
-fn slip(book: &[u8]) -> Result<Result<[i64; 14], Refused>, String> {
+pub fn slip(book: &[u8]) -> Result<Result<[i64; 14], Refused>, String> {
     let (mut out, mut short) = ([0x5A5A; 15], [0x5A5A; 13]);
     // SAFETY: all slices are live for the calls, and the runs are lent for writing to them alone.
     let (told, none) = unsafe {
@@ -156,7 +156,7 @@ fn entry_to_spare(book: &[u8], numbers: &[i64]) -> bool {
 }
 
 /// A slip with one field, or another length, damaged: ends of ranges on both sides, neighbours, and numbers of any size.
-fn damaged(numbers: &[i64; 14], random: &mut Random) -> Vec<i64> {
+pub fn damaged(numbers: &[i64; 14], random: &mut Random) -> Vec<i64> {
     let mut slip = numbers.to_vec();
     if random.one_in(40) {
         slip.resize(random.pick(&[0, 1, 13, 15]), 0);
