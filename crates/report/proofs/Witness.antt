@@ -1,8 +1,11 @@
 -- A witness's entries: what each prints, and how many there are.
 use mathlib.Core.Path.{_≡_, refl, ap, sym, _∙_}
+use mathlib.Core.Bool.{Bool, cond}
 use mathlib.Core.List.{List, [], _∷_, _++_, append-nil, append-assoc}
-use Prim.Native.Nat.{ℕ, zero, suc, _+_, _-_, _≤_}
+use Prim.Native.Nat.{ℕ, zero, suc, _+_, _-_, _≤_, _<_}
 use native.Mathlib.Omega.{arith}
+use borrow.Author.Tests.{lt-ltb, le-ltb}
+use lib.Dec.{ltb}
 use lib.ListN.{length, length-append}
 use lib.IntN.{ℤ, pos, negsuc}
 use mir.Syntax.{w64}
@@ -11,10 +14,11 @@ use mir.Facts.{toZ-ofZ}
 use Rattle.lp.specs.declared.Certificate.{Certificate}
 use Rattle.lp.specs.Certificate.{Weighted, weighted, named}
 use Rattle.text.specs.Text.{text}
-use Rattle.text.specs.Number.{number, integer}
+use Rattle.text.specs.Number.{decimal, number, integer}
 use Rattle.text.specs.Append.{Appended}
 use Rattle.text.proofs.Put.{spelt}
-use Rattle.report.specs.Line.{entry, entries, witness}
+use Rattle.report.specs.declared.Naming.{Naming}
+use Rattle.report.specs.Line.{ruleOfTwo, rule, entry, entries, witness}
 use Rattle.ints.proofs.Bits.{read}
 
 -- ---- the test of a weight
@@ -30,37 +34,49 @@ one-named e (pos zero) t = absurd (t refl)
 one-named e (pos (suc n)) t = refl
 one-named e (negsuc n) t = refl
 
+-- ---- what a rule prints
+
+pub site-rule : (name : ℕ) → name < 4096 → text " S" ++ decimal name ≡ ruleOfTwo name
+unfolding ruleOfTwo
+site-rule name h =
+    sym (ap (λ (b : Bool). cond b (text " S" ++ decimal name) (text " T" ++ decimal (name - 4096))) (lt-ltb name 4096 h))
+
+pub tenant-rule : (name : ℕ) → 4096 ≤ name → text " T" ++ decimal (name - 4096) ≡ ruleOfTwo name
+unfolding ruleOfTwo
+tenant-rule name h =
+    sym (ap (λ (b : Bool). cond b (text " S" ++ decimal name) (text " T" ++ decimal (name - 4096))) (le-ltb name 4096 h))
+
 -- ---- what an entry prints
 
 -- the bytes of a floor, so that an error shows them
-pub floor-x : (e : ℕ) → e ≡ 0 → text " X" ≡ entry e
+pub floor-x : (m : Naming) (e : ℕ) → e ≡ 0 → text " X" ≡ entry m e
 unfolding entry
-floor-x e p = sym (ap entry p)
+floor-x m e p = sym (ap (entry m) p)
 
-pub floor-y : (e : ℕ) → e ≡ 1 → text " Y" ≡ entry e
+pub floor-y : (m : Naming) (e : ℕ) → e ≡ 1 → text " Y" ≡ entry m e
 unfolding entry
-floor-y e p = sym (ap entry p)
+floor-y m e p = sym (ap (entry m) p)
 
-pub entry-record : (e : ℕ) → (e ≡ 0 → ⊥) → (e ≡ 1 → ⊥) → number (e - 1) ≡ entry e
+pub entry-rule : (m : Naming) (e : ℕ) → (e ≡ 0 → ⊥) → (e ≡ 1 → ⊥) → rule m (e - 1) ≡ entry m e
 unfolding entry
-entry-record zero a b = absurd (a refl)
-entry-record (suc zero) a b = absurd (b refl)
-entry-record (suc (suc r)) a b = ap number (omega arith)
+entry-rule m zero a b = absurd (a refl)
+entry-rule m (suc zero) a b = absurd (b refl)
+entry-rule m (suc (suc r)) a b = ap (rule m) (omega arith)
 
-pub left-out : (e : ℕ) (z : ℤ) → SFits w64 z → ofZ w64 z ≡ 0 → [] ≡ entries (weighted e z)
+pub left-out : (m : Naming) (e : ℕ) (z : ℤ) → SFits w64 z → ofZ w64 z ≡ 0 → [] ≡ entries m (weighted e z)
 unfolding entries
-left-out e z f t = sym (ap entries (none-named e z f t))
+left-out m e z f t = sym (ap (entries m) (none-named e z f t))
 
-pub printed : (e : ℕ) (z : ℤ) → (ofZ w64 z ≡ 0 → ⊥) → entry e ++ integer z ≡ entries (weighted e z)
+pub printed : (m : Naming) (e : ℕ) (z : ℤ) → (ofZ w64 z ≡ 0 → ⊥) → entry m e ++ integer z ≡ entries m (weighted e z)
 unfolding entries
-printed e z t = sym (ap entries (one-named e z t) ∙ append-nil (entry e ++ integer z))
+printed m e z t = sym (ap (entries m) (one-named e z t) ∙ append-nil (entry m e ++ integer z))
 
-entries-append : (l m : List Weighted) → entries (l ++ m) ≡ entries l ++ entries m
+entries-append : (m : Naming) (k l : List Weighted) → entries m (k ++ l) ≡ entries m k ++ entries m l
 unfolding entries
-entries-append [] m = refl
-entries-append (w ∷ l) m =
-    let printed : List ℕ = entry (w .entry) ++ integer (w .weight) in
-    ap (λ (r : List ℕ). printed ++ r) (entries-append l m) ∙ sym (append-assoc printed (entries l) (entries m))
+entries-append m [] l = refl
+entries-append m (w ∷ k) l =
+    let printed : List ℕ = entry m (w .entry) ++ integer (w .weight) in
+    ap (λ (r : List ℕ). printed ++ r) (entries-append m k l) ∙ sym (append-assoc printed (entries m k) (entries m l))
 
 -- how many are named does not depend on their indexes
 count-any : (e : ℕ) (z : ℤ) → length (weighted e z) ≡ length (weighted 0 z)
@@ -113,23 +129,23 @@ counted k m n o f g h p q r =
       used-is o (k .«third_weight») h r,
     )
 
-pub whole-entry : {before after : List ℕ} {at next i : ℕ} (e : ℕ) (z : ℤ) →
+pub whole-entry : {before after : List ℕ} {at next i : ℕ} (m : Naming) (e : ℕ) (z : ℤ) →
     SFits w64 z →
-    Appended before at (entries (weighted e (read z))) i after next →
-    Appended before at (entries (weighted e z)) i after next
-whole-entry e z f = spelt (ap (λ (y : ℤ). entries (weighted e y)) (toZ-ofZ {w = w64} f))
+    Appended before at (entries m (weighted e (read z))) i after next →
+    Appended before at (entries m (weighted e z)) i after next
+whole-entry m e z f = spelt (ap (λ (y : ℤ). entries m (weighted e y)) (toZ-ofZ {w = w64} f))
 
-pub witness-parts : (k : Certificate) (n : ℕ) →
+pub witness-parts : (m : Naming) (k : Certificate) (n : ℕ) →
     n ≡ length (named k) →
     number n
-    ++ (entries (weighted (k .first) (k .«first_weight»))
-    ++ (entries (weighted (k .second) (k .«second_weight»)) ++ entries (weighted (k .third) (k .«third_weight»))))
-    ≡ witness k
+    ++ (entries m (weighted (k .first) (k .«first_weight»))
+    ++ (entries m (weighted (k .second) (k .«second_weight»)) ++ entries m (weighted (k .third) (k .«third_weight»))))
+    ≡ witness m k
 unfolding witness
-witness-parts k n e =
+witness-parts m k n e =
     let a : List Weighted = weighted (k .first) (k .«first_weight») in
     let b : List Weighted = weighted (k .second) (k .«second_weight») in
     let d : List Weighted = weighted (k .third) (k .«third_weight») in
-    ap (λ (m : ℕ). number m ++ (entries a ++ (entries b ++ entries d))) e
-    ∙ ap (λ (r : List ℕ). number (length (named k)) ++ (entries a ++ r)) (sym (entries-append b d))
-    ∙ ap (λ (r : List ℕ). number (length (named k)) ++ r) (sym (entries-append a (b ++ d)))
+    ap (λ (n : ℕ). number n ++ (entries m a ++ (entries m b ++ entries m d))) e
+    ∙ ap (λ (r : List ℕ). number (length (named k)) ++ (entries m a ++ r)) (sym (entries-append m b d))
+    ∙ ap (λ (r : List ℕ). number (length (named k)) ++ r) (sym (entries-append m a (b ++ d)))

@@ -1,5 +1,5 @@
 -- Answers with their lines, spelt out, and rows of a panel with theirs. In a witness 0 is floor x, 1 is floor y, and r + 1 is the rule
--- in record r.
+-- in record r; of two books joined, 4,097 + r is the rule in the tenant's record r.
 use mathlib.Core.List.{List, [], _∷_}
 use Prim.Native.Nat.{ℕ}
 use Prim.Native.String.{String}
@@ -12,13 +12,19 @@ use Rattle.answers.specs.Refusal.{refusal}
 use Rattle.answers.specs.declared.Answer.{Answer}
 use Rattle.answers.specs.declared.Answer.the-variants.{Refused, Planned}
 use Rattle.report.specs.declared.panel.Row.{Row}
+use Rattle.report.specs.declared.Naming.{Naming}
+use Rattle.report.specs.declared.Naming.the-variants.{OneBook, TwoBooks}
 
 pub record Example : Type 0 where
+  pub naming : Naming
   pub answer : Answer
   pub line : String
 
 abbrev row : Answer → String → Example
-row answer line = record { answer = answer; line = line }
+row answer line = record { naming = OneBook; answer = answer; line = line }
+
+abbrev joint : Answer → String → Example
+joint answer line = record { naming = TwoBooks; answer = answer; line = line }
 
 abbrev weights : ℕ → ℤ → ℕ → ℤ → ℕ → ℤ → Certificate
 weights e u f v g w =
@@ -55,6 +61,9 @@ examples =
     ∷ row (none 2 1 0 (weights 0 (pos 5) 2 (pos 1) 3 (pos 10))) "impossible 2 1 0 3 X 5 1 1 2 10\n"
     ∷ row (none 9 3 1 (weights 0 (pos 7) 1 (pos 8) 256 (pos 9))) "impossible 9 3 1 3 X 7 Y 8 255 9\n"
     ∷ row (none 1 1 0 (weights 2 (pos 1) 0 (pos 0) 0 (pos 0))) "impossible 1 1 0 1 1 1\n"
+    ∷ joint (none 2 1 1 (weights 2 (pos 1) 4098 (pos 1) 0 (pos 0))) "impossible 2 1 1 2 S1 1 T1 1\n"
+    ∷ joint (none 4097 3 1 (weights 1 (pos 7) 4096 (pos 8) 8192 (pos 9))) "impossible 4097 3 1 3 Y 7 S4095 8 T4095 9\n"
+    ∷ joint (planned (Optimal (point (pos 2) (pos 3) (pos 1))) 1 1) "best 2 3 1 1 1\n"
     ∷ row (Refused (refusal 7 0)) "refused 7 0\n"
     ∷ row (Refused (refusal 10 255)) "refused 10 255\n"
     ∷ row (Refused (refusal 255 65535)) "refused 255 65535\n"

@@ -3,20 +3,34 @@
 use answers::Answer;
 use line::append_fields;
 use text::append_word;
-ghost use Rattle.report.specs.Written.{Written};
+ghost use Rattle.report.specs.Written.{Written, WrittenOf};
 
+mod entries;
 mod line;
 pub mod panel;
 
+// How a witness names the rule in a record: by the record's index, or, of two books joined, by the book's letter with the index behind it.
+pub enum Naming {
+    OneBook,
+    TwoBooks,
+}
+
 // The line of an answer, at the start of a buffer of at least 256 bytes, and its length. A smaller buffer is left as it is, and 0
 // handed back.
-pub fn write_line(answer: Answer, out: &mut [u8]) -> usize
-    ensures { λ r. ⌜ Written answer (now (out .entry)) (now (out .exit)) r ⌝ }
+pub fn write_line_of(naming: Naming, answer: Answer, out: &mut [u8]) -> usize
+    ensures { λ r. ⌜ WrittenOf naming answer (now (out .entry)) (now (out .exit)) r ⌝ }
 {
     if out.len() < 256 {
         return 0;
     }
-    let end = append_fields(answer, out);
+    let end = append_fields(naming, answer, out);
     append_word(b"\n", out, end);
     end + 1
+}
+
+// That of the answer to one book.
+pub fn write_line(answer: Answer, out: &mut [u8]) -> usize
+    ensures { λ r. ⌜ Written answer (now (out .entry)) (now (out .exit)) r ⌝ }
+{
+    write_line_of(Naming::OneBook, answer, out)
 }

@@ -9,26 +9,35 @@ use Rattle.joint_line.proofs.write_joint_line.Tie as tie
 returns : tie.Need-returns
 unfolding jointLine
 returns c =
-    let start = c .before .before .before .before .before .before .before .before in
-    let line = c .before .before .refused-line in
-    subst (λ (a : JointAnswer). JointWritten a (start .args .out .now) (line .last .1 .1 .0) (line .result)) (sym (c .before .before .before .before .before .answer .given .1))
-    (line .ensures)
+    let line = c .before .before in
+    let told = line .before .before .before in
+    let start = told .before .before .before in
+    subst
+    (λ (a : JointAnswer). JointWritten a (start .args .out .now) (line .refused-line .last .1 .1 .0) (line .refused-line .result))
+    (sym (told .answer .given .1))
+    (line .refused-line .ensures)
 
 returns-2 : tie.Need-returns-2
 unfolding jointLine
 returns-2 c =
-    let start = c .before .before .before .before .before .before .before .before in
-    let line = c .before .before .refused-line2 in
-    subst (λ (a : JointAnswer). JointWritten a (start .args .out .now) (line .last .1 .1 .0) (line .result)) (sym (c .before .before .before .before .before .answer2 .given .1))
-    (line .ensures)
+    let line = c .before .before in
+    let told = line .before .before .before in
+    let start = told .before .before .before in
+    subst
+    (λ (a : JointAnswer). JointWritten a (start .args .out .now) (line .refused-line2 .last .1 .1 .0) (line .refused-line2 .result))
+    (sym (told .answer2 .given .1))
+    (line .refused-line2 .ensures)
 
 returns-3 : tie.Need-returns-3
 unfolding jointLine
 returns-3 c =
-    let start = c .before .before .before .before .before .before .before .before in
-    let line = c .before .before .plan-line in
-    subst (λ (a : JointAnswer). JointWritten a (start .args .out .now) (line .last .1 .0) (line .result)) (sym (c .before .before .before .before .before .answer3 .given .1))
-    (line .ensures)
+    let line = c .before .before in
+    let told = line .before .before .before in
+    let start = told .before .before .before in
+    subst
+    (λ (a : JointAnswer). JointWritten a (start .args .out .now) (line .write-line-of .last .1 .1 .0) (line .write-line-of .result))
+    (sym (told .answer3 .given .1))
+    (line .write-line-of .ensures)
 
 pub write-joint-line-spec : {M : Type 1} → statement M
 write-joint-line-spec =

@@ -1,26 +1,10 @@
--- `report::write_line` meets its contract. A small buffer is left alone; else the fields and the line feed make up the line.
-use native.Mathlib.Omega.{arith}
+-- `report::write_line` meets its contract: one book's line is that of its naming.
 use borrow.Author.Needs.{needs}
-use Rattle.report.specs.Line.{lineOf}
-use Rattle.report.specs.Written.{lineRoom}
-use Rattle.text.proofs.Put.{too-small, filled, followed}
 use Rattle.report.proofs.write_line.Statement.{statement}
 use Rattle.report.proofs.write_line.Tie as tie
 
 returns : tie.Need-returns
-returns c =
-    let start = c .before .before in
-    too-small (lineOf (start .args .answer)) lineRoom (start .args .out .now) (omega arith)
-
-returns-2 : tie.Need-returns-2
-unfolding lineOf
-returns-2 c =
-    let feed = c .before .before in
-    let fields = feed .before .before .before .before .before in
-    let last = feed .append-word .ensures .fits (omega arith) in
-    rw (last .moved) at (filled {room = lineRoom} (omega arith) (omega arith) (followed (fields .append-fields .ensures) last))
+returns c = c .before .before .write-line-of .ensures
 
 pub write-line-spec : {M : Type 1} → statement M
-write-line-spec =
-    tie.close
-    (tie.spec returns (λ c κs. search needs) (λ c. search needs) (λ c κs. search needs) (λ c. search needs) (λ c. search needs) returns-2)
+write-line-spec = tie.close (tie.spec (λ c κs. search needs) (λ c. search needs) returns)

@@ -1,7 +1,7 @@
 -- `report::line::append_best` meets its contract. Word, pair and counts in turn.
 use native.Mathlib.Omega.{arith}
 use borrow.Author.Needs.{needs}
-use Rattle.report.specs.Line.{fields}
+use Rattle.report.specs.Line.{best}
 use Rattle.text.proofs.Put.{followed}
 use Rattle.report.proofs.line.append_best.Statement.{statement}
 use Rattle.report.proofs.line.append_best.Tie as tie
@@ -17,7 +17,7 @@ append-counts-requires c κs =
     record { free = omega arith }
 
 returns : tie.Need-returns
-unfolding fields
+unfolding best
 returns c =
     let counts = c .before .before in
     let pair = counts .before .before .before .before in

@@ -12,14 +12,16 @@ unfolding answerFields
 returns c =
     let line = c .before .before in
     let told = line .before .before .before in
-    spelt (ap answerFields (sym (told .answer .given .1))) (roomier (omega arith) (line .append-refused .ensures .fits (omega arith)))
+    let start = told .before .before .before in
+    spelt (ap (answerFields (start .args .naming)) (sym (told .answer .given .1))) (roomier (omega arith) (line .append-refused .ensures .fits (omega arith)))
 
 returns-2 : tie.Need-returns-2
 unfolding answerFields
 returns-2 c =
     let line = c .before .before in
     let told = line .before .before .before in
-    spelt (ap answerFields (sym (told .answer2 .given .1))) (line .append-plan .ensures)
+    let start = told .before .before .before in
+    spelt (ap (answerFields (start .args .naming)) (sym (told .answer2 .given .1))) (line .append-plan .ensures)
 
 pub append-fields-spec : {M : Type 1} → statement M
 append-fields-spec =

@@ -1,7 +1,7 @@
 -- `report::line::append_impossible` meets its contract. Word, place, counts and witness in turn.
 use native.Mathlib.Omega.{arith}
 use borrow.Author.Needs.{needs}
-use Rattle.report.specs.Line.{fields}
+use Rattle.report.specs.Line.{impossible}
 use Rattle.text.proofs.Put.{followed}
 use Rattle.report.proofs.line.append_impossible.Statement.{statement}
 use Rattle.report.proofs.line.append_impossible.Tie as tie
@@ -21,7 +21,7 @@ append-witness-requires c κs =
     record { free = omega arith }
 
 returns : tie.Need-returns
-unfolding fields
+unfolding impossible
 returns c =
     let witness = c .before .before in
     let counts = witness .before .before .before .before in

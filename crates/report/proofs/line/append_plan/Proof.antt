@@ -8,25 +8,28 @@ use Rattle.report.proofs.line.append_plan.Statement.{statement}
 use Rattle.report.proofs.line.append_plan.Tie as tie
 
 returns : tie.Need-returns
+unfolding fields
 returns c =
     let line = c .before .before in
     let told = line .before .before in
     let start = told .before .before .before in
-    spelt (ap (fields (start .args .plan)) (sym (told .enum-told .given .1))) (roomier (omega arith) (line .append-impossible .ensures))
+    spelt (ap (fields (start .args .naming) (start .args .plan)) (sym (told .enum-told .given .1))) (roomier (omega arith) (line .append-impossible .ensures))
 
 returns-2 : tie.Need-returns-2
+unfolding fields
 returns-2 c =
     let line = c .before .before in
     let told = line .before .before .before in
     let start = told .before .before .before in
-    spelt (ap (fields (start .args .plan)) (sym (told .outcome .given .1))) (roomier (omega arith) (line .append-unlimited .ensures))
+    spelt (ap (fields (start .args .naming) (start .args .plan)) (sym (told .outcome .given .1))) (roomier (omega arith) (line .append-unlimited .ensures))
 
 returns-3 : tie.Need-returns-3
+unfolding fields
 returns-3 c =
     let line = c .before .before in
     let told = line .before .before .before in
     let start = told .before .before .before in
-    spelt (ap (fields (start .args .plan)) (sym (told .outcome2 .given .1))) (roomier (omega arith) (line .append-best .ensures))
+    spelt (ap (fields (start .args .naming) (start .args .plan)) (sym (told .outcome2 .given .1))) (roomier (omega arith) (line .append-best .ensures))
 
 pub append-plan-spec : {M : Type 1} → statement M
 append-plan-spec =

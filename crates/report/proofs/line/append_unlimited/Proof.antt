@@ -1,7 +1,7 @@
 -- `report::line::append_unlimited` meets its contract. Word, pair, direction and counts in turn.
 use native.Mathlib.Omega.{arith}
 use borrow.Author.Needs.{needs}
-use Rattle.report.specs.Line.{fields}
+use Rattle.report.specs.Line.{unlimited}
 use Rattle.text.proofs.Put.{followed}
 use Rattle.report.proofs.line.append_unlimited.Statement.{statement}
 use Rattle.report.proofs.line.append_unlimited.Tie as tie
@@ -23,7 +23,7 @@ append-counts-requires c κs =
     record { free = omega arith }
 
 returns : tie.Need-returns
-unfolding fields
+unfolding unlimited
 returns c =
     let counts = c .before .before in
     let direction = counts .before .before .before .before in

@@ -1,17 +1,17 @@
--- `joint_line::line::append_weighted` meets its contract. A weight of 0 names no entry; any other names this one.
+-- `report::entries::append_weighted` meets its contract. A weight of 0 names no entry; any other names this one.
 use native.Mathlib.Omega.{arith}
 use borrow.Author.Needs.{needs}
 use Rattle.text.proofs.Put.{followed, spelt, nothing}
 use Rattle.text.proofs.Integer.{whole}
-use Rattle.joint_line.proofs.Entries.{left-out, printed}
-use Rattle.joint_line.proofs.line.append_weighted.Statement.{statement}
-use Rattle.joint_line.proofs.line.append_weighted.Tie as tie
+use Rattle.report.proofs.Witness.{left-out, printed}
+use Rattle.report.proofs.entries.append_weighted.Statement.{statement}
+use Rattle.report.proofs.entries.append_weighted.Tie as tie
 
 returns : tie.Need-returns
 returns c =
     let start = c .before .before in
     spelt
-    (left-out (start .args .code) (start .args .weight) (start .fits .weight) (c .if1 .taken))
+    (left-out (start .args .naming) (start .args .code) (start .args .weight) (start .fits .weight) (c .if1 .taken))
     (nothing (start .args .out .now) (start .args .at) 43)
 
 returns-2 : tie.Need-returns-2
@@ -21,7 +21,7 @@ returns-2 c =
     let test = entry .before .before in
     let start = test .before .before in
     spelt
-    (printed (start .args .code) (start .args .weight) (test .if1 .left))
+    (printed (start .args .naming) (start .args .code) (start .args .weight) (test .if1 .left))
     (followed
     (entry .append-entry .ensures)
     (whole (start .args .weight) (start .fits .weight) (weight .append-integer .ensures .fits (omega arith))))

@@ -1,9 +1,9 @@
--- `joint_line::line::used` meets its contract. A weight of 0 names no entry; any other names one.
+-- `report::entries::used` meets its contract. A weight of 0 names no entry; any other names one.
 use mathlib.Core.Path.{sym, ap}
 use lib.ListN.{length}
 use Rattle.report.proofs.Witness.{none-named, one-named}
-use Rattle.joint_line.proofs.line.used.Statement.{statement}
-use Rattle.joint_line.proofs.line.used.Tie as tie
+use Rattle.report.proofs.entries.used.Statement.{statement}
+use Rattle.report.proofs.entries.used.Tie as tie
 
 returns : tie.Need-returns
 returns c = sym (ap length (none-named 0 (c .before .args .weight) (c .before .fits .weight) (c .if1 .taken)))

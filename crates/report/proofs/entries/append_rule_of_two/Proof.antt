@@ -1,10 +1,10 @@
--- `joint_line::line::append_rule` meets its contract. The test picks the book.
+-- `report::entries::append_rule_of_two` meets its contract. The test picks the book.
 use native.Mathlib.Omega.{arith}
 use borrow.Author.Needs.{needs}
 use Rattle.text.proofs.Put.{followed, spelt}
-use Rattle.joint_line.proofs.Entries.{site-rule, tenant-rule}
-use Rattle.joint_line.proofs.line.append_rule.Statement.{statement}
-use Rattle.joint_line.proofs.line.append_rule.Tie as tie
+use Rattle.report.proofs.Witness.{site-rule, tenant-rule}
+use Rattle.report.proofs.entries.append_rule_of_two.Statement.{statement}
+use Rattle.report.proofs.entries.append_rule_of_two.Tie as tie
 
 returns : tie.Need-returns
 returns c =
@@ -26,8 +26,8 @@ returns-2 c =
     let second = digits .append-decimal2 .ensures .fits (omega arith) in
     spelt (tenant-rule (start .args .name) (test .if1 .left)) (followed first second)
 
-pub append-rule-spec : {M : Type 1} → statement M
-append-rule-spec =
+pub append-rule-of-two-spec : {M : Type 1} → statement M
+append-rule-of-two-spec =
     tie.close
     (tie.spec (λ c. search needs) (λ c κs. search needs) (λ c κs. search needs) (λ c. search needs) (λ c κs. search needs)
     (λ c κs. search needs) (λ c. search needs) returns (λ c. search needs) returns-2)

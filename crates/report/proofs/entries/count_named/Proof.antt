@@ -1,10 +1,10 @@
--- `joint_line::line::count_named` meets its contract. Each weight that is not 0 names one entry.
+-- `report::entries::count_named` meets its contract. Each weight that is not 0 names one entry.
 use native.Mathlib.Omega.{arith}
 use borrow.Author.Needs.{needs}
 use Rattle.ints.proofs.Bits.{read}
 use Rattle.report.proofs.Witness.{at-most-one, counted}
-use Rattle.joint_line.proofs.line.count_named.Statement.{statement}
-use Rattle.joint_line.proofs.line.count_named.Tie as tie
+use Rattle.report.proofs.entries.count_named.Statement.{statement}
+use Rattle.report.proofs.entries.count_named.Tie as tie
 
 add-result : tie.Need-add-result
 add-result c =

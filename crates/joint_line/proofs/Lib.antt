@@ -1,3 +1,0 @@
--- The laws behind a joint line.
-pub mod Entries
-pub mod Lines
