@@ -4,7 +4,7 @@
 
 pub mod chains;
 mod date;
-mod measure;
+pub mod measure;
 pub mod regions;
 
 use chains::Chains;

@@ -48,9 +48,14 @@ pub fn slip(book: &[u8]) -> Result<Result<[i64; 14], Refused>, String> {
     Ok(refused.map_or(Ok(numbers), Err))
 }
 
-fn check(book: &[u8], numbers: &[i64]) -> Result<Said, String> {
+/// What the library's checker hands back.
+pub fn told(book: &[u8], numbers: &[i64]) -> usize {
     // SAFETY: both slices are live for the call.
-    let told = unsafe { vishalneq_check(book.as_ptr(), book.len(), numbers.as_ptr(), numbers.len()) };
+    unsafe { vishalneq_check(book.as_ptr(), book.len(), numbers.as_ptr(), numbers.len()) }
+}
+
+fn check(book: &[u8], numbers: &[i64]) -> Result<Said, String> {
+    let told = told(book, numbers);
     match (refusal(told), told) {
         (Some(refused), _) => Ok(Said::Refused(refused)),
         (None, 0 | 1) => Ok(Said::Answered(told == 1)),
