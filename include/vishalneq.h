@@ -8,9 +8,9 @@
  * version has its own functions, those of version 2 with a 2 at the end of their names; a book of the other version is refused.
  *
  * Stack: a call takes at most VISHALNEQ_STACK bytes, whatever the book; a call of a repacker at most VISHALNEQ_REPACK_STACK, one of
- * vishalneq_joint, vishalneq_slip or vishalneq_corners at most VISHALNEQ_LONG_STACK. Measured on x86-64, with what a thread takes for
- * itself: 127,720 for a plan's line, 240,024 for two books joined, 242,872 for the corners of 4,095 rules, 119,816 for a batch, 234,312 for
- * a slip and 119,960 for its check. No memory is allocated. */
+ * vishalneq_joint, vishalneq_slip, vishalneq_corners or vishalneq_batch at most VISHALNEQ_LONG_STACK. Measured on x86-64, with what a
+ * thread takes for itself: 127,720 for a plan's line, 240,024 for two books joined, 242,872 for the corners of 4,095 rules, 242,920 for a
+ * batch, 234,312 for a slip and 119,960 for its check. No memory is allocated. */
 #ifndef VISHALNEQ_H
 #define VISHALNEQ_H
 

@@ -1,8 +1,10 @@
 //! The time of a batch of 32 objectives, beside that of 32 plans of the same book, each with one of the objectives in its header.
 
-use bench::chains::{Chains, SORTS};
+use bench::chains::SORTS;
+use bench::regions::REGIONS;
 use bench::{beside, title};
 use search::batch::batch;
+use search::book::Source;
 use search::layout::TWO;
 use search::planner::{plan_line2, LINE};
 use search::random::Random;
@@ -11,22 +13,26 @@ const OBJECTIVES: usize = 32;
 /// Room for all answers, and for a plan's line.
 const ROOM: usize = 32 * OBJECTIVES + LINE;
 
+const LENGTHS: [usize; 2] = [255, 4_095];
+
 fn main() {
     title();
     println!("\n| chain | rules | batch of 32 | 32 plans | to 32 plans, median | shortest rounds |\n|---|---|---|---|---|---|");
     for (name, chains) in SORTS {
-        for n in [255, 4_095] {
-            println!("| {name} | {n} | {}", row(chains, n));
-        }
+        LENGTHS.into_iter().for_each(|n| row(name, n, |random| chains(random, n)));
+    }
+    let others = REGIONS.into_iter().filter(|(name, _)| SORTS.iter().all(|(sort, _)| sort != name));
+    for (name, region) in others {
+        LENGTHS.into_iter().for_each(|n| row(name, n, |random| vec![region(random, n)]));
     }
 }
 
-/// The times of chains of one sort and length.
-fn row(chains: Chains, n: usize) -> String {
+/// Measures chains of one sort and length and prints their row.
+fn row(name: &str, n: usize, chains: impl Fn(&mut Random) -> Vec<Source>) {
     let mut random = Random::new(n as u64);
-    let chains = chains(&mut random, n);
+    let chains = chains(&mut random);
     let books: Vec<Vec<u8>> = chains.iter().map(|chain| [objectives(&mut random), chain.packed_as(&TWO)].concat()).collect();
-    beside(batched, planned, &books, ROOM)
+    println!("| {name} | {n} | {}", beside(batched, planned, &books, ROOM));
 }
 
 /// Any objectives, four bytes each.

@@ -20,6 +20,7 @@ use Rattle.model.specs.Bounds.{SmallPoint, SmallCone}
 use Rattle.records.specs.Layout.{v2}
 use Rattle.records.specs.Header.{headerFault, countOf}
 use Rattle.engine.specs.Entries.{entries}
+use Rattle.region.proofs.Theorems.{places}
 use Rattle.batching.specs.Objectives.{badObjectives}
 use Rattle.batching.specs.Listed.{pointAt, pointsFrom, firstBy}
 
@@ -97,10 +98,21 @@ pub record Laying (f : Floors) (e : List ℤ) (order ring : List ℕ) (corners :
   pub ring-room : length order + 4 ≤ length ring
   pub corners-room : 3 * (length order + 3) ≤ length corners
 
+pub record Ordering (f : Floors) (order : List ℕ) : Type 0 where
+  pub floors-small : SmallFloors f
+  pub few : length order ≤ 4095
+
+-- an order of n rules by their entries: it names each of them, and nothing else
+pub record Names (n : ℕ) (order : List ℕ) : Type 0 where
+  pub to : (k : ℕ) → List·Memᴰ k (places 2 n) → List·Memᴰ k order
+  pub from : (k : ℕ) → List·Memᴰ k order → List·Memᴰ k (places 2 n)
+
 -- the first r points are the feasible vertices of the system, some of them perhaps more than once
 pub record Lays (f : Floors) (rules : List Constraint) (r : ℕ) (corners : List ℤ) : Type 0 where
   pub points : Points corners r
-  pub exactly : (v : Point) → List·Memᴰ v (pointsFrom corners 0 r) ↔ List·Memᴰ v (keep (allowed (system f rules)) (vertices (system f rules)))
+  pub exactly :
+      (v : Point) →
+      List·Memᴰ v (pointsFrom corners 0 r) ↔ List·Memᴰ v (keep (allowed (system f rules)) (vertices (system f rules)))
 
 pub record Answering (f : Floors) (e : List ℤ) (order ring : List ℕ) (corners : List ℤ) (objectives out : List ℕ) : Type 0 where
   pub laying : Laying f e order ring corners

@@ -6,6 +6,7 @@ mod exact;
 mod lay;
 mod objectives;
 mod offers;
+mod order;
 mod picks;
 mod rays;
 

@@ -44,7 +44,8 @@ sound c = sym (c .before .bad-objectives .ensures) ∙ c .if2 .left
 
 mul-filled : tie.Need-mul-filled
 mul-filled c =
-    let start = c .before .before .before .before .before .before .before .before .before .before .before .before .before .before .before .before in
+    let start = c .before .before .before .before .before .before .before .before .before .before .before .before .before .before
+    .before .before in
     omega (arith, few-objectives (start .args .objectives .now) (sound c))
 
 returns-3 : tie.Need-returns-3

@@ -9,7 +9,8 @@ use Rattle.batching.proofs.classes.batch_long.Tie as tie
 batch-in-requires : tie.Need-batch-in-requires
 batch-in-requires c κs =
     let start = c .before .before .before .before .before .before .before .before in
-    few-roomy (start .args .book .now) 4095 (most-rules Two (start .args .book .now)) _ _ _ _ (search needs) (search needs) (search needs) (search needs)
+    few-roomy (start .args .book .now) 4095 (most-rules Two (start .args .book .now)) _ _ _ _
+    (search needs) (search needs) (search needs) (search needs)
 
 pub batch-long-spec : {M : Type 1} → statement M
 batch-long-spec =

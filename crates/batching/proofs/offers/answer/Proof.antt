@@ -28,7 +28,9 @@ fill-requires c κs =
     let rays = c .before .before .before .before .before .before .before .before .before .before .before .before .before .rays in
     let a = start .args in
     record {
-      rays = subst SmallCone (sym (rays .ensures)) (rays-small (entries (a .run .now) 2 (length (a .order .now))) (start .pre .laying .rules-small));
+      rays =
+          subst SmallCone (sym (rays .ensures))
+          (rays-small (entries (a .run .now) 2 (length (a .order .now))) (start .pre .laying .rules-small));
       points = c .before .before .before .before .before .before .before .before .lay .ensures .points;
       sound = start .pre .sound;
       room = start .pre .room;
@@ -40,7 +42,8 @@ returns c =
     .before .before .before .before .before .before .before .before in
     let a = start .args in
     let lay = c .before .before .before .before .before .before .before .before .before .before .before .lay in
-    let rays = c .before .before .before .before .before .before .before .before .before .before .before .before .before .before .before .before .rays in
+    let rays = c .before .before .before .before .before .before .before .before .before .before .before .before .before .before
+    .before .before .rays in
     c .before .before .fill .ensures
     ∙ ap (λ l. l ++ drop (8 * length (a .objectives .now)) (a .out .now))
     (answers-laid (a .floors) (entries (a .run .now) 2 (length (a .order .now))) (rays .ensures) _ (lay .result) (lay .ensures)

@@ -13,13 +13,15 @@ returns c =
 returns-2 : tie.Need-returns-2
 returns-2 c =
     let s = c .before .before .before .before in
-    offer-unlimited (s .args .cone) (s .args .corners .now) (s .args .f) (s .args .count) (omega (arith, c .before .before .before .if1 .left))
+    offer-unlimited (s .args .cone) (s .args .corners .now) (s .args .f) (s .args .count)
+    (omega (arith, c .before .before .before .if1 .left))
     (c .before .before .gaining .ensures) (c .enum-told .given .1) (s .pre .first)
 
 returns-3 : tie.Need-returns-3
 returns-3 c =
     let s = c .before .before .before .before .before in
-    offer-best (s .args .cone) (s .args .corners .now) (s .args .f) (s .args .count) (omega (arith, c .before .before .before .before .if1 .left))
+    offer-best (s .args .cone) (s .args .corners .now) (s .args .f) (s .args .count)
+    (omega (arith, c .before .before .before .before .if1 .left))
     (c .before .before .before .gaining .ensures) (c .before .enum-told2 .given .1) (c .best .ensures)
 
 pub offered-spec : {M : Type 1} → statement M

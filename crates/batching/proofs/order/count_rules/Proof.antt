@@ -1,4 +1,4 @@
--- `batching::lay::count_rules` meets its contract: after i turns the first i places count from 2 on.
+-- `batching::order::count_rules` meets its contract: after i turns the first i places count from 2 on.
 use borrow.Author.Needs.{needs}
 use native.Mathlib.Omega.{arith}
 use Prim.Native.Nat.{_-_, _+_, _≤_}
@@ -7,8 +7,8 @@ use lib.ListN.{length, length-set, take}
 use lib.Seq.{take-all}
 use Rattle.region.proofs.Theorems.{places}
 use Rattle.batching.proofs.Layouts.{counted-rules}
-use Rattle.batching.proofs.lay.count_rules.Statement.{statement}
-use Rattle.batching.proofs.lay.count_rules.Tie as tie
+use Rattle.batching.proofs.order.count_rules.Statement.{statement}
+use Rattle.batching.proofs.order.count_rules.Tie as tie
 
 abbrev Inv-loop : tie.InvT-loop
 Inv-loop order₀ i₀ order i = (i ≤ length order₀) × (take i order ≡ places 2 i) × (length order ≡ length order₀) × (length order₀ ≤ 4095)
