@@ -2,6 +2,7 @@
 pub mod Labels
 pub mod Checks
 pub mod Laid
+pub mod Names
 pub mod Starts
 pub mod Held
 pub mod Kept

@@ -2,7 +2,7 @@
 use mathlib.Core.Path.{_≡_}
 use mathlib.Core.List.{List, [], _∷_}
 use Prim.Native.Nat.{ℕ, zero, suc, _+_, _*_, _<_, _≤_}
-use lib.ListN.{length, getD}
+use lib.ListN.{length, getD, set, replicate}
 use lib.IntN.{ℤ}
 use Rattle.records.specs.declared.Rule.{Rule}
 use Rattle.records.specs.Planned.{plannedRule}
@@ -17,6 +17,11 @@ countFrom k (suc n) = k ∷ countFrom (suc k) n
 
 abbrev pub positions : ℕ → List ℕ
 positions n = countFrom 1 n
+
+-- so many places named, one after the other
+abbrev pub namedTo : ℕ → List ℕ
+namedTo zero = replicate 64 0
+namedTo (suc i) = set (namedTo i) i (suc i)
 
 pub record EntryRoom (l : List ℤ) (k : ℕ) : Type 0 where
   pub room : 3 * (k + 3) ≤ length l
