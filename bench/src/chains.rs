@@ -1,5 +1,6 @@
 //! The measured chains, with floors of zero. All are accepted and allow pairs, so that planner and twin must print the same line.
 
+use crate::regions;
 use search::book::{Rule, Source};
 use search::random::Random;
 
@@ -7,6 +8,16 @@ use search::random::Random;
 pub type Chains = fn(&mut Random, usize) -> Vec<Source>;
 
 pub const SORTS: [(&str, Chains); 3] = [("random", random), ("adversarial", adversarial), ("open", open)];
+
+/// Sorts for which it matters whether passes are made to the end of the chain.
+pub const CARRIED: [(&str, Chains); 6] = [
+    ("random", random),
+    ("adversarial, both pairs", adversarial),
+    ("adversarial, best pair", best_pair),
+    ("adversarial, start pair", start_pair),
+    ("open", open),
+    ("polygon", |random, n| vec![regions::REGIONS[2].1(random, n)]),
+];
 
 /// How many different chains are measured together: so many long ones that a processor cannot learn their branches by heart. Of two chains
 /// of 8,190 rules it was seen to learn them for one planner and not for the other.
@@ -55,6 +66,28 @@ fn tip(random: &mut Random, n: usize) -> (i64, i64) {
 fn tangent(i: usize, n: usize, tip_x: i64, tip_y: i64) -> Rule {
     let t = (n / 2 + 1 - i / 2) as i64 * if i % 2 == 0 { -1 } else { 1 };
     rule(i, -1, (2 * t) as i16, (t * t + 2 * t * tip_y - tip_x) as i32)
+}
+
+/// Every rule moves the start pair, and none a best pair: the same tangents where x earns, so that every prefix is unlimited.
+fn start_pair(random: &mut Random, n: usize) -> Vec<Source> {
+    adversarial(random, n).into_iter().map(|chain| Source { p: 1, ..chain }).collect()
+}
+
+/// Every rule from the third on moves the best pair, and none the start pair: tangents of a parabola that opens to smaller x, likewise,
+/// where x earns. They allow (0, 0).
+fn best_pair(random: &mut Random, n: usize) -> Vec<Source> {
+    let mut chain = || {
+        let (tip_x, tip_y) = (random.between(100_000_000, 200_000_000), random.between(5_000, 10_000));
+        let rules = (0..n).map(|i| turned(i, n, tip_x, tip_y)).collect();
+        Source { p: 1, q: 0, lx: 0, ly: 0, rules }
+    };
+    (0..different(n).min(if n <= 1_000 { 32 } else { 2 })).map(|_| chain()).collect()
+}
+
+/// x + 2t(y - tip_y) at most tip_x + t².
+fn turned(i: usize, n: usize, tip_x: i64, tip_y: i64) -> Rule {
+    let t = (n / 2 + 1 - i / 2) as i64 * if i % 2 == 0 { -1 } else { 1 };
+    rule(i, 1, (2 * t) as i16, (tip_x + t * t + 2 * t * tip_y) as i32)
 }
 
 /// The direction (1, 1) goes away from every rule's line, so that every prefix is unlimited; the start pair moves now and then. Two rules
@@ -106,6 +139,14 @@ mod tests {
             for line in [shown(adversarial, n), shown(idle, n)].concat() {
                 assert!(line.starts_with("best") && line.ends_with(&format!(" {n} 0")), "{line}");
             }
+        }
+    }
+
+    #[test]
+    fn one_pair_moves_alone() {
+        for n in [16, 64, 255, 1_000, 4_095] {
+            assert!(shown(best_pair, n).iter().all(|line| line.starts_with("best") && line.ends_with(&format!(" {} 2", n - 2))));
+            assert!(shown(start_pair, n).iter().all(|line| line.starts_with("unlimited") && line.ends_with(&format!(" 0 {}", n + 1))));
         }
     }
 

@@ -50,15 +50,20 @@ pub fn title() {
 
 impl<const N: usize> Table<'_, N> {
     pub fn print(&self) -> Result<(), String> {
+        self.head();
+        chains::SORTS.into_iter().try_for_each(|(name, chains)| self.rows(name, chains))
+    }
+
+    /// The names above the columns.
+    pub fn head(&self) {
         let names = self.planners.map(|(name, _)| name);
         let ratios: String = names[1..].iter().map(|name| format!(" to {name}, median | shortest rounds |")).collect();
         println!("\n| chain | rules | {} |{ratios}", names.join(" | "));
         println!("|---|---|{}", "---|".repeat(3 * N - 2));
-        chains::SORTS.into_iter().try_for_each(|(name, chains)| self.rows(name, chains))
     }
 
     /// The rows of one sort of chains.
-    fn rows(&self, name: &str, chains: Chains) -> Result<(), String> {
+    pub fn rows(&self, name: &str, chains: Chains) -> Result<(), String> {
         let mut known = Vec::new();
         for &n in self.lengths {
             known.push((n, self.row(name, chains, n)?));
@@ -72,7 +77,7 @@ impl<const N: usize> Table<'_, N> {
     }
 
     /// Measures chains of one sort and length and prints their row. Hands back the times of the shortest rounds.
-    fn row(&self, name: &str, chains: Chains, n: usize) -> Result<[f64; N], String> {
+    pub fn row(&self, name: &str, chains: Chains, n: usize) -> Result<[f64; N], String> {
         let chains = chains(&mut Random::new(n as u64), n);
         let books: Vec<Vec<u8>> = chains.iter().map(|chain| (self.written)(chain, &self.layout)).collect();
         let planners = self.planners.map(|(_, plan)| plan);

@@ -66,6 +66,44 @@ pub fn busy_source(layout: &Layout, random: &mut Random, n: usize) -> (&'static 
     (name, Source { p, q: q as i16, lx: lx as i16, ly: ly as i16, rules: labelled(random, &rules) })
 }
 
+/// A random source whose walk comes to carry the region's boundary along. Most rules move a pair, and rules that move none stand among
+/// them, so that the change-over comes early, late, or not at all. The last rules touch what stands before them.
+pub fn carried_source(layout: &Layout, random: &mut Random, n: usize) -> (&'static str, Source) {
+    let mut rules = tangents(random, n);
+    let idle = random.below(5);
+    rules.iter_mut().filter(|_| random.below(8) < idle).for_each(|rule| *rule = (1, 1, FAR));
+    for i in n - random.below(n / 2 + 1)..n {
+        rules[i] = touching(random, &rules[..i]);
+    }
+    let (p, q) = random.pick(&[(-1, 0), (-1, 0), (-1, 1), (0, 0), (1, 0), (1, 2)]);
+    let (lx, ly) = if layout.floors { (floor(random), floor(random)) } else { (0, 0) };
+    carry(&mut rules, lx, ly);
+    ("carried", Source { p, q, lx: lx as i16, ly: ly as i16, rules: labelled(random, &rules) })
+}
+
+/// A rule that touches earlier ones, most often the last few: one of them again or as a multiple, parallel to it, through the corner of two,
+/// its other side, or a rule without a line. One in four hundred leaves no pair.
+fn touching(random: &mut Random, earlier: &[Numbers]) -> Numbers {
+    let reach = if random.one_in(3) { earlier.len() } else { earlier.len().min(6) };
+    let mut one = || earlier[earlier.len() - 1 - random.below(reach)];
+    let ((a, b, c), (d, e, f)) = (one(), one());
+    let rule = match random.below(8) {
+        0 => (a, b, c),
+        1 => (2 * a, 2 * b, 2 * c),
+        2 => (a, b, c + random.between(-3, 3)),
+        3 | 4 => (a + d, b + e, c + f),
+        5 => (2 * a + d, 2 * b + e, 2 * c + f - random.between(0, 1)),
+        6 => (-a, -b, -c + random.between(0, 1_000) * random.between(0, 1_000)),
+        _ => (0, 0, random.between(0, 2)),
+    };
+    let lawful = rule.0.abs() <= TOP && rule.1.abs() <= TOP && rule.2.abs() <= FAR;
+    match random.below(400) {
+        0 => (-a, -b, -c - 1),
+        _ if lawful => rule,
+        _ => (a, b, c),
+    }
+}
+
 /// A hundred books of up to 29 rules, for a program: to start one costs more than to plan.
 pub fn hundred_books(layout: &Layout, random: &mut Random) -> Vec<(&'static str, Vec<u8>)> {
     let mut book = || {

@@ -1,6 +1,6 @@
 //! `search` plans stored and random books of both versions, judges each line and ends with three summary lines; a mismatch prints the book
-//! in hexadecimal with both lines and fails. The environment's SEED repeats a run; SHORT, LONG, BUSY, DAMAGED, ORDERS, PANELS, STARTS and
-//! REPACKED say how many books there are of version 1, with a 2 at their ends of version 2, as LONGEST2, BATCHES, SLIPS and CORNERS do, and
+//! in hexadecimal with both lines and fails. The environment's SEED repeats a run; SHORT, LONG, BUSY, CARRIED, DAMAGED, ORDERS, PANELS,
+//! STARTS and REPACKED say how many books there are of version 1, with a 2 at their ends of version 2, as LONGEST2, BATCHES, SLIPS and CORNERS do, and
 //! ALIKE of both.
 //! `search program PATH [VERSION]` runs the plan program of a version, 1 unless it is named, on stored and some random books.
 //! `search panel PATH [VERSION]` and `search repacker PATH [VERSION]` run the programs of the panel and of the repacker likewise.
@@ -20,7 +20,7 @@ use search::planner::{ONE, TWO};
 use search::prefixes::Way;
 use search::program::program;
 use search::repack;
-use search::runs::{both_versions, busy_books, damaged_books, orders, random_books, short_buffers, stored_lines, Lengths, Tally};
+use search::runs::{both_versions, busy_books, carried_books, damaged_books, orders, random_books, short_buffers, stored_lines, Lengths, Tally};
 use std::process::ExitCode;
 use std::time::{Instant, SystemTime, UNIX_EPOCH};
 
@@ -75,13 +75,14 @@ fn run_one(seed: u64) -> Result<String, String> {
     let short = timed("SHORT", 200_000, |n| random_books(&ONE, &mut tally, seed, n, Lengths { most: 12, anew: 12 }))?;
     let long = timed("LONG", 4_000, |n| random_books(&ONE, &mut tally, seed ^ 1 << 61, n, Lengths { most: 255, anew: 40 }))?;
     let busy = timed("BUSY", 1_000, |n| busy_books(&ONE, &mut tally, seed ^ 1 << 58, n, 200))?;
+    let carried = timed("CARRIED", 4_000, |n| carried_books(&ONE, &mut tally, seed ^ 1 << 53, n, 50, 255))?;
     let damaged = timed("DAMAGED", 20_000, |n| damaged_books(&ONE, &mut tally, seed ^ 1 << 62, n))?;
     let shuffled = timed("ORDERS", 1_000, |n| orders(&ONE, seed ^ 1 << 63, n))?;
     let panels = timed("PANELS", 20_000, |n| panel::panels(&ONE, seed ^ 1 << 60, n))?;
     let starts = timed("STARTS", 20_000, |n| starts(&ONE, seed ^ 1 << 59, n))?;
     Ok(format!(
-        "{stored} stored books, {short} of 0 to 12 rules, {long} of 0 to 255, {busy} busy ones of 200 to 255, {damaged} damaged ({tally}), \
-         {shuffled} in ten orders, {panels} panels, {starts} start pairs"
+        "{stored} stored books, {short} of 0 to 12 rules, {long} of 0 to 255, {busy} busy ones of 200 to 255, \
+         {carried} of 50 to 255 that carry the boundary along, {damaged} damaged ({tally}), {shuffled} in ten orders, {panels} panels, {starts} start pairs"
     ))
 }
 
@@ -95,6 +96,7 @@ fn run_two(seed: u64) -> Result<String, String> {
     let longest =
         timed("LONGEST2", 16, |n| random_books(&TWO, &mut tally, seed ^ 1 << 57, n, Lengths { most: 4_095, anew: 40 }))?;
     let busy = timed("BUSY2", 16, |n| busy_books(&TWO, &mut tally, seed ^ 1 << 58, n, 1_000))?;
+    let carried = timed("CARRIED2", 100, |n| carried_books(&TWO, &mut tally, seed ^ 1 << 53, n, 50, 1_000))?;
     let damaged = timed("DAMAGED2", 400, |n| damaged_books(&TWO, &mut tally, seed ^ 1 << 62, n))?;
     let shuffled = timed("ORDERS2", 100, |n| orders(&TWO, seed ^ 1 << 63, n))?;
     let panels = timed("PANELS2", 2_000, |n| panel::panels(&TWO, seed ^ 1 << 60, n))?;
@@ -104,7 +106,7 @@ fn run_two(seed: u64) -> Result<String, String> {
     let corners = timed("CORNERS", 10_000, |n| corner_bytes(seed ^ 1 << 54, n))?;
     Ok(format!(
         "{stored} stored books, {short} of 0 to 12 rules, {long} of 0 to 255, {longest} of 0 to 4,095, {busy} busy ones of 1,000 to 4,095, \
-         {damaged} damaged ({tally}), {shuffled} in ten orders, {panels} panels, {starts} start pairs, {batches}, {slips} slips, {corners} lists of corners"
+         {carried} of 50 to 1,000 that carry the boundary along, {damaged} damaged ({tally}), {shuffled} in ten orders, {panels} panels, {starts} start pairs, {batches}, {slips} slips, {corners} lists of corners"
     ))
 }
 

@@ -2,7 +2,7 @@
 
 use crate::book::{to_hex, Source, MOST_RULES};
 use crate::damage::damage;
-use crate::families::{busy_source, source};
+use crate::families::{busy_source, carried_source, source};
 use crate::judge::expected_as;
 use crate::layout::{Layout, TWO};
 use crate::planner::{self, Planner};
@@ -117,6 +117,18 @@ pub fn busy_books(planner: &Planner, tally: &mut Tally, seed: u64, books: u64, l
     for _ in 0..books {
         let n = least + random.below(planner.layout.records - least);
         let (name, source) = busy_source(&planner.layout, &mut random, n);
+        let book = source.scattered_as(&planner.layout, 3, &mut random);
+        tally.count(&try_book(planner, name, &book, Way::OnePass)?);
+    }
+    Ok(books)
+}
+
+/// Books of so many rules whose walk comes to carry the region's boundary along, with ties and parallels behind the change-over.
+pub fn carried_books(planner: &Planner, tally: &mut Tally, seed: u64, books: u64, least: usize, most: usize) -> Result<u64, String> {
+    let mut random = Random::new(seed);
+    for _ in 0..books {
+        let n = least + random.below(most + 1 - least);
+        let (name, source) = carried_source(&planner.layout, &mut random, n);
         let book = source.scattered_as(&planner.layout, 3, &mut random);
         tally.count(&try_book(planner, name, &book, Way::OnePass)?);
     }

@@ -2,6 +2,7 @@
 
 use crate::book::Chain;
 use crate::plane::{Constraint, Point, Ray};
+use crate::ring::{Edge, Ring};
 
 pub enum Outcome {
     Impossible { place: usize, witness: Witness },
@@ -29,40 +30,111 @@ struct Cone {
     empty: bool,
 }
 
-pub fn walk<const TUNED: bool>(chain: &Chain) -> Answer {
-    let (p, q) = (chain.p, chain.q);
-    let corner = Point { x: chain.lx, y: chain.ly, d: 1 };
-    let mut start = corner;
-    let mut cone = Cone { lo: Ray { dx: 1, dy: 0 }, hi: Ray { dx: 0, dy: 1 }, empty: false };
-    let mut ray = cone.gaining(p, q);
-    let mut best = corner;
-    let (mut moves, mut open) = (0, usize::from(ray.is_some()));
-    for m in 2..chain.count {
-        let h = chain.entries[m];
-        let earlier = &chain.entries[..m];
-        let moved = ray.is_none() && h.broken_by(best);
-        moves += usize::from(moved);
-        if h.broken_by(start) {
-            match restart::<TUNED>(earlier, h) {
-                Ok(v) => start = v,
-                Err(witness) => return Answer { outcome: Outcome::Impossible { place: m - 1, witness }, moves, open },
-            }
+/// What the walk holds between two rules.
+struct Held {
+    start: Point,
+    cone: Cone,
+    ray: Option<Ray>,
+    best: Point,
+    moves: usize,
+    open: usize,
+}
+
+impl Held {
+    fn begin(chain: &Chain) -> Self {
+        let corner = Point { x: chain.lx, y: chain.ly, d: 1 };
+        let cone = Cone { lo: Ray { dx: 1, dy: 0 }, hi: Ray { dx: 0, dy: 1 }, empty: false };
+        let ray = cone.gaining(chain.p, chain.q);
+        Held { start: corner, cone, ray, best: corner, moves: 0, open: usize::from(ray.is_some()) }
+    }
+
+    /// One more rule h. Where its edge lies between those of two others, the ends of the edge stand for the passes. Says whether a pair
+    /// moved.
+    #[inline(always)]
+    fn step<const TUNED: bool>(&mut self, chain: &Chain, m: usize, edge: Option<Edge>) -> Result<bool, Witness> {
+        let (h, earlier, (p, q)) = (chain.entries[m], &chain.entries[..m], (chain.p, chain.q));
+        let moved = self.ray.is_none() && h.broken_by(self.best);
+        self.moves += usize::from(moved);
+        let restarted = h.broken_by(self.start);
+        if restarted {
+            self.start = match edge.and_then(|edge| edge.end(h, 0, 0)) {
+                Some(v) => v.reduced::<TUNED>(),
+                None => restart::<TUNED>(earlier, h)?,
+            };
         }
-        cone.cut(h);
-        let was_open = ray.is_some();
+        self.cone.cut(h);
+        let was_open = self.ray.is_some();
         if was_open {
-            ray = cone.gaining(p, q);
-            open += usize::from(ray.is_some());
+            self.ray = self.cone.gaining(p, q);
+            self.open += usize::from(self.ray.is_some());
         }
-        if moved || (was_open && ray.is_none()) {
-            best = tightest::<TUNED>(earlier, upward(h, p, q)).0.reduced::<TUNED>();
+        if moved || (was_open && self.ray.is_none()) {
+            let v = edge.and_then(|edge| edge.end(h, p, q)).unwrap_or_else(|| tightest::<TUNED>(earlier, upward(h, p, q)).0);
+            self.best = v.reduced::<TUNED>();
+        }
+        Ok(moved || restarted)
+    }
+
+    fn answer(self) -> Answer {
+        let outcome = match self.ray {
+            Some(ray) => Outcome::Unlimited { start: self.start, ray: ray.reduced() },
+            None => Outcome::Best(self.best),
+        };
+        Answer { outcome, moves: self.moves, open: self.open }
+    }
+
+    fn impossible(self, place: usize, witness: Witness) -> Answer {
+        Answer { outcome: Outcome::Impossible { place, witness }, moves: self.moves, open: self.open }
+    }
+}
+
+/// Entries for each rule of the chain that the passes may look at before the walk carries the region's boundary along, and rules for which
+/// that has room.
+const ALLOWED: usize = 24;
+const RULES: usize = 8_190;
+
+/// Carrying, it carries the region's boundary along once its passes have looked at many entries.
+pub fn walk<const TUNED: bool, const CARRYING: bool>(chain: &Chain) -> Answer {
+    let mut held = Held::begin(chain);
+    let rules = chain.count - 2;
+    let mut budget = ALLOWED * rules;
+    for m in 2..chain.count {
+        match held.step::<TUNED>(chain, m, None) {
+            Err(witness) => return held.impossible(m - 1, witness),
+            Ok(moved) if CARRYING => {
+                budget = budget.saturating_sub(if moved { m } else { 0 });
+                if budget == 0 && rules <= RULES {
+                    return carried::<TUNED>(chain, held, m + 1);
+                }
+            }
+            Ok(_) => {}
         }
     }
-    let outcome = match ray {
-        Some(ray) => Outcome::Unlimited { start, ray: ray.reduced() },
-        None => Outcome::Best(best),
-    };
-    Answer { outcome, moves, open }
+    held.answer()
+}
+
+/// From entry `from` on, with the ring of the entries before it.
+#[inline(never)]
+fn carried<const TUNED: bool>(chain: &Chain, mut held: Held, from: usize) -> Answer {
+    let mut ring = Ring::new(chain.lx, chain.ly);
+    (2..from).for_each(|m| {
+        ring.insert(chain.entries, m);
+    });
+    for m in from..chain.count {
+        let edge = ring.insert(chain.entries, m);
+        if let Err(witness) = held.step::<TUNED>(chain, m, edge) {
+            return held.impossible(m - 1, witness);
+        }
+    }
+    held.answer()
+}
+
+impl Edge {
+    /// The end of the edge of h in the direction in which the pass would walk, if it is a point.
+    fn end(&self, h: Constraint, p: i64, q: i64) -> Option<Point> {
+        let v = if is_upward(h, p, q) { self.before.meet(h) } else { h.meet(self.behind) };
+        (v.d > 0).then_some(v)
+    }
 }
 
 /// The new start point on the line of h, or a certificate that there is none.
@@ -86,13 +158,16 @@ fn certificate(earlier: &[Constraint], h: Constraint, j: usize, k: usize) -> Wit
 
 /// The line of h, turned so that its ray (b, -a) goes up in gain, then down in x + y, then down in x.
 fn upward(h: Constraint, p: i64, q: i64) -> Constraint {
-    let gain = p * h.b - q * h.a;
-    let up = gain > 0 || (gain == 0 && (h.b < h.a || (h.b == h.a && h.b < 0)));
-    if up {
+    if is_upward(h, p, q) {
         h
     } else {
         h.turned()
     }
+}
+
+fn is_upward(h: Constraint, p: i64, q: i64) -> bool {
+    let gain = p * h.b - q * h.a;
+    gain > 0 || (gain == 0 && (h.b < h.a || (h.b == h.a && h.b < 0)))
 }
 
 /// The first meeting point along the line's ray with a constraint that the ray goes against, and that constraint. Tuned, it starts from the

@@ -12,6 +12,7 @@ pub mod Theorems
 pub mod Bounds
 pub mod Ends
 pub mod Rows
+pub mod Faced
 pub mod Quick
 pub mod Proper
 pub mod Objectives

@@ -10,3 +10,9 @@ pub mod Walks
 pub mod Solutions
 pub mod Solves
 pub mod Amounts
+pub mod Rows
+pub mod Turns
+pub mod Drops
+pub mod Insertions
+pub mod NewEdges
+pub mod Carried

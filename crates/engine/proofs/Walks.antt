@@ -85,6 +85,10 @@ entries-next l i (suc k) =
     shift : (i k : ℕ) → i + suc k ≡ suc i + k
     shift i k = omega arith
 
+-- the entries so far, with one more
+pub entries-grow : (l : List ℤ) (i : ℕ) → entries l 0 i ++ (entry l i ∷ []) ≡ entries l 0 (suc i)
+entries-grow l i = ap (λ (j : ℕ). entries l 0 i ++ (entry l j ∷ [])) (sym (zero-add i)) ∙ entries-next l 0 i
+
 -- ---- one more rule of a run
 
 -- the rules from entry i on are within their ranges if the rule there is, and those after it
@@ -160,7 +164,7 @@ module _ {f : Functional} {floors : Floors} {l : List ℤ} {n : ℕ} (h : Walkin
             }
 
         -- one more entry is taken in
-        more-taken : Entries l (i + 1)
+        pub more-taken : Entries l (i + 1)
         more-taken = record { room = omega (arith, h .room); small = λ k c. each k (decLt k i) c }
           where
             each : (k : ℕ) → Dec (k < i) → k < i + 1 → SmallConstraint (entry l k)
@@ -195,14 +199,11 @@ module _ {f : Functional} {floors : Floors} {l : List ℤ} {n : ℕ} (h : Walkin
             one-later : (i : ℕ) → 2 ≤ i → suc (i - 2) ≡ i + 1 - 2
             one-later i k = omega arith
 
-            prefix : entries l 0 i ++ (entry l i ∷ []) ≡ entries l 0 (suc i)
-            prefix = ap (λ (j : ℕ). entries l 0 i ++ (entry l j ∷ [])) (sym (zero-add i)) ∙ entries-next l 0 i
-
             next :
                 walkFrom tie f (entries l 0 (suc i)) (suc i) (entries l (suc i) (n + 2 - suc i)) w′
                 ≡ walkFrom tie f (entries l 0 i) i (entries l i (n + 2 - i)) w
             next =
-                ap₂ (λ (S : List Constraint) (u : Walk). walkFrom tie f S (suc i) (entries l (suc i) (n + 2 - suc i)) u) (sym prefix)
+                ap₂ (λ (S : List Constraint) (u : Walk). walkFrom tie f S (suc i) (entries l (suc i) (n + 2 - suc i)) u) (sym (entries-grow l i))
                 (made ∙ ap (λ m. step tie f (entries l 0 i) i m w) e)
                 ∙ sym (ap (λ (S : List Constraint). walkFrom tie f (entries l 0 i) i S w) (entries-more l (n + 2) i b))
 

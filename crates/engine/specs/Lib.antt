@@ -7,3 +7,6 @@ pub mod Solving
 pub mod Held
 pub mod Start
 pub mod Sizes
+pub mod Row
+pub mod Rings
+pub mod Carrying

@@ -1,15 +1,22 @@
 // The engine: a chain of rules planned, with no byte of a book in sight. Exact arithmetic on 64-bit integers, equal function by function
 // to the functional model of crate `model`. What a private function asks of its numbers is one record, and document 01's bounds answer
 // it; the two functions below ask nothing.
+mod between;
+mod carry;
 mod cone;
+mod edges;
 mod entries;
 mod exact;
 mod floors;
+mod grow;
+mod insert;
 mod optimum;
 mod order;
 mod range;
 mod scan;
+mod seeking;
 mod start;
+mod turning;
 mod verdict;
 mod walk;
 

@@ -81,7 +81,7 @@ fn resettled(entries: &[i64], side: bool, n: usize, h: Constraint, found: Found)
     }
 }
 
-fn restart(tie: Tie, entries: &[i64], n: usize, h: Constraint) -> Restart
+pub fn restart(tie: Tie, entries: &[i64], n: usize, h: Constraint) -> Restart
     requires { ⌜ Restarting tie (now entries) n h ⌝ }
     ensures { λ r. ⌜ r ≡ restartOf tie (entriesOf (now (entries .entry)) 0 n) n h ⌝ }
 {

@@ -2,6 +2,7 @@
 // the system became infeasible, and it counts the constraints that broke the start point before them. Entries stand in one lent slice,
 // the two floors first, and each constraint that arrives is scanned against those before it.
 use crate::Solved;
+use crate::carry::carry_on;
 use crate::cone::gaining;
 use crate::cone::narrow;
 use crate::entries::entry;
@@ -31,16 +32,17 @@ ghost use Rattle.model.specs.Step.{going as goingOf, step as stepOf, begin as b
 ghost use Rattle.engine.specs.Entries.{entries as entriesOf};
 ghost use Rattle.engine.specs.Solving.{rulesSolved};
 ghost use Rattle.engine.specs.Sizes.{Counting, Stepping, Beginning, Walking};
+ghost use Rattle.engine.specs.Carrying.{leftOver};
 
 // One more, if so.
-fn counted(count: usize, so: bool) -> usize
+pub fn counted(count: usize, so: bool) -> usize
     requires { ⌜ Counting count ⌝ }
     ensures { λ r. ⌜ r ≡ count + one-if so ⌝ }
 {
     if so { count + 1 } else { count }
 }
 
-fn going(s: Point, cone: Cone, best: Best, moves: usize, opened: usize, restarts: usize) -> Walk
+pub fn going(s: Point, cone: Cone, best: Best, moves: usize, opened: usize, restarts: usize) -> Walk
     requires { ⌜ Counting opened ⌝ }
     ensures { λ r. ⌜ r ≡ goingOf s cone best moves opened restarts ⌝ }
 {
@@ -57,7 +59,7 @@ fn going(s: Point, cone: Cone, best: Best, moves: usize, opened: usize, restarts
 }
 
 // What the walk holds after one more constraint h, at index n.
-fn step(
+pub fn step(
     objective: Functional,
     tie: Tie,
     entries: &[i64],
@@ -111,7 +113,7 @@ fn begin(objective: Functional, floors: Floors) -> Walk
 }
 
 // Least x + y, then least x.
-fn tie() -> Tie
+pub fn tie() -> Tie
     ensures { λ r. ⌜ r ≡ tieOf ⌝ }
 {
     Tie {
@@ -120,20 +122,51 @@ fn tie() -> Tie
     }
 }
 
+// How many entries the passes may look at: 24 for each rule of the chain. The ring's run has room for 8,190 rules, and a longer chain is
+// walked without it.
+fn allowed(n: usize) -> usize {
+    if n <= 8190 {
+        return 24 * n;
+    }
+    0
+}
+
+// What is left of a budget when a pass over i entries was made, or not.
+fn left_over(budget: usize, i: usize, passed: bool) -> usize
+    ensures { λ r. ⌜ r ≡ leftOver budget i passed ⌝ }
+{
+    if passed {
+        if i < budget {
+            return budget - i;
+        }
+        return 0;
+    }
+    budget
+}
+
 // The walk along n rules, which stand after the floors. A rule is looked at before it is taken in, so that no pass of its own is made for
-// that.
+// that. Where a pair moves, a pass over the entries before the rule is made. Once these passes have looked at all entries that they may,
+// the walk carries the region's boundary along instead, which costs more where few pairs move and less where many do.
 pub fn walk_rules(objective: Functional, floors: Floors, run: &[i64], n: usize) -> Solved
     requires { ⌜ Walking objective floors (now run) n ⌝ }
     ensures { λ r. ⌜ r ≡ rulesSolved objective floors (entriesOf (now (run .entry)) 2 n) ⌝ }
 {
     let end = n + 2;
     let mut walk = begin(objective, floors);
+    let mut budget = allowed(n);
     let mut i = 2;
     while i < end {
         let h = entry(run, i);
         if rule_in_range(h) {
+            let moves = walk.moves;
+            let restarts = walk.restarts;
             walk = step(objective, tie(), run, i, h, walk);
+            let passed = (moves < walk.moves) | (restarts < walk.restarts);
+            budget = left_over(budget, i, passed);
             i += 1;
+            if (budget < 1) & (n <= 8190) {
+                return carry_on(objective, floors, run, n, walk, i);
+            }
         } else {
             return Solved::Outside;
         }

@@ -1,0 +1,98 @@
+-- `engine::seeking::halved` meets its contract: an edge of the ring.
+use mathlib.Core.Path.{sym, subst}
+use Prim.Native.Nat.{_+_, _-_, _/_, _≤_, _<_}
+use native.Mathlib.Omega.{arith}
+use Rattle.lp.specs.Range.{SmallConstraint}
+use Rattle.engine.proofs.Rows.{ring-at, ring-small}
+use Rattle.engine.proofs.seeking.halved.Statement.{statement}
+use Rattle.engine.proofs.seeking.halved.Tie as tie
+
+abbrev Inv-loop : tie.InvT-loop
+Inv-loop size run ring h lo n first early from₀ to₀ from to = (from < to) × (to ≤ n)
+
+abbrev μ-loop : tie.MeasureT-loop
+μ-loop size run ring h lo n first early from₀ to₀ from to = to - from
+
+edge-requires : tie.Need-edge-requires Inv-loop μ-loop
+edge-requires c κs = ring-at (c .before .pre .ring) (c .before .args .lo) (omega arith) (omega (arith, c .before .pre .two))
+
+keeps-at-requires : tie.Need-keeps-at-requires Inv-loop μ-loop
+keeps-at-requires c κs =
+    let p = c .before .before .pre in
+    record {
+      h-small = p .size-small;
+      p-small =
+          subst SmallConstraint (sym (c .edge .ensures)) (ring-small (p .ring) (c .before .before .args .lo) (omega arith) (omega (arith, p .two)));
+      q-small = p .h-small;
+    }
+
+loop-holds : tie.Need-loop-holds Inv-loop μ-loop
+loop-holds c = (omega (arith, c .before .before .before .pre .two), omega arith)
+
+add-loop : tie.Need-add-loop Inv-loop μ-loop
+add-loop c = omega (arith, c .loop .inv .0, c .loop .inv .1, c .before .before .before .before .pre .ring .fits)
+
+sub-middle : tie.Need-sub-middle Inv-loop μ-loop
+sub-middle c = omega (arith, c .before .loop .inv .0)
+
+add-middle : tie.Need-add-middle Inv-loop μ-loop
+add-middle c = omega (arith, c .before .loop .inv .0, c .before .loop .inv .1, c .before .before .before .before .before .pre .ring .fits)
+
+add-edge : tie.Need-add-edge Inv-loop μ-loop
+add-edge c = omega (arith, c .before .loop .inv .0, c .before .loop .inv .1, c .before .before .before .before .before .pre .ring .fits)
+
+edge-requires-2 : tie.Need-edge-requires-2 Inv-loop μ-loop
+edge-requires-2 c κs =
+    let l = c .before .loop in
+    ring-at (c .before .before .before .before .before .pre .ring) (c .before .before .before .before .before .args .lo + (l .from + (l .to - l .from) / 2)) (omega arith) (omega (arith, l .inv .0, l .inv .1))
+
+comes-before-requires : tie.Need-comes-before-requires Inv-loop μ-loop
+comes-before-requires c κs =
+    let p = c .before .before .before .before .before .before .pre in
+    let l = c .before .before .loop in
+    let lo = c .before .before .before .before .before .before .args .lo in
+    record {
+      size-small = p .size-small;
+      first-small = subst SmallConstraint (sym (c .before .before .before .before .edge .ensures)) (ring-small (p .ring) lo (omega arith) (omega (arith, p .two)));
+      x-small =
+          subst SmallConstraint (sym (c .edge2 .ensures))
+          (ring-small (p .ring) (lo + (l .from + (l .to - l .from) / 2)) (omega arith) (omega (arith, l .inv .0, l .inv .1)));
+      h-small = p .h-small;
+    }
+
+loop-less : tie.Need-loop-less Inv-loop μ-loop
+loop-less c = omega (arith, c .before .before .before .loop-test .taken, c .before .before .before .before .loop .inv .0)
+
+loop-again : tie.Need-loop-again Inv-loop μ-loop
+loop-again c = (omega (arith, c .before .before .before .loop-test .taken, c .before .before .before .before .loop .inv .0), c .before .before .before .before .loop .inv .1)
+
+loop-less-2 : tie.Need-loop-less-2 Inv-loop μ-loop
+loop-less-2 c = omega (arith, c .before .before .before .loop-test .taken, c .before .before .before .before .loop .inv .0)
+
+loop-again-2 : tie.Need-loop-again-2 Inv-loop μ-loop
+loop-again-2 c =
+    (omega (arith, c .before .before .before .loop-test .taken, c .before .before .before .before .loop .inv .0), omega (arith, c .before .before .before .before .loop .inv .0, c .before .before .before .before .loop .inv .1))
+
+returns : tie.Need-returns Inv-loop μ-loop
+returns c = omega (arith, c .before .loop .inv .0, c .before .loop .inv .1)
+
+pub halved-spec : {M : Type 1} → statement M
+halved-spec =
+    tie.close
+    (tie.spec
+    Inv-loop
+    μ-loop
+    edge-requires
+    keeps-at-requires
+    loop-holds
+    add-loop
+    sub-middle
+    add-middle
+    add-edge
+    edge-requires-2
+    comes-before-requires
+    loop-less
+    loop-again
+    loop-less-2
+    loop-again-2
+    returns)
