@@ -167,7 +167,7 @@ module _
     answered : r ≡ listed.Corners (length (cornersOf f e order))
     answered = l .answer ∙ ap (λ b. cond b (listed.Corners (length (cornersOf f e order))) listed.Outside) is-taken
 
-    put : after ≡ putPoints corners 0 (cornersOf f e order)
+    pub put : after ≡ putPoints corners 0 (cornersOf f e order)
     put = l .listed ∙ ap (λ b. cond b (putPoints corners 0 (cornersOf f e order)) corners) is-taken
 
     abbrev count : Listed → ℕ
@@ -181,13 +181,13 @@ module _
     pub never-outside : r ≡ listed.Outside → ⊥
     never-outside q = true≢false (ap inside (sym answered ∙ q))
 
-    module _ {k : ℕ} (q : r ≡ listed.Corners k) (as-long : length after ≡ length corners) where
-      so : k ≡ length (cornersOf f e order)
-      so = ap count (sym q ∙ answered)
+    pub all-listed : {k : ℕ} → r ≡ listed.Corners k → k ≡ length (cornersOf f e order)
+    all-listed q = ap count (sym q ∙ answered)
 
+    module _ {k : ℕ} (q : r ≡ listed.Corners k) (as-long : length after ≡ length corners) where
       points-laid : pointsFrom after 0 k ≡ cornersOf f e order
       points-laid =
-          (λ i. pointsFrom (put i) 0 (so i))
+          (λ i. pointsFrom (put i) 0 (all-listed q i))
           ∙ sym (points-places (putPoints corners 0 (cornersOf f e order)) 0 (length (cornersOf f e order)))
           ∙ corners-read f e order corners (omega (arith, h .corners-room, same))
 
@@ -209,7 +209,7 @@ module _
       pub lays : Lays f (entries e 2 n) k after
       lays =
           record {
-            points = record { room = omega (arith, so, same, listed-at-most f e order, as-long, h .corners-room); small = small };
+            points = record { room = omega (arith, all-listed q, same, listed-at-most f e order, as-long, h .corners-room); small = small };
             exactly = exact;
           }
 

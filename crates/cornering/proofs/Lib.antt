@@ -1,6 +1,4 @@
--- The order of the rules (Counting), the corners laid out (Layouts), what they come to for a book (Finishing, Books), and that a list
--- is within its output (Within).
-pub mod Counting
+-- The corners laid out (Layouts), what they come to for a book (Finishing, Books), and that a list is within its output (Within).
 pub mod Layouts
 pub mod Finishing
 pub mod Books

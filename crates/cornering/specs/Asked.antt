@@ -8,22 +8,12 @@ use lib.ListN.{length}
 use lib.IntN.{ℤ}
 use Rattle.lp.specs.declared.Constraint.{Constraint}
 use Rattle.lp.specs.declared.Floors.{Floors}
-use Rattle.lp.specs.Range.{SmallFloors}
 use Rattle.boundary.specs.Ring.{grown, corners}
 use Rattle.answers.specs.Refusal.{refusal, notRefused}
 use Rattle.sorting.specs.Keys.{pointAt, comesAt}
 use Rattle.arranging.specs.Arranging.{indices, kept, keptRun, orderOf}
 use Rattle.listing.specs.Listing.{written}
 use Rattle.outline.specs.declared.Outlined.{Outlined}
-
-pub record Ordering (f : Floors) (order : List ℕ) : Type 0 where
-  pub floors-small : SmallFloors f
-  pub few : length order ≤ 4095
-
--- an order of n rules by their entries: it names each of them, and nothing else
-pub record Names (n : ℕ) (order : List ℕ) : Type 0 where
-  pub to : (k : ℕ) → List·Memᴰ k (indices 2 n) → List·Memᴰ k order
-  pub from : (k : ℕ) → List·Memᴰ k order → List·Memᴰ k (indices 2 n)
 
 -- the first r points of the keys are the corners of a ring of n rules, whatever the order in which they entered
 pub record Lays (f : Floors) (rules : List Constraint) (n r : ℕ) (keys : List ℤ) : Type 0 where

@@ -8,13 +8,13 @@ ghost use mathlib.Core.Path.{_≡_};
 ghost use Prim.Native.Nat.{_≤_};
 ghost use lib.ListN.{length};
 ghost use Rattle.lp.specs.Range.{SmallFloors};
-ghost use Rattle.arranging.specs.Arranging.{indices};
-ghost use Rattle.cornering.specs.Asked.{Ordering, Names};
+ghost use Rattle.region.proofs.Theorems.{places};
+ghost use Rattle.batching.specs.Asked.{Ordering, Names};
 
 // The run counts 2, 3, 4 and so on: rule i is entry i + 2.
 fn count_rules(run: &mut [u16])
     requires { ⌜ length (now run) ≤ 4095 ⌝ }
-    ensures { λ u. ⌜ now (run .exit) ≡ indices 2 (length (now (run .entry))) ⌝ }
+    ensures { λ u. ⌜ now (run .exit) ≡ places 2 (length (now (run .entry))) ⌝ }
 {
     let mut i: u16 = 0;
     while (i as usize) < run.len() {

@@ -1,5 +1,6 @@
 -- `cornering::lay::lay` meets its contract: what is lent is within the ranges, so that the corners are listed.
-use Rattle.cornering.proofs.Layouts.{never-outside, lays}
+use Rattle.batching.proofs.Layouts.{never-outside}
+use Rattle.cornering.proofs.Layouts.{lays}
 use borrow.Author.Needs.{needs}
 use Rattle.cornering.proofs.lay.lay.Statement.{statement}
 use Rattle.cornering.proofs.lay.lay.Tie as tie

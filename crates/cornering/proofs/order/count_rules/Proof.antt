@@ -5,13 +5,13 @@ use Prim.Native.Nat.{_-_, _+_, _≤_}
 use mathlib.Core.Path.{_≡_, refl, sym, ap, _∙_}
 use lib.ListN.{length, length-set, take}
 use lib.Seq.{take-all}
-use Rattle.arranging.specs.Arranging.{indices}
-use Rattle.cornering.proofs.Counting.{counted-rules}
+use Rattle.region.proofs.Theorems.{places}
+use Rattle.batching.proofs.Layouts.{counted-rules}
 use Rattle.cornering.proofs.order.count_rules.Statement.{statement}
 use Rattle.cornering.proofs.order.count_rules.Tie as tie
 
 abbrev Inv-loop : tie.InvT-loop
-Inv-loop run₀ i₀ run i = (i ≤ length run₀) × (take i run ≡ indices 2 i) × (length run ≡ length run₀) × (length run₀ ≤ 4095)
+Inv-loop run₀ i₀ run i = (i ≤ length run₀) × (take i run ≡ places 2 i) × (length run ≡ length run₀) × (length run₀ ≤ 4095)
 
 abbrev μ-loop : tie.MeasureT-loop
 μ-loop run₀ i₀ run i = length run₀ - i
@@ -35,7 +35,7 @@ returns : tie.Need-returns Inv-loop μ-loop
 returns c =
     let l = c .before .loop in
     let e : l .i ≡ length (c .before .before .args .run .now) = omega arith in
-    sym (take-all (l .i) (l .run) (c .loop-test .left)) ∙ l .inv .1 ∙ ap (indices 2) e
+    sym (take-all (l .i) (l .run) (c .loop-test .left)) ∙ l .inv .1 ∙ ap (places 2) e
 
 pub count-rules-spec : {M : Type 1} → statement M
 count-rules-spec =

@@ -2,7 +2,7 @@
 use lib.ListN.{length}
 use Rattle.sorting.specs.Keys.{comesOf}
 use Rattle.sorting.specs.declared.keys.By.the-variants.{Angle}
-use Rattle.cornering.proofs.Counting.{named}
+use Rattle.batching.proofs.Layouts.{sorted-names}
 use borrow.Author.Needs.{needs}
 use Rattle.cornering.proofs.order.put_order.Statement.{statement}
 use Rattle.cornering.proofs.order.put_order.Tie as tie
@@ -22,7 +22,7 @@ same-length c = search needs
 returns : tie.Need-returns
 returns c =
     let start = c .before .before .before .before .before .before .before .before .before .before in
-    named (comesOf (Angle (c .before .before .before .before .frame .result)) (start .args .run .now)) (length (start .args .order
+    sorted-names (comesOf (Angle (c .before .before .before .before .frame .result)) (start .args .run .now)) (length (start .args .order
     .now)) (start .pre .few)
     (c .before .before .before .before .before .before .before .count-rules .ensures) (c .before .before .sort .ensures)
 
