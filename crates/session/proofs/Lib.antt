@@ -1,3 +1,2 @@
 -- The session program: what its parts need.
-pub mod Opposites
 pub mod Turns

@@ -11,14 +11,8 @@ slice-aggregate-write-all c =
     let line = c .before .before .write-line in
     sym (length-take-le (line .result) (line .last .1 .0) (omega (arith, line .ensures .enough)))
 
-slice-aggregate-write-all-2 : tie.Need-slice-aggregate-write-all-2
-slice-aggregate-write-all-2 c =
-    let line = c .before .before .write-line2 in
-    sym (length-take-le (line .result) (line .last .1 .0) (omega (arith, line .ensures .enough)))
-
 pub say-spec : {M : Type 1} → statement M
 say-spec =
     tie.close
     (tie.spec (λ c. search needs) (λ c κs. search needs) (λ c. search needs) slice-aggregate-write-all (λ c κs. search needs)
-    (λ c. search needs) (λ c κs. search needs) (λ c. search needs) slice-aggregate-write-all-2 (λ c κs. search needs)
-    (λ c. search needs) (λ c. search needs))
+    (λ c. search needs))
