@@ -146,7 +146,9 @@ mod tests {
     fn one_pair_moves_alone() {
         for n in [16, 64, 255, 1_000, 4_095] {
             assert!(shown(best_pair, n).iter().all(|line| line.starts_with("best") && line.ends_with(&format!(" {} 2", n - 2))));
-            assert!(shown(start_pair, n).iter().all(|line| line.starts_with("unlimited") && line.ends_with(&format!(" 0 {}", n + 1))));
+            assert!(shown(start_pair, n)
+                .iter()
+                .all(|line| line.starts_with("unlimited") && line.ends_with(&format!(" 0 {}", n + 1))));
         }
     }
 

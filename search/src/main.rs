@@ -20,7 +20,9 @@ use search::planner::{ONE, TWO};
 use search::prefixes::Way;
 use search::program::program;
 use search::repack;
-use search::runs::{both_versions, busy_books, carried_books, damaged_books, orders, random_books, short_buffers, stored_lines, Lengths, Tally};
+use search::runs::{
+    both_versions, busy_books, carried_books, damaged_books, orders, random_books, short_buffers, stored_lines, Lengths, Tally,
+};
 use std::process::ExitCode;
 use std::time::{Instant, SystemTime, UNIX_EPOCH};
 

@@ -124,7 +124,14 @@ pub fn busy_books(planner: &Planner, tally: &mut Tally, seed: u64, books: u64, l
 }
 
 /// Books of so many rules whose walk comes to carry the region's boundary along, with ties and parallels behind the change-over.
-pub fn carried_books(planner: &Planner, tally: &mut Tally, seed: u64, books: u64, least: usize, most: usize) -> Result<u64, String> {
+pub fn carried_books(
+    planner: &Planner,
+    tally: &mut Tally,
+    seed: u64,
+    books: u64,
+    least: usize,
+    most: usize,
+) -> Result<u64, String> {
     let mut random = Random::new(seed);
     for _ in 0..books {
         let n = least + random.below(most + 1 - least);

@@ -9,9 +9,11 @@ use search::planner::{plan_line2, Fill, LINE};
 
 fn main() -> Result<(), String> {
     title();
-    let planners = [("planner", plan_line2 as Fill), ("tuned twin", twin::tuned_line2), ("quadratic twin", twin::quadratic_line2)];
+    let planners =
+        [("planner", plan_line2 as Fill), ("tuned twin", twin::tuned_line2), ("quadratic twin", twin::quadratic_line2)];
     let one = Table { layout: TWO, written: single, lengths: &[16, 64, 255, 1_024, 4_095], room: LINE, planners, growth: false };
-    let planners = [("planner", joint_halves as Fill), ("tuned twin", twin::joint_halves), ("quadratic twin", twin::quadratic_halves)];
+    let planners =
+        [("planner", joint_halves as Fill), ("tuned twin", twin::joint_halves), ("quadratic twin", twin::quadratic_halves)];
     let joined = Table { layout: TWO, written: halved, lengths: &[8_190], room: LINE, planners, growth: false };
     one.head();
     CARRIED.into_iter().try_for_each(|(name, chains)| rows(&one, &joined, name, chains))

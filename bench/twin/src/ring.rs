@@ -2,8 +2,6 @@
 
 use crate::plane::Constraint;
 
-const ROOM: usize = 16_400;
-
 /// The line at infinity. Index 0 names it, and index k + 1 entry k.
 const HORIZON: Constraint = Constraint { a: 0, b: 0, c: 1 };
 
@@ -15,19 +13,19 @@ pub struct Edge {
 }
 
 /// n edges from place lo on; where n is 0, no ring is held.
-pub struct Ring {
-    run: [u16; ROOM],
+pub struct Ring<'a> {
+    run: &'a mut [u16],
     lo: usize,
     n: usize,
     size: Constraint,
 }
 
-impl Ring {
+impl<'a> Ring<'a> {
     /// The triangle of the floors and the line at infinity, in the middle of the run.
-    pub fn new(lx: i64, ly: i64) -> Self {
-        let mut run = [0; ROOM];
-        run[ROOM / 2..ROOM / 2 + 3].copy_from_slice(&[2, 0, 1]);
-        Ring { run, lo: ROOM / 2, n: 3, size: Constraint { a: -1, b: -1, c: 1 - lx - ly } }
+    pub fn new(lx: i64, ly: i64, run: &'a mut [u16]) -> Self {
+        let lo = run.len() / 2;
+        run[lo..lo + 3].copy_from_slice(&[2, 0, 1]);
+        Ring { run, lo, n: 3, size: Constraint { a: -1, b: -1, c: 1 - lx - ly } }
     }
 
     fn edge(&self, entries: &[Constraint], place: usize) -> Constraint {
@@ -79,7 +77,7 @@ impl Ring {
     fn turn_to(&mut self, k: usize) {
         let (up, n) = (k + 1, self.n);
         let down = n - up;
-        let spare = ROOM - self.lo - n;
+        let spare = self.run.len() - self.lo - n;
         if down < self.lo && (down <= up || spare < up) {
             for _ in 0..down {
                 self.run[self.lo - 1] = self.run[self.lo + n - 1];
@@ -100,12 +98,15 @@ impl Ring {
         }
         let h = entries[m];
         let k = self.seek(entries, h);
-        let next = if k + 1 < self.n { self.lo + k + 1 } else { self.lo };
-        if self.at_place(entries, h, self.lo + k, next) && self.corner_keeps(entries, h, self.lo + k, next) {
+        let inner = 0 < k && k + 1 < self.n;
+        if inner && self.corner_keeps(entries, h, self.lo + k, self.lo + k + 1) {
             return None;
         }
         self.turn_to(k);
         let mut end = self.lo + self.n;
+        if !inner && self.corner_keeps(entries, h, end - 1, self.lo) {
+            return None;
+        }
         while self.lo + 1 < end && !self.corner_keeps(entries, h, self.lo, self.lo + 1) {
             self.lo += 1;
         }

@@ -88,23 +88,28 @@ impl Held {
     }
 }
 
-/// Entries for each rule of the chain that the passes may look at before the walk carries the region's boundary along, and rules for which
-/// that has room.
-const ALLOWED: usize = 24;
+/// Entries for each rule of the chain, and some more, that the passes may look at before the walk carries the region's boundary along, and
+/// rules for which that has room. Where few rules are left, it does not pay off.
+const ALLOWED: usize = 16;
+const MORE: usize = 1_024;
+const LEFT: usize = 48;
 const RULES: usize = 8_190;
+/// Room for the rings of 255 rules and of 8,190, on both sides.
+const SHORT: usize = 530;
+const LONG: usize = 16_400;
 
 /// Carrying, it carries the region's boundary along once its passes have looked at many entries.
 pub fn walk<const TUNED: bool, const CARRYING: bool>(chain: &Chain) -> Answer {
     let mut held = Held::begin(chain);
     let rules = chain.count - 2;
-    let mut budget = ALLOWED * rules;
+    let mut budget = ALLOWED * rules + MORE;
     for m in 2..chain.count {
         match held.step::<TUNED>(chain, m, None) {
             Err(witness) => return held.impossible(m - 1, witness),
-            Ok(moved) if CARRYING => {
-                budget = budget.saturating_sub(if moved { m } else { 0 });
-                if budget == 0 && rules <= RULES {
-                    return carried::<TUNED>(chain, held, m + 1);
+            Ok(true) if CARRYING => {
+                budget = budget.saturating_sub(m + 1);
+                if budget == 0 && LEFT < chain.count - m - 1 && rules <= RULES {
+                    return carry_on::<TUNED>(chain, held, m + 1);
                 }
             }
             Ok(_) => {}
@@ -113,10 +118,19 @@ pub fn walk<const TUNED: bool, const CARRYING: bool>(chain: &Chain) -> Answer {
     held.answer()
 }
 
+/// The rest of the walk, with room for its ring.
+#[inline(never)]
+fn carry_on<const TUNED: bool>(chain: &Chain, held: Held, from: usize) -> Answer {
+    if chain.count <= 257 {
+        return carried::<TUNED>(chain, held, from, &mut [0; SHORT]);
+    }
+    carried::<TUNED>(chain, held, from, &mut [0; LONG])
+}
+
 /// From entry `from` on, with the ring of the entries before it.
 #[inline(never)]
-fn carried<const TUNED: bool>(chain: &Chain, mut held: Held, from: usize) -> Answer {
-    let mut ring = Ring::new(chain.lx, chain.ly);
+fn carried<const TUNED: bool>(chain: &Chain, mut held: Held, from: usize, run: &mut [u16]) -> Answer {
+    let mut ring = Ring::new(chain.lx, chain.ly, run);
     (2..from).for_each(|m| {
         ring.insert(chain.entries, m);
     });

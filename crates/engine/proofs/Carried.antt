@@ -2,7 +2,7 @@
 use mathlib.Core.Path.{_≡_, refl, sym, _∙_, ap, subst}
 use mathlib.Core.List.{List, [], _∷_, _++_}
 use mathlib.Core.Bool.{Bool, true, false}
-use Prim.Native.Nat.{ℕ, zero, suc, _+_, _-_, _≤_, _<_}
+use Prim.Native.Nat.{ℕ, zero, suc, _+_, _-_, _/_, _≤_, _<_}
 use native.Mathlib.Omega.{arith}
 use native.Mathlib.Numerals.{add-one}
 use lib.ListN.{length, getD, set, length-set}
@@ -33,7 +33,7 @@ use Rattle.engine.specs.Carrying.{Between, SteppingAt, Growing, Grown, A
 use Rattle.engine.specs.Tests.{ruleInRange}
 use Rattle.engine.proofs.Rows.{ring-at, ring-small, size-small}
 use Rattle.engine.proofs.Walks.{Walked, entries-grow, stepping, more-taken}
-use Rattle.engine.proofs.Drops.{arc}
+use Rattle.engine.proofs.Drops.{arc, never-cut}
 use Rattle.engine.proofs.Insertions.{way-at, way-end}
 
 -- ---- one more entry
@@ -83,35 +83,49 @@ module _ {e : List ℤ} {run : List ℕ} {D : Constraint} {k : ℕ} {a : Arc} (t
 
 -- ---- the triangle
 
-abbrev pub seeded : List ℕ → List ℕ
-seeded run = set (set (set run 8200 2) 8201 0) 8202 1
+-- at place p
+abbrev pub seeded : List ℕ → ℕ → List ℕ
+seeded run p = set (set (set run p 2) (p + 1) 0) (p + 2) 1
 
-module _ {e : List ℤ} {run : List ℕ} {D : Constraint} {m : ℕ} (s : Growing e run D m) where
-  pub seeded-length : length (seeded run) ≡ length run
-  seeded-length =
-      length-set (set (set run 8200 2) 8201 0) 8202 1 ∙ length-set (set run 8200 2) 8201 0 ∙ length-set run 8200 2
+module _ {e : List ℤ} {run : List ℕ} {D : Constraint} {m : ℕ} (s : Growing e run D m) (p : ℕ) (is : p ≡ length run / 2) where
+  pub seeded-length : length (seeded run p) ≡ length run
+  seeded-length = length-set (set (set run p 2) (p + 1) 0) (p + 2) 1 ∙ length-set (set run p 2) (p + 1) 0 ∙ length-set run p 2
 
-  first : getD (seeded run) 8200 0 ≡ 2
+  pub seeded-room : p + 3 ≤ length run
+  seeded-room = omega (arith, s .room)
+
+  first : getD (seeded run p) p 0 ≡ 2
   first =
-      getD-set-other (set (set run 8200 2) 8201 0) 8202 8200 1 0 (λ c. omega arith)
-      ∙ getD-set-other (set run 8200 2) 8201 8200 0 0 (λ c. omega arith)
-      ∙ getD-set-same run 8200 2 0 (omega (arith, s .room))
+      getD-set-other (set (set run p 2) (p + 1) 0) (p + 2) p 1 0 (λ c. omega arith)
+      ∙ getD-set-other (set run p 2) (p + 1) p 0 0 (λ c. omega arith)
+      ∙ getD-set-same run p 2 0 (omega (arith, seeded-room))
 
-  second : getD (seeded run) 8201 0 ≡ 0
+  second : getD (seeded run p) (p + 1) 0 ≡ 0
   second =
-      getD-set-other (set (set run 8200 2) 8201 0) 8202 8201 1 0 (λ c. omega arith)
-      ∙ getD-set-same (set run 8200 2) 8201 0 0 (omega (arith, s .room, length-set run 8200 2))
+      getD-set-other (set (set run p 2) (p + 1) 0) (p + 2) (p + 1) 1 0 (λ c. omega arith)
+      ∙ getD-set-same (set run p 2) (p + 1) 0 0 (omega (arith, seeded-room, length-set run p 2))
 
-  third : getD (seeded run) 8202 0 ≡ 1
+  third : getD (seeded run p) (p + 2) 0 ≡ 1
   third =
-      getD-set-same (set (set run 8200 2) 8201 0) 8202 1 0
-      (omega (arith, s .room, length-set run 8200 2, length-set (set run 8200 2) 8201 0))
+      getD-set-same (set (set run p 2) (p + 1) 0) (p + 2) 1 0
+      (omega (arith, seeded-room, length-set run p 2, length-set (set run p 2) (p + 1) 0))
 
-  row : edges e (seeded run) 8200 3 ≡ triangle (s .floors)
-  row = λ i. (ap (named e) first ∙ s .second) i ∷ ap (named e) second i ∷ (ap (named e) third ∙ s .first) i ∷ []
+  row : edges e (seeded run p) p 3 ≡ triangle (s .floors)
+  row =
+      (λ i. edge e (seeded run p) p ∷ edge e (seeded run p) (one i) ∷ edge e (seeded run p) (two i) ∷ [])
+      ∙ λ i. (ap (named e) first ∙ s .second) i ∷ ap (named e) second i ∷ (ap (named e) third ∙ s .first) i ∷ []
+    where
+      one : suc p ≡ p + 1
+      one = omega arith
 
-  seeded-named : Named 2 (seeded run) 8200 3
-  seeded-named zero b = omega (arith, first)
+      two : suc (suc p) ≡ p + 2
+      two = omega arith
+
+  seeded-named : Named 2 (seeded run p) p 3
+  seeded-named zero b = subst (λ (q : ℕ). getD (seeded run p) q 0 ≤ 2) here (omega (arith, first))
+    where
+      here : p ≡ p + 0
+      here = omega arith
   seeded-named (suc zero) b = omega (arith, second)
   seeded-named (suc (suc zero)) b = omega (arith, third)
   seeded-named (suc (suc (suc k))) b = absurd (never k b)
@@ -119,18 +133,19 @@ module _ {e : List ℤ} {run : List ℕ} {D : Constraint} {m : ℕ} (s : Growing
       never : (k : ℕ) → suc (suc (suc k)) < 3 → ⊥
       never k b = omega arith
 
-  pub grow-start : Holding e (seeded run) D 2 (arc 8200 3 false)
+  pub grow-start : Holding e (seeded run p) D 2 (arc p 3 false)
   grow-start =
       record {
-        fits = omega (arith, s .room, seeded-length);
+        fits = omega (arith, seeded-room, seeded-length);
         named = seeded-named;
         ring = λ some.
-            subst (λ D. Encloses D (horizon ∷ entries e 0 2) (edges e (seeded run) 8200 3)) (sym (s .size-is))
+            subst (λ D. Encloses D (horizon ∷ entries e 0 2) (edges e (seeded run p) p 3)) (sym (s .size-is))
             (subst (Encloses (size (s .floors)) (horizon ∷ entries e 0 2)) (sym row)
             (subst (λ S. Encloses (size (s .floors)) S (triangle (s .floors))) (λ i. horizon ∷ sym (s .first) i ∷ sym (s .second) i ∷ [])
             (triangle-encloses (s .floors))));
       }
 
+module _ {e : List ℤ} {run : List ℕ} {D : Constraint} {m : ℕ} (s : Growing e run D m) where
   pub grow-size : SmallConstraint D
   grow-size = subst SmallConstraint (sym (s .size-is)) (size-small (s .floors-small))
 
@@ -219,9 +234,14 @@ module _ {f : Functional} {D : Constraint} {e : List ℤ} {run : List ℕ} {i : 
           {k x : Constraint} →
           k ≡ edge e now (next .lo + next .n - 1) →
           x ≡ edge e now (next .lo + 1) →
-          SteppingAt f t e i h w k x
+          SteppingAt f t e i h w true k x
       advance-stepping et ek ex =
-          record { stepping = subst (λ t. Stepping f t e i h w) (sym et) (s .stepping); between = advance-between ek ex }
+          record { stepping = subst (λ t. Stepping f t e i h w) (sym et) (s .stepping); between = λ cut. advance-between ek ex }
+
+  -- h has not cut the ring
+  pub advance-plain : {t : Tie} → t ≡ tie → SteppingAt f t e i h w false h h
+  advance-plain et =
+      record { stepping = subst (λ t. Stepping f t e i h w) (sym et) (s .stepping); between = λ cut. never-cut cut }
 
 -- ---- from entry i on
 
@@ -238,7 +258,7 @@ module _ {f : Functional} {floors : Floors} {l : List ℤ} {n : ℕ} {w : Walk} 
         in-range = s .in-range;
       }
 
-  pub carry-growing : {run : List ℕ} → 8203 ≤ length run → {D : Constraint} → D ≡ size floors → Growing l run D i
+  pub carry-growing : {run : List ℕ} → 8 ≤ length run → {D : Constraint} → D ≡ size floors → Growing l run D i
   carry-growing b is =
       record {
         floors = floors;

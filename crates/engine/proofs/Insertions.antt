@@ -79,7 +79,7 @@ module _ {e : List ℤ} {run : List ℕ} {D h : Constraint} {lo n : ℕ} (s : Se
           ring : Boundary D S (edge e run lo) (edges e run (suc lo) m)
           ring = subst (λ (j : ℕ). Encloses D S (edges e run lo j)) en b
 
-  module _ {k : ℕ} (inside : k < n) where
+  module _ (k : ℕ) where
     pub spared-next :
         k + 1 < n →
         {t : Bool} →
@@ -93,11 +93,12 @@ module _ {e : List ℤ} {run : List ℕ} {D h : Constraint} {lo n : ℕ} (s : Se
         (way-at (Corner D S) e run (edge e run lo) lo m (lo + k) k refl (omega arith) (ring .edges)))
 
     pub spared-last :
+        k < n →
         n ≤ k + 1 →
         {t : Bool} →
         t ≡ (atPlace D h (edge e run (lo + k)) (edge e run lo) && keepsAt h (edge e run (lo + k)) (edge e run lo)) →
         Spared e run D h lo n t
-    spared-last b =
+    spared-last inside b =
         stays-between (lo + k) lo
         (λ S m en ring. way-end (Corner D S) e run (edge e run lo) lo m (lo + k) (omega arith) (ring .edges))
 
@@ -119,7 +120,12 @@ module _ {e : List ℤ} {run : List ℕ} {D : Constraint} {i : ℕ} {h : Constra
       none b = omega arith
 
   -- the ring as it is
-  pub inserted-same : (s : Inserting e run D i h lo n) → {t : Bool} → Spared e run D h lo n t → t ≡ true → Inserted e run D i h lo n (arc lo n false) run
+  pub inserted-same :
+      Inserting e run D i h lo n →
+      {t : Bool} →
+      Spared e run D h lo n t →
+      t ≡ true →
+      Inserted e run D i h lo n (arc lo n false) run
   inserted-same s p so =
       record {
         same = refl;
@@ -192,7 +198,7 @@ module _ {e : List ℤ} {run : List ℕ} {D : Constraint} {i : ℕ} {h : Constra
     pub enter-same : keepsAt h (edge e run (lo + n - 1)) (edge e run lo) ≡ true → Inserted e run D i h lo n (arc lo n false) run
     enter-same kept =
         inserted-same (s .inserting)
-        (spared-last (insert-seeking (s .inserting) (s .two)) {k = n - 1} (omega (arith, s .two)) (omega arith)
+        (spared-last (insert-seeking (s .inserting) (s .two)) (n - 1) (omega (arith, s .two)) (omega arith)
         (subst
         (λ (p : ℕ).
         true ≡ (atPlace D h (edge e run p) (edge e run lo) && keepsAt h (edge e run p) (edge e run lo)))
@@ -213,7 +219,8 @@ module _ {e : List ℤ} {run : List ℕ} {D : Constraint} {i : ℕ} {h : Constra
           fits = c .fits;
           named = c .named;
           ring = λ S held some.
-              subst (Encloses D (S ++ (h ∷ []))) (sym (c .row)) (go S n (n - 2) (omega (arith, s .two)) last (held (omega (arith, s .two))));
+              subst (Encloses D (S ++ (h ∷ []))) (sym (c .row))
+              (go S n (n - 2) (omega (arith, s .two)) last (held (omega (arith, s .two))));
           two = c .two;
           first = c .first;
         }

@@ -12,13 +12,14 @@ use Rattle.lp.specs.declared.Tie.{Tie}
 use Rattle.lp.specs.declared.Point.{Point}
 use Rattle.lp.specs.declared.Ray.{Ray}
 use Rattle.lp.specs.Outcome.{above, meet, reduce, tieOrder}
+use Rattle.lp.specs.Range.{SmallConstraint}
 use Rattle.model.specs.declared.Restart.the-variants.{Moved}
 use Rattle.model.specs.Scan.{direction}
 use Rattle.model.specs.Step.{tightestPoint, restart}
 use Rattle.boundary.specs.Quick.{nowhere, at, proper, endOf, restartAt, pointAt}
 use Rattle.boundary.proofs.Ends.{end-tightest, end-restarts}
 use Rattle.engine.specs.Entries.{entries}
-use Rattle.engine.specs.Carrying.{endPoint, Between}
+use Rattle.engine.specs.Carrying.{endPoint, Ends, Between}
 
 -- as its side and direction were worked out
 end-is :
@@ -34,8 +35,12 @@ end-is fs h k e {d} {up} ed eu ep =
     go true = refl
     go false = refl
 
+pub between-ends : {l : List ℤ} {n : ℕ} {h k e : Constraint} → SmallConstraint h → Between l n h k e → Ends h k e
+between-ends s b = record { h-small = s; k-small = b .k-small; e-small = b .e-small }
+
 module _ {l : List ℤ} {n : ℕ} {h k e : Constraint} (b : Between l n h k e) (fs : List Functional) {d : Ray} {up : Bool} {p v : Point}
-    (ed : d ≡ direction h) (eu : up ≡ above fs d) (ep : p ≡ endPoint up h k e) (finite : ltZ (pos 0) (p .d) ≡ true) (ev : v ≡ reduce p) where
+    (ed : d ≡ direction h) (eu : up ≡ above fs d) (ep : p ≡ endPoint up h k e) (finite : ltZ (pos 0) (p .d) ≡ true)
+    (ev : v ≡ reduce p) where
   end-at : endOf fs h k e ≡ at v
   end-at =
       end-is fs h k e ed eu ep

@@ -203,7 +203,8 @@ module _ {f : Functional} {floors : Floors} {l : List ℤ} {n : ℕ} (h : Walkin
                 walkFrom tie f (entries l 0 (suc i)) (suc i) (entries l (suc i) (n + 2 - suc i)) w′
                 ≡ walkFrom tie f (entries l 0 i) i (entries l i (n + 2 - i)) w
             next =
-                ap₂ (λ (S : List Constraint) (u : Walk). walkFrom tie f S (suc i) (entries l (suc i) (n + 2 - suc i)) u) (sym (entries-grow l i))
+                ap₂ (λ (S : List Constraint) (u : Walk). walkFrom tie f S (suc i) (entries l (suc i) (n + 2 - suc i)) u)
+                (sym (entries-grow l i))
                 (made ∙ ap (λ m. step tie f (entries l 0 i) i m w) e)
                 ∙ sym (ap (λ (S : List Constraint). walkFrom tie f (entries l 0 i) i S w) (entries-more l (n + 2) i b))
 

@@ -1,8 +1,9 @@
 -- What the walk asks and hands back once it carries the region's boundary along, one record for each function.
 use mathlib.Core.Path.{_≡_}
 use mathlib.Core.List.{List, [], _∷_, _++_}
-use mathlib.Core.Bool.{Bool, true, false}
+use mathlib.Core.Bool.{Bool, true, false, _&&_}
 use Prim.Native.Nat.{ℕ, _+_, _-_, _≤_, _<_}
+use lib.Dec.{leb, ltb}
 use lib.ListN.{length}
 use lib.IntN.{ℤ}
 use Rattle.lp.specs.declared.Constraint.{Constraint}
@@ -31,9 +32,9 @@ use Rattle.engine.specs.Rings.{Holding}
 
 -- ---- the change-over
 
--- what is left of a budget of entries, if a pass looked at i of them
-abbrev pub leftOver : ℕ → ℕ → Bool → ℕ
-leftOver budget i passed = elim passed [ true ↦ budget - i | false ↦ budget ]
+-- the budget of entries is spent, more than 48 of n rules are left, and the ring's run has room for n
+abbrev pub changesOver : ℕ → ℕ → ℕ → Bool
+changesOver budget n rest = ltb budget 1 && ltb 48 rest && leb n 8190
 
 -- ---- the ends of a new edge
 
@@ -54,22 +55,24 @@ pub record Between (l : List ℤ) (n : ℕ) (h k e : Constraint) : Type 0 where
   pub before : Corner size (after (entries l 0 n) h) k h
   pub behind : Corner size (after (entries l 0 n) h) h e
 
-pub record RestartingAt (t : Tie) (l : List ℤ) (n : ℕ) (h k e : Constraint) : Type 0 where
+-- if h has cut the ring
+pub record RestartingAt (t : Tie) (l : List ℤ) (n : ℕ) (h : Constraint) (cut : Bool) (k e : Constraint) : Type 0 where
   pub restarting : Restarting t l n h
-  pub between : Between l n h k e
+  pub between : cut ≡ true → Between l n h k e
 
-pub record MovingAt (f : Functional) (t : Tie) (l : List ℤ) (n : ℕ) (h k e : Constraint) : Type 0 where
+pub record MovingAt (f : Functional) (t : Tie) (l : List ℤ) (n : ℕ) (h : Constraint) (cut : Bool) (k e : Constraint) : Type 0 where
   pub moving : Moving f t l n h
-  pub between : Between l n h k e
+  pub between : cut ≡ true → Between l n h k e
 
-pub record ImprovingAt (f : Functional) (t : Tie) (l : List ℤ) (n : ℕ) (h : Constraint) (cone : Cone) (b : Best) (broken : Bool)
-    (k e : Constraint) : Type 0 where
+pub record ImprovingAt (f : Functional) (t : Tie) (l : List ℤ) (n : ℕ) (h : Constraint) (cone : Cone) (b : Best)
+    (broken cut : Bool) (k e : Constraint) : Type 0 where
   pub improving : Improving f t l n h cone b broken
-  pub between : Between l n h k e
+  pub between : cut ≡ true → Between l n h k e
 
-pub record SteppingAt (f : Functional) (t : Tie) (l : List ℤ) (n : ℕ) (h : Constraint) (w : Walk) (k e : Constraint) : Type 0 where
+pub record SteppingAt (f : Functional) (t : Tie) (l : List ℤ) (n : ℕ) (h : Constraint) (w : Walk) (cut : Bool)
+    (k e : Constraint) : Type 0 where
   pub stepping : Stepping f t l n h w
-  pub between : Between l n h k e
+  pub between : cut ≡ true → Between l n h k e
 
 -- ---- the ring of the entries so far
 
@@ -83,7 +86,7 @@ pub record Growing (e : List ℤ) (run : List ℕ) (D : Constraint) (m : ℕ) : 
   pub entries : Entries e m
   pub two : 2 ≤ m
   pub few : m ≤ 8192
-  pub room : 8203 ≤ length run
+  pub room : 8 ≤ length run
 
 pub record Grown (e : List ℤ) (before : List ℕ) (D : Constraint) (m : ℕ) (arc : Arc) (run : List ℕ) : Type 0 where
   pub same : length run ≡ length before
@@ -122,4 +125,4 @@ pub record Carrying (f : Functional) (floors : Floors) (l : List ℤ) (n : ℕ) 
 
 pub record CarryingIn (f : Functional) (floors : Floors) (l : List ℤ) (n : ℕ) (w : Walk) (i : ℕ) (run : List ℕ) : Type 0 where
   pub carrying : Carrying f floors l n w i
-  pub room : 8203 ≤ length run
+  pub room : 8 ≤ length run

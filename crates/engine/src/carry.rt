@@ -10,7 +10,6 @@ use crate::insert::Arc;
 use crate::insert::insert;
 use crate::range::rule_in_range;
 use crate::verdict::solution;
-use crate::walk::step;
 use crate::walk::tie;
 use lp::Constraint;
 use lp::Floors;
@@ -45,10 +44,10 @@ fn advance(
         let lo = arc.lo;
         let e = edge(run, &*ring, lo + 1);
         let k = edge(run, &*ring, lo + arc.n - 1);
-        let walk = step_at(objective, tie(), run, i, h, walk, k, e);
+        let walk = step_at(objective, tie(), run, i, h, walk, true, k, e);
         return Carried { walk, arc };
     }
-    let walk = step(objective, tie(), run, i, h, walk);
+    let walk = step_at(objective, tie(), run, i, h, walk, false, h, h);
     Carried { walk, arc }
 }
 
@@ -83,7 +82,8 @@ fn carry_in(
     Solved::Walked(solution(objective, walk))
 }
 
-// Carries on from entry i. The run for the ring of 8,190 rules is twice as long as the ring gets, and stands on the stack here alone.
+// Carries on from entry i. The ring's run is twice as long as the ring gets, and stands on the stack here alone; clearing that for 8,190
+// rules would take long beside a chain of 255.
 pub fn carry_on(
     objective: Functional,
     floors: Floors,
@@ -95,6 +95,10 @@ pub fn carry_on(
     requires { ⌜ Carrying objective floors (now run) n walk i ⌝ }
     ensures { λ r. ⌜ r ≡ rulesSolved objective floors (entriesOf (now (run .entry)) 2 n) ⌝ }
 {
+    if n <= 255 {
+        let mut ring = [0u16; 530];
+        return carry_in(objective, floors, run, n, walk, i, &mut ring);
+    }
     let mut ring = [0u16; 16400];
     carry_in(objective, floors, run, n, walk, i, &mut ring)
 }

@@ -26,11 +26,12 @@ pub fn grow(size: Constraint, run: &[i64], ring: &mut [u16], m: usize) -> Arc
     requires { ⌜ Growing (now run) (now ring) size m ⌝ }
     ensures { λ arc. ⌜ Grown (now (run .entry)) (now (ring .entry)) size m arc (now (ring .exit)) ⌝ }
 {
-    ring[8200] = 2;
-    ring[8201] = 0;
-    ring[8202] = 1;
+    let lo = ring.len() / 2;
+    ring[lo] = 2;
+    ring[lo + 1] = 0;
+    ring[lo + 2] = 1;
     let mut arc = Arc {
-        lo: 8200,
+        lo,
         n: 3,
         cut: false,
     };

@@ -34,7 +34,8 @@ fn redundant(size: Constraint, run: &[i64], ring: &[u16], h: Constraint, i: usiz
     }
 }
 
-// The same of the ring's edge k and the one that follows it.
+// The same of the ring's edge k and the one that follows it, where both are found inside the ring. Where k is the first edge or the last,
+// the ring begins behind it after a turn by one edge or none, and h is looked at there.
 fn spares(
     size: Constraint,
     run: &[i64],
@@ -47,12 +48,11 @@ fn spares(
     requires { ⌜ Sparing (now run) (now ring) size h lo n k ⌝ }
     ensures { λ t. ⌜ Spared (now (run .entry)) (now (ring .entry)) size h lo n t ⌝ }
 {
-    let p = lo + k;
-    if k + 1 < n {
-        redundant(size, run, ring, h, p, p + 1)
-    } else {
-        redundant(size, run, ring, h, p, lo)
+    if (0 < k) & (k < n - 1) {
+        let p = lo + k;
+        return redundant(size, run, ring, h, p, p + 1);
     }
+    false
 }
 
 // How many edges at the front have a later corner that h breaks; the last edge stays.

@@ -1,6 +1,6 @@
 // The engine: a chain of rules planned, with no byte of a book in sight. Exact arithmetic on 64-bit integers, equal function by function
 // to the functional model of crate `model`. What a private function asks of its numbers is one record, and document 01's bounds answer
-// it; the two functions below ask nothing.
+// it; the two functions below ask nothing. The walk goes by passes over the entries, and where these get long along the region's boundary.
 mod between;
 mod carry;
 mod cone;

@@ -21,7 +21,7 @@ ghost use Rattle.model.specs.Step.{tightestPoint, improved as improvedOf, break
 ghost use Rattle.engine.specs.Entries.{entries as entriesOf};
 ghost use Rattle.engine.specs.Sizes.{Moving, Improving, Breaking};
 
-pub fn moved(objective: Functional, tie: Tie, entries: &[i64], n: usize, h: Constraint) -> Point
+fn moved(objective: Functional, tie: Tie, entries: &[i64], n: usize, h: Constraint) -> Point
     requires { ⌜ Moving objective tie (now entries) n h ⌝ }
     ensures { λ r. ⌜ r ≡ tightestPoint (gainOrder objective tie) (entriesOf (now (entries .entry)) 0 n) h ⌝ }
 {

@@ -22,7 +22,7 @@ ghost use Rattle.engine.specs.Sizes.{Lines, Conflicting, Resettling, Res
 ghost use Rattle.engine.specs.Start.{keptOrRestarted};
 
 // 0 is at most c, with c below 0: the rule at index n needs no other entry.
-fn alone(n: usize) -> Certificate
+pub fn alone(n: usize) -> Certificate
     ensures { λ r. ⌜ r ≡ aloneOf n ⌝ }
 {
     Certificate {
@@ -68,7 +68,7 @@ fn conflict(
 }
 
 // The tightest point on the line, if it keeps every entry.
-fn resettled(entries: &[i64], side: bool, n: usize, h: Constraint, found: Found) -> Restart
+pub fn resettled(entries: &[i64], side: bool, n: usize, h: Constraint, found: Found) -> Restart
     requires { ⌜ Resettling (now entries) n h found ⌝ }
     ensures { λ r. ⌜ r ≡ resettledOf (entriesOf (now (entries .entry)) 0 n) side n h found ⌝ }
 {
@@ -81,7 +81,7 @@ fn resettled(entries: &[i64], side: bool, n: usize, h: Constraint, found: Found)
     }
 }
 
-pub fn restart(tie: Tie, entries: &[i64], n: usize, h: Constraint) -> Restart
+fn restart(tie: Tie, entries: &[i64], n: usize, h: Constraint) -> Restart
     requires { ⌜ Restarting tie (now entries) n h ⌝ }
     ensures { λ r. ⌜ r ≡ restartOf tie (entriesOf (now (entries .entry)) 0 n) n h ⌝ }
 {

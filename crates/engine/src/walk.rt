@@ -1,6 +1,7 @@
 // The walk along a chain of constraints: after each prefix it holds the start point, the cone of rays and the optimum, or the place where
 // the system became infeasible, and it counts the constraints that broke the start point before them. Entries stand in one lent slice,
-// the two floors first, and each constraint that arrives is scanned against those before it.
+// the two floors first, and each constraint that arrives is scanned against those before it, until the walk goes over to the region's
+// boundary.
 use crate::Solved;
 use crate::carry::carry_on;
 use crate::cone::gaining;
@@ -25,14 +26,14 @@ use model::Restart;
 use model::State;
 use model::Walk;
 ghost use mathlib.Core.Path.{_≡_};
-ghost use Prim.Native.Nat.{_+_};
+ghost use Prim.Native.Nat.{_+_, _-_};
 ghost use Rattle.lp.specs.Prefixes.{one-if};
 ghost use Rattle.lp.specs.Document.{tie as tieOf};
 ghost use Rattle.model.specs.Step.{going as goingOf, step as stepOf, begin as beginOf};
 ghost use Rattle.engine.specs.Entries.{entries as entriesOf};
 ghost use Rattle.engine.specs.Solving.{rulesSolved};
 ghost use Rattle.engine.specs.Sizes.{Counting, Stepping, Beginning, Walking};
-ghost use Rattle.engine.specs.Carrying.{leftOver};
+ghost use Rattle.engine.specs.Carrying.{changesOver};
 
 // One more, if so.
 pub fn counted(count: usize, so: bool) -> usize
@@ -122,26 +123,30 @@ pub fn tie() -> Tie
     }
 }
 
-// How many entries the passes may look at: 24 for each rule of the chain. The ring's run has room for 8,190 rules, and a longer chain is
-// walked without it.
+// How many entries the passes may look at: 16 for each rule of the chain, and 1,024 more, since on short chains passes are quicker.
 fn allowed(n: usize) -> usize {
     if n <= 8190 {
-        return 24 * n;
+        return 16 * n + 1024;
     }
     0
 }
 
-// What is left of a budget when a pass over i entries was made, or not.
-fn left_over(budget: usize, i: usize, passed: bool) -> usize
-    ensures { λ r. ⌜ r ≡ leftOver budget i passed ⌝ }
+// What is left of a budget after a pass over i entries.
+fn left_over(budget: usize, i: usize) -> usize
+    ensures { λ r. ⌜ r ≡ budget - i ⌝ }
 {
-    if passed {
-        if i < budget {
-            return budget - i;
-        }
-        return 0;
+    if i < budget {
+        return budget - i;
     }
-    budget
+    0
+}
+
+// Whether the walk goes over to the region's boundary: the budget is spent, so many rules are left that building the ring pays off, and its
+// run has room for the chain.
+fn pays(budget: usize, n: usize, rest: usize) -> bool
+    ensures { λ t. ⌜ t ≡ changesOver budget n rest ⌝ }
+{
+    (budget < 1) & (48 < rest) & (n <= 8190)
 }
 
 // The walk along n rules, which stand after the floors. A rule is looked at before it is taken in, so that no pass of its own is made for
@@ -161,11 +166,12 @@ pub fn walk_rules(objective: Functional, floors: Floors, run: &[i64], n: usize) 
             let moves = walk.moves;
             let restarts = walk.restarts;
             walk = step(objective, tie(), run, i, h, walk);
-            let passed = (moves < walk.moves) | (restarts < walk.restarts);
-            budget = left_over(budget, i, passed);
             i += 1;
-            if (budget < 1) & (n <= 8190) {
-                return carry_on(objective, floors, run, n, walk, i);
+            if (moves < walk.moves) | (restarts < walk.restarts) {
+                budget = left_over(budget, i);
+                if pays(budget, n, end - i) {
+                    return carry_on(objective, floors, run, n, walk, i);
+                }
             }
         } else {
             return Solved::Outside;

@@ -43,20 +43,26 @@ enum-known-p c = c .match2 .keys1
 narrow-requires : tie.Need-narrow-requires
 narrow-requires c κs =
     let h = c .before .before .before .before .before .before .before .before .before .before .before .pre .stepping in
-    record { constraint = h .moving .restarting .h-small; rays = state-parts (h .state-small) (c .before .before .before .before .before .before .before .before .before .state .given .1) .1 }
+    record {
+      constraint = h .moving .restarting .h-small;
+      rays = state-parts (h .state-small)
+          (c .before .before .before .before .before .before .before .before .before .state .given .1) .1;
+    }
 
 improved-at-requires : tie.Need-improved-at-requires
 improved-at-requires c κs =
     let p = c .before .before .before .before .before .before .before .before .before .before .before .before .pre in
     let h = p .stepping in
-    let s = state-parts (h .state-small) (c .before .before .before .before .before .before .before .before .before .before .state .given .1) in
+    let s = state-parts (h .state-small)
+    (c .before .before .before .before .before .before .before .before .before .before .state .given .1) in
     record {
       improving =
           record {
             moving = h .moving;
             rays =
                 subst SmallCone (sym (c .narrow .ensures))
-                (narrow-small (h .moving .restarting .h-small) (c .before .before .before .before .before .before .before .before .before .before .state .given .0 .1 .0) (s .1));
+                (narrow-small (h .moving .restarting .h-small)
+                (c .before .before .before .before .before .before .before .before .before .before .state .given .0 .1 .0) (s .1));
             best = s .2;
             asked = c .before .before .before .before .before .before .before .before .breaks .ensures;
           };
@@ -74,15 +80,24 @@ enum-known-c c = c .match2 .keys2
 returns-2 : tie.Need-returns-2
 returns-2 c =
     let a = c .before .before .before .before .before .before .before .before .before .before .before .before .before .before .args in
-    step-moved (a .tie) (a .objective) (entries (now (a .entries)) 0 (a .n)) (a .n) (a .h) (a .walk) (c .before .before .before .before .before .before .before .before .before .before .before .before .state .given .1)
-    (c .before .before .before .before .before .before .before .before .keeps .ensures) (c .before .before .before .before .before .before .start-at .ensures) (c .before .before .before .before .before .before .before .before .before .before .breaks .ensures) (c .before .before .before .before .before .before .before .before .before .counted .ensures) (c .before .before .before .before .before .before .before .counted2 .ensures)
-    (c .before .before .before .before .p .given .1) (c .before .before .narrow .ensures) (c .before .improved-at .ensures) (c .going .ensures)
+    step-moved (a .tie) (a .objective) (entries (now (a .entries)) 0 (a .n)) (a .n) (a .h) (a .walk)
+    (c .before .before .before .before .before .before .before .before .before .before .before .before .state .given .1)
+    (c .before .before .before .before .before .before .before .before .keeps .ensures)
+    (c .before .before .before .before .before .before .start-at .ensures)
+    (c .before .before .before .before .before .before .before .before .before .before .breaks .ensures)
+    (c .before .before .before .before .before .before .before .before .before .counted .ensures)
+    (c .before .before .before .before .before .before .before .counted2 .ensures)
+    (c .before .before .before .before .p .given .1) (c .before .before .narrow .ensures) (c .before .improved-at .ensures)
+    (c .going .ensures)
 
 returns-3 : tie.Need-returns-3
 returns-3 c =
     let a = c .before .before .before .before .before .before .before .before .before .before .before .args in
-    step-failed (a .tie) (a .objective) (entries (now (a .entries)) 0 (a .n)) (a .n) (a .h) (a .walk) (c .before .before .before .before .before .before .before .before .before .state .given .1)
-    (c .before .before .before .before .before .keeps .ensures) (c .before .before .before .start-at .ensures) (c .before .before .before .before .before .before .before .breaks .ensures) (c .before .before .before .before .before .before .counted .ensures) (c .before .before .before .before .counted2 .ensures)
+    step-failed (a .tie) (a .objective) (entries (now (a .entries)) 0 (a .n)) (a .n) (a .h) (a .walk)
+    (c .before .before .before .before .before .before .before .before .before .state .given .1)
+    (c .before .before .before .before .before .keeps .ensures) (c .before .before .before .start-at .ensures)
+    (c .before .before .before .before .before .before .before .breaks .ensures)
+    (c .before .before .before .before .before .before .counted .ensures) (c .before .before .before .before .counted2 .ensures)
     (c .before .c .given .1)
 
 pub step-at-spec : {M : Type 1} → statement M

@@ -1,14 +1,12 @@
 -- `engine::carry::advance` meets its contract: one more rule enters the ring, and the walk takes its step.
 use borrow.Author.Needs.{needs}
-use mathlib.Core.Path.{sym, _∙_, ap, subst}
+use mathlib.Core.Path.{_∙_, ap}
 use Prim.Native.Nat.{_+_, _-_}
 use native.Mathlib.Omega.{arith}
 use denote.Ref.{now}
-use Rattle.lp.specs.Document.{tie as tieOf}
 use Rattle.model.specs.Step.{step}
 use Rattle.engine.specs.Entries.{entries}
-use Rattle.engine.specs.Sizes.{Stepping}
-use Rattle.engine.proofs.Carried.{advance-inserting, advance-done, second-at, last-at, advance-stepping}
+use Rattle.engine.proofs.Carried.{advance-inserting, advance-done, second-at, last-at, advance-stepping, advance-plain}
 use Rattle.engine.proofs.carry.advance.Statement.{statement}
 use Rattle.engine.proofs.carry.advance.Tie as tie
 
@@ -22,23 +20,41 @@ insert-requires : tie.Need-insert-requires
 insert-requires c κs = advance-inserting (c .before .before .pre)
 
 add-edge : tie.Need-add-edge
-add-edge c = omega (arith, c .before .before .before .before .insert .ensures .fits, c .before .before .before .before .insert .ensures .two (c .before .if1 .taken))
+add-edge c =
+    omega (
+      arith,
+      c .before .before .before .before .insert .ensures .fits,
+      c .before .before .before .before .insert .ensures .two
+          (c .before .if1 .taken),
+    )
 
 edge-requires : tie.Need-edge-requires
-edge-requires c κs = second-at (c .before .before .before .before .before .before .before .pre) (c .before .before .before .before .insert .ensures) (c .before .if1 .taken)
+edge-requires c κs =
+    second-at (c .before .before .before .before .before .before .before .pre) (c .before .before .before .before .insert .ensures)
+    (c .before .if1 .taken)
 
 add-edge-2 : tie.Need-add-edge-2
 add-edge-2 c = omega (arith, c .before .before .before .before .before .before .before .insert .ensures .fits)
 
 sub-edge : tie.Need-sub-edge
-sub-edge c = omega (arith, c .before .before .before .before .before .before .before .insert .ensures .two (c .before .before .before .before .if1 .taken))
+sub-edge c =
+    omega (
+      arith,
+      c .before .before .before .before .before .before .before .insert .ensures .two
+          (c .before .before .before .before .if1 .taken),
+    )
 
 edge-requires-2 : tie.Need-edge-requires-2
-edge-requires-2 c κs = last-at (c .before .before .before .before .before .before .before .before .before .before .pre) (c .before .before .before .before .before .before .before .insert .ensures) (c .before .before .before .before .if1 .taken)
+edge-requires-2 c κs =
+    last-at (c .before .before .before .before .before .before .before .before .before .before .pre)
+    (c .before .before .before .before .before .before .before .insert .ensures) (c .before .before .before .before .if1 .taken)
 
 step-at-requires : tie.Need-step-at-requires
 step-at-requires c κs =
-    advance-stepping (c .before .before .before .before .before .before .before .before .before .before .before .before .pre) (c .before .before .before .before .before .before .before .before .before .insert .ensures) (c .before .before .before .before .before .before .if1 .taken) (c .tie .ensures) (c .before .edge2 .ensures) (c .before .before .before .before .edge .ensures)
+    advance-stepping (c .before .before .before .before .before .before .before .before .before .before .before .before .pre)
+    (c .before .before .before .before .before .before .before .before .before .insert .ensures)
+    (c .before .before .before .before .before .before .if1 .taken) (c .tie .ensures) (c .before .edge2 .ensures)
+    (c .before .before .before .before .edge .ensures)
 
 same-length : tie.Need-same-length
 same-length c = c .before .before .before .before .before .before .before .before .before .before .insert .ensures .same
@@ -46,13 +62,13 @@ same-length c = c .before .before .before .before .before .before .before .befor
 returns : tie.Need-returns
 returns c =
     let a = c .before .before .before .before .before .before .before .before .before .before .before .before .before .args in
-    advance-done (c .before .before .before .before .before .before .before .before .before .before .before .before .before .pre) (c .before .before .before .before .before .before .before .before .before .before .insert .ensures)
-    (c .step-at .ensures ∙ ap (λ t. step t (a .objective) (entries (now (a .run)) 0 (a .i)) (a .i) (a .h) (a .walk)) (c .before .tie .ensures))
+    advance-done (c .before .before .before .before .before .before .before .before .before .before .before .before .before .pre)
+    (c .before .before .before .before .before .before .before .before .before .before .insert .ensures)
+    (c .step-at .ensures ∙ ap (λ t. step t (a .objective) (entries (now (a .run)) 0 (a .i)) (a .i) (a .h) (a .walk))
+    (c .before .tie .ensures))
 
-step-requires : tie.Need-step-requires
-step-requires c κs =
-    let a = c .before .before .before .before .before .before .before .args in
-    subst (λ t. Stepping (a .objective) t (now (a .run)) (a .i) (a .h) (a .walk)) (sym (c .tie2 .ensures)) (c .before .before .before .before .before .before .before .pre .stepping)
+step-at-requires-2 : tie.Need-step-at-requires-2
+step-at-requires-2 c κs = advance-plain (c .before .before .before .before .before .before .before .pre) (c .tie2 .ensures)
 
 same-length-2 : tie.Need-same-length-2
 same-length-2 c = c .before .before .before .before .before .insert .ensures .same
@@ -60,8 +76,10 @@ same-length-2 c = c .before .before .before .before .before .insert .ensures .sa
 returns-2 : tie.Need-returns-2
 returns-2 c =
     let a = c .before .before .before .before .before .before .before .before .args in
-    advance-done (c .before .before .before .before .before .before .before .before .pre) (c .before .before .before .before .before .insert .ensures)
-    (c .step .ensures ∙ ap (λ t. step t (a .objective) (entries (now (a .run)) 0 (a .i)) (a .i) (a .h) (a .walk)) (c .before .tie2 .ensures))
+    advance-done (c .before .before .before .before .before .before .before .before .pre)
+    (c .before .before .before .before .before .insert .ensures)
+    (c .step-at2 .ensures ∙ ap (λ t. step t (a .objective) (entries (now (a .run)) 0 (a .i)) (a .i) (a .h) (a .walk))
+    (c .before .tie2 .ensures))
 
 pub advance-spec : {M : Type 1} → statement M
 advance-spec =
@@ -80,6 +98,6 @@ advance-spec =
     same-length
     returns
     (λ c κs. search needs)
-    step-requires
+    step-at-requires-2
     same-length-2
     returns-2)

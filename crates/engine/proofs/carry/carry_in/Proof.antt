@@ -24,7 +24,8 @@ add-end : tie.Need-add-end Inv-loop μ-loop
 add-end c = omega (arith, c .before .before .pre .carrying .few)
 
 grow-requires : tie.Need-grow-requires Inv-loop μ-loop
-grow-requires c κs = carry-growing (c .before .before .before .pre .carrying) (c .before .before .before .pre .room) (c .before .size .ensures)
+grow-requires c κs =
+    carry-growing (c .before .before .before .pre .carrying) (c .before .before .before .pre .room) (c .before .size .ensures)
 
 loop-holds : tie.Need-loop-holds Inv-loop μ-loop
 loop-holds c = (λ begun v. v, c .before .before .grow .ensures .holding, refl)
@@ -37,30 +38,42 @@ entry-requires c κs =
 advance-requires : tie.Need-advance-requires Inv-loop μ-loop
 advance-requires c κs =
     let s = c .before .before .before .before .before .before .before .before .before .before .before .before .pre .carrying in
-    carry-advancing s (c .before .before .before .before .before .loop .inv .0 _ (carrying-walked s)) (c .before .before .before .before .loop-test .taken) (c .before .before .before .entry .ensures) (c .before .before .rule-in-range .ensures)
-    (c .before .if1 .taken) (c .before .before .before .before .before .before .before .before .before .before .size .ensures) (c .before .before .before .before .before .loop .inv .1)
+    carry-advancing s (c .before .before .before .before .before .loop .inv .0 _ (carrying-walked s))
+    (c .before .before .before .before .loop-test .taken) (c .before .before .before .entry .ensures)
+    (c .before .before .rule-in-range .ensures)
+    (c .before .if1 .taken) (c .before .before .before .before .before .before .before .before .before .before .size .ensures)
+    (c .before .before .before .before .before .loop .inv .1)
 
 add-i : tie.Need-add-i Inv-loop μ-loop
-add-i c = omega (arith, c .before .before .before .before .before .before .before .before .before .loop-test .taken, c .before .before .before .before .before .before .before .before .before .before .before .before .before .before .before .before .before .pre .carrying .few)
+add-i c =
+    let test = c .before .before .before .before .before .before .before .before .before in
+    omega (arith, test .loop-test .taken, test .before .before .before .before .before .before .before .before .pre .carrying .few)
 
 loop-again : tie.Need-loop-again Inv-loop μ-loop
 loop-again c =
-    let s = c .before .before .before .before .before .before .before .before .before .before .before .before .before .before .before .before .before .pre .carrying in
+    let test = c .before .before .before .before .before .before .before .before .before in
+    let s = test .before .before .before .before .before .before .before .before .pre .carrying in
     let u = c .before .before .before .before .advance .ensures in (
       λ begun v.
-          walked-step (s .walking) (c .before .before .before .before .before .before .before .before .before .before .loop .inv .0 begun v) (c .before .before .before .before .before .before .before .before .before .loop-test .taken) (c .before .before .before .before .before .before .before .before .entry .ensures) (c .before .before .before .before .before .before .before .rule-in-range .ensures)
+          walked-step (s .walking)
+          (c .before .before .before .before .before .before .before .before .before .before .loop .inv .0 begun v)
+          (c .before .before .before .before .before .before .before .before .before .loop-test .taken)
+          (c .before .before .before .before .before .before .before .before .entry .ensures)
+          (c .before .before .before .before .before .before .before .rule-in-range .ensures)
           (c .before .before .before .before .before .before .if1 .taken) refl (u .walk),
       u .holding,
       u .same ∙ c .before .before .before .before .before .before .before .before .before .before .loop .inv .2,
     )
 
 same-length : tie.Need-same-length Inv-loop μ-loop
-same-length c = c .before .before .before .before .loop .inv .2 ∙ c .before .before .before .before .before .before .before .grow .ensures .same
+same-length c =
+    c .before .before .before .before .loop .inv .2 ∙ c .before .before .before .before .before .before .before .grow .ensures .same
 
 returns : tie.Need-returns Inv-loop μ-loop
 returns c =
     let s = c .before .before .before .before .before .before .before .before .before .before .before .pre .carrying in
-    walked-stop (s .walking) (c .before .before .before .before .loop .inv .0 _ (carrying-walked s)) (c .before .before .before .loop-test .taken) (c .before .before .entry .ensures)
+    walked-stop (s .walking) (c .before .before .before .before .loop .inv .0 _ (carrying-walked s))
+    (c .before .before .before .loop-test .taken) (c .before .before .entry .ensures)
     (c .before .rule-in-range .ensures) (c .if1 .left)
 
 solution-requires : tie.Need-solution-requires Inv-loop μ-loop

@@ -29,7 +29,8 @@ returns c =
     c .keeps-at2 .ensures
     ∙ ap (keepsAt (a .size) (a .h)) (c .before .edge2 .ensures)
     ∙ ap (λ b. b && keepsAt (a .size) (a .h) (edge (a .run .now) (a .ring .now) (a .j)))
-    (sym (c .before .before .if1 .taken) ∙ c .before .before .before .keeps-at .ensures ∙ ap (λ k. keepsAt (a .size) k (a .h)) (c .before .before .before .before .edge .ensures))
+    (sym (c .before .before .if1 .taken) ∙ c .before .before .before .keeps-at .ensures ∙ ap (λ k. keepsAt (a .size) k (a .h))
+    (c .before .before .before .before .edge .ensures))
 
 returns-2 : tie.Need-returns-2
 returns-2 c =

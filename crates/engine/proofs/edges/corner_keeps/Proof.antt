@@ -10,7 +10,9 @@ keeps-at-requires : tie.Need-keeps-at-requires
 keeps-at-requires c κs = meeting-read (c .before .before .before .pre .meeting) (c .before .edge .ensures) (c .edge2 .ensures)
 
 returns : tie.Need-returns
-returns c = c .keeps-at .ensures ∙ ap₂ (keepsAt (c .before .before .before .before .args .h)) (c .before .before .edge .ensures) (c .before .edge2 .ensures)
+returns c =
+    c .keeps-at .ensures ∙ ap₂ (keepsAt (c .before .before .before .before .args .h)) (c .before .before .edge .ensures)
+    (c .before .edge2 .ensures)
 
 pub corner-keeps-spec : {M : Type 1} → statement M
 corner-keeps-spec =

@@ -25,11 +25,13 @@ corner-keeps-requires c κs = back-pair (c .before .before .before .pre) (c .bef
 
 returns : tie.Need-returns Inv-loop μ-loop
 returns c =
-    back-stop (c .before .before .before .before .before .pre) (c .before .before .before .loop .inv) (c .before .before .loop-test .taken) (sym (c .before .corner-keeps .ensures) ∙ c .if1 .taken)
+    back-stop (c .before .before .before .before .before .pre) (c .before .before .before .loop .inv)
+    (c .before .before .loop-test .taken) (sym (c .before .corner-keeps .ensures) ∙ c .if1 .taken)
 
 loop-again : tie.Need-loop-again Inv-loop μ-loop
 loop-again c =
-    back-step (c .before .before .before .before .before .pre) (c .before .before .before .loop .inv) (c .before .before .loop-test .taken) (sym (c .before .corner-keeps .ensures) ∙ c .if1 .left)
+    back-step (c .before .before .before .before .before .pre) (c .before .before .before .loop .inv)
+    (c .before .before .loop-test .taken) (sym (c .before .corner-keeps .ensures) ∙ c .if1 .left)
 
 returns-2 : tie.Need-returns-2 Inv-loop μ-loop
 returns-2 c = back-end (c .before .before .before .pre) (c .before .loop .inv) (c .loop-test .left)

@@ -12,7 +12,9 @@ back-requires : tie.Need-back-requires
 back-requires c κs = cut-cutting (c .before .before .before .before .before .pre) (c .before .before .front .ensures) (c .before .if1 .left)
 
 returns-2 : tie.Need-returns-2
-returns-2 c = cut-put (c .before .before .before .before .before .before .pre) (c .before .before .before .front .ensures) (c .before .before .if1 .left) (c .back .ensures)
+returns-2 c =
+    cut-put (c .before .before .before .before .before .before .pre) (c .before .before .before .front .ensures)
+    (c .before .before .if1 .left) (c .back .ensures)
 
 pub cut-spec : {M : Type 1} → statement M
 cut-spec =

@@ -20,17 +20,24 @@ corner-keeps-requires c κs = enter-place (c .before .before .before .before .be
 
 returns : tie.Need-returns
 returns c =
-    enter-same (c .before .before .before .before .before .before .before .before .pre) (sym (c .before .before .before .before .at-place .ensures) ∙ c .before .before .before .if2 .taken) (sym (c .before .corner-keeps .ensures) ∙ c .if3 .taken)
+    enter-same (c .before .before .before .before .before .before .before .before .pre)
+    (sym (c .before .before .before .before .at-place .ensures) ∙ c .before .before .before .if2 .taken)
+    (sym (c .before .corner-keeps .ensures) ∙ c .if3 .taken)
 
 cut-requires : tie.Need-cut-requires
-cut-requires c κs = enter-putting (c .before .before .before .before .before .before .before .before .before .pre) (c .before .before .before .before .before .before .before .if1 .taken)
+cut-requires c κs =
+    enter-putting (c .before .before .before .before .before .before .before .before .before .pre)
+    (c .before .before .before .before .before .before .before .if1 .taken)
 
 same-length-2 : tie.Need-same-length-2
 same-length-2 c = c .before .before .cut .ensures .same
 
 returns-2 : tie.Need-returns-2
 returns-2 c =
-    enter-cut (c .before .before .before .before .before .before .before .before .before .before .before .before .pre) (sym (c .before .before .before .before .before .before .before .before .at-place .ensures) ∙ c .before .before .before .before .before .before .before .if2 .taken) (sym (c .before .before .before .before .before .corner-keeps .ensures) ∙ c .before .before .before .before .if3 .left)
+    enter-cut (c .before .before .before .before .before .before .before .before .before .before .before .before .pre)
+    (sym (c .before .before .before .before .before .before .before .before .at-place .ensures)
+    ∙ c .before .before .before .before .before .before .before .if2 .taken)
+    (sym (c .before .before .before .before .before .corner-keeps .ensures) ∙ c .before .before .before .before .if3 .left)
     (c .before .before .cut .ensures)
 
 returns-3 : tie.Need-returns-3

@@ -28,10 +28,14 @@ corner-keeps-requires : tie.Need-corner-keeps-requires Inv-loop μ-loop
 corner-keeps-requires c κs = front-pair (c .before .before .before .pre) (c .before .loop .inv) (omega arith)
 
 returns : tie.Need-returns Inv-loop μ-loop
-returns c = front-stop (c .before .before .before .before .before .pre) (c .before .before .before .loop .inv) (omega arith) (sym (c .before .corner-keeps .ensures) ∙ c .if1 .taken)
+returns c =
+    front-stop (c .before .before .before .before .before .pre) (c .before .before .before .loop .inv) (omega arith)
+    (sym (c .before .corner-keeps .ensures) ∙ c .if1 .taken)
 
 loop-again : tie.Need-loop-again Inv-loop μ-loop
-loop-again c = front-step (c .before .before .before .before .before .pre) (c .before .before .before .loop .inv) (omega arith) (sym (c .before .corner-keeps .ensures) ∙ c .if1 .left)
+loop-again c =
+    front-step (c .before .before .before .before .before .pre) (c .before .before .before .loop .inv) (omega arith)
+    (sym (c .before .corner-keeps .ensures) ∙ c .if1 .left)
 
 returns-2 : tie.Need-returns-2 Inv-loop μ-loop
 returns-2 c = front-end (c .before .before .before .pre) (c .before .loop .inv) (omega arith)

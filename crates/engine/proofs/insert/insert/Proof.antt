@@ -12,16 +12,26 @@ seek-requires : tie.Need-seek-requires
 seek-requires c κs = insert-seeking (c .before .before .before .pre) (c .before .if1 .left)
 
 spares-requires : tie.Need-spares-requires
-spares-requires c κs = record { seeking = insert-seeking (c .before .before .before .before .before .pre) (c .before .before .before .if1 .left); inside = c .before .seek .ensures }
+spares-requires c κs =
+    record {
+      seeking = insert-seeking (c .before .before .before .before .before .pre)
+          (c .before .before .before .if1 .left);
+      inside = c .before .seek .ensures;
+    }
 
 returns-2 : tie.Need-returns-2
 returns-2 c = inserted-same (c .before .before .before .before .before .before .before .pre) (c .before .spares .ensures) (c .if2 .taken)
 
 turn-to-requires : tie.Need-turn-to-requires
-turn-to-requires c κs = record { inside = c .before .before .before .before .seek .ensures; fits = c .before .before .before .before .before .before .before .before .pre .ring .fits }
+turn-to-requires c κs =
+    let t = c .before .before .before .before in
+    record { inside = t .seek .ensures; fits = t .before .before .before .before .pre .ring .fits }
 
 enter-requires : tie.Need-enter-requires
-enter-requires c κs = insert-entering (c .before .before .before .before .before .before .before .before .before .before .before .before .pre) (c .before .before .before .before .before .before .before .before .before .before .if1 .left) (c .before .before .before .turn-to .ensures)
+enter-requires c κs =
+    insert-entering (c .before .before .before .before .before .before .before .before .before .before .before .before .pre)
+    (c .before .before .before .before .before .before .before .before .before .before .if1 .left)
+    (c .before .before .before .turn-to .ensures)
 
 same-length-2 : tie.Need-same-length-2
 same-length-2 c = c .before .before .enter .ensures .same ∙ c .before .before .before .before .before .before .turn-to .ensures .same

@@ -1,16 +1,20 @@
--- `engine::insert::spares` meets its contract.
+-- `engine::insert::spares` meets its contract: the ring stays where a corner inside it, at the place of h, keeps h.
 use borrow.Author.Needs.{needs}
-use Prim.Native.Nat.{_+_}
+use borrow.Author.Tests.{ltb-true}
+use Prim.Native.Nat.{_+_, _-_}
 use native.Mathlib.Omega.{arith}
-use Rattle.engine.proofs.Insertions.{seek-place, spared-next, spared-last}
+use lib.Dec.{ltb}
+use Rattle.engine.proofs.Tests.{both}
+use Rattle.engine.proofs.Drops.{never-cut}
+use Rattle.engine.proofs.Insertions.{seek-place, spared-next}
 use Rattle.engine.proofs.insert.spares.Statement.{statement}
 use Rattle.engine.proofs.insert.spares.Tie as tie
 
-add-p : tie.Need-add-p
-add-p c = omega (arith, c .before .pre .inside, c .before .pre .seeking .ring .fits)
+sub-if1 : tie.Need-sub-if1
+sub-if1 c = omega (arith, c .before .pre .inside)
 
-add-if1 : tie.Need-add-if1
-add-if1 c = omega (arith, c .before .pre .inside, c .before .pre .seeking .ring .fits)
+add-p : tie.Need-add-p
+add-p c = omega (arith, c .before .before .pre .inside, c .before .before .pre .seeking .ring .fits)
 
 add-redundant : tie.Need-add-redundant
 add-redundant c = omega (arith, c .before .before .pre .inside, c .before .before .pre .seeking .ring .fits)
@@ -18,20 +22,18 @@ add-redundant c = omega (arith, c .before .before .pre .inside, c .before .befor
 redundant-requires : tie.Need-redundant-requires
 redundant-requires c κs =
     let a = c .before .before .args in
-    seek-place (c .before .before .pre .seeking) (a .lo + a .k) (a .lo + a .k + 1) (omega arith) (omega arith) (omega arith) (omega arith)
-
-redundant-requires-2 : tie.Need-redundant-requires-2
-redundant-requires-2 c κs =
-    let a = c .before .before .args in
-    seek-place (c .before .before .pre .seeking) (a .lo + a .k) (a .lo) (omega arith) (omega (arith, c .before .before .pre .inside)) (omega arith)
-    (omega (arith, c .before .before .pre .inside))
+    let inner = ltb-true (a .k) (a .n - 1) (both (ltb 0 (a .k)) (ltb (a .k) (a .n - 1)) (c .if1 .taken) .1) in
+    seek-place (c .before .before .pre .seeking) (a .lo + a .k) (a .lo + a .k + 1) (omega arith) (omega (arith, inner)) (omega arith)
+    (omega (arith, inner))
 
 returns : tie.Need-returns
-returns c = spared-next (c .before .before .before .pre .seeking) (c .before .before .before .pre .inside) (c .before .if1 .taken) (c .redundant .ensures)
+returns c =
+    let a = c .before .before .before .args in
+    let inner = ltb-true (a .k) (a .n - 1) (both (ltb 0 (a .k)) (ltb (a .k) (a .n - 1)) (c .before .if1 .taken) .1) in
+    spared-next (c .before .before .before .pre .seeking) (a .k) (omega (arith, inner)) (c .redundant .ensures)
 
 returns-2 : tie.Need-returns-2
-returns-2 c = spared-last (c .before .before .before .pre .seeking) (c .before .before .before .pre .inside) (c .before .if1 .left) (c .redundant2 .ensures)
+returns-2 c = record { stays = λ so. never-cut so }
 
 pub spares-spec : {M : Type 1} → statement M
-spares-spec =
-    tie.close (tie.spec add-p add-if1 add-redundant redundant-requires redundant-requires-2 returns returns-2)
+spares-spec = tie.close (tie.spec sub-if1 add-p add-redundant redundant-requires returns returns-2)

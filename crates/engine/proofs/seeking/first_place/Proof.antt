@@ -27,7 +27,8 @@ at-place-requires : tie.Need-at-place-requires Inv-loop μ-loop
 at-place-requires c κs =
     let lo = c .before .before .before .args .lo in
     let k = c .before .loop .k in
-    seek-place (c .before .before .before .pre) (lo + k) (lo + k + 1) (omega arith) (omega (arith, c .before .loop .inv)) (omega arith) (omega arith)
+    seek-place (c .before .before .before .pre) (lo + k) (lo + k + 1) (omega arith) (omega (arith, c .before .loop .inv)) (omega arith)
+    (omega arith)
 
 returns : tie.Need-returns Inv-loop μ-loop
 returns c = c .before .before .before .loop .inv

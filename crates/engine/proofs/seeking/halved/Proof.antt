@@ -22,7 +22,8 @@ keeps-at-requires c κs =
     record {
       h-small = p .size-small;
       p-small =
-          subst SmallConstraint (sym (c .edge .ensures)) (ring-small (p .ring) (c .before .before .args .lo) (omega arith) (omega (arith, p .two)));
+          subst SmallConstraint (sym (c .edge .ensures))
+          (ring-small (p .ring) (c .before .before .args .lo) (omega arith) (omega (arith, p .two)));
       q-small = p .h-small;
     }
 
@@ -44,7 +45,9 @@ add-edge c = omega (arith, c .before .loop .inv .0, c .before .loop .inv .1, c .
 edge-requires-2 : tie.Need-edge-requires-2 Inv-loop μ-loop
 edge-requires-2 c κs =
     let l = c .before .loop in
-    ring-at (c .before .before .before .before .before .pre .ring) (c .before .before .before .before .before .args .lo + (l .from + (l .to - l .from) / 2)) (omega arith) (omega (arith, l .inv .0, l .inv .1))
+    ring-at (c .before .before .before .before .before .pre .ring)
+    (c .before .before .before .before .before .args .lo + (l .from + (l .to - l .from) / 2)) (omega arith)
+    (omega (arith, l .inv .0, l .inv .1))
 
 comes-before-requires : tie.Need-comes-before-requires Inv-loop μ-loop
 comes-before-requires c κs =
@@ -53,7 +56,8 @@ comes-before-requires c κs =
     let lo = c .before .before .before .before .before .before .args .lo in
     record {
       size-small = p .size-small;
-      first-small = subst SmallConstraint (sym (c .before .before .before .before .edge .ensures)) (ring-small (p .ring) lo (omega arith) (omega (arith, p .two)));
+      first-small = subst SmallConstraint (sym (c .before .before .before .before .edge .ensures))
+          (ring-small (p .ring) lo (omega arith) (omega (arith, p .two)));
       x-small =
           subst SmallConstraint (sym (c .edge2 .ensures))
           (ring-small (p .ring) (lo + (l .from + (l .to - l .from) / 2)) (omega arith) (omega (arith, l .inv .0, l .inv .1)));
@@ -64,14 +68,19 @@ loop-less : tie.Need-loop-less Inv-loop μ-loop
 loop-less c = omega (arith, c .before .before .before .loop-test .taken, c .before .before .before .before .loop .inv .0)
 
 loop-again : tie.Need-loop-again Inv-loop μ-loop
-loop-again c = (omega (arith, c .before .before .before .loop-test .taken, c .before .before .before .before .loop .inv .0), c .before .before .before .before .loop .inv .1)
+loop-again c =
+    let t = c .before .before .before in
+    (omega (arith, t .loop-test .taken, t .before .loop .inv .0), t .before .loop .inv .1)
 
 loop-less-2 : tie.Need-loop-less-2 Inv-loop μ-loop
 loop-less-2 c = omega (arith, c .before .before .before .loop-test .taken, c .before .before .before .before .loop .inv .0)
 
 loop-again-2 : tie.Need-loop-again-2 Inv-loop μ-loop
-loop-again-2 c =
-    (omega (arith, c .before .before .before .loop-test .taken, c .before .before .before .before .loop .inv .0), omega (arith, c .before .before .before .before .loop .inv .0, c .before .before .before .before .loop .inv .1))
+loop-again-2 c = (
+  omega (arith, c .before .before .before .loop-test .taken, c .before .before .before .before .loop .inv .0),
+  omega
+      (arith, c .before .before .before .before .loop .inv .0, c .before .before .before .before .loop .inv .1),
+)
 
 returns : tie.Need-returns Inv-loop μ-loop
 returns c = omega (arith, c .before .loop .inv .0, c .before .loop .inv .1)

@@ -36,10 +36,14 @@ halved-requires : tie.Need-halved-requires
 halved-requires c κs = c .before .before .before .before .before .pre
 
 add-p : tie.Need-add-p
-add-p c = omega (arith, c .before .before .before .before .before .before .before .pre .two, c .before .before .before .before .before .before .before .pre .ring .fits)
+add-p c =
+    let p = c .before .before .before .before .before .before .before .pre in
+    omega (arith, p .two, p .ring .fits)
 
 add-at-place-3 : tie.Need-add-at-place-3
-add-at-place-3 c = omega (arith, c .if3 .taken, c .before .before .before .before .before .before .before .pre .two, c .before .before .before .before .before .before .before .pre .ring .fits)
+add-at-place-3 c =
+    let p = c .before .before .before .before .before .before .before .pre in
+    omega (arith, c .if3 .taken, p .two, p .ring .fits)
 
 at-place-requires-3 : tie.Need-at-place-requires-3
 at-place-requires-3 c κs =

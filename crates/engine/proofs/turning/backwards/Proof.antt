@@ -27,7 +27,11 @@ turn-back-requires c κs =
     }
 
 loop-again : tie.Need-loop-again Inv-loop μ-loop
-loop-again c = (turned-again (c .before .before .before .before .before .loop .inv .0) (c .before .before .turn-back .ensures), omega (arith, c .before .before .before .before .loop-test .taken))
+loop-again c = (
+  turned-again (c .before .before .before .before .before .loop .inv .0) (c .before .before .turn-back .ensures),
+  omega
+      (arith, c .before .before .before .before .loop-test .taken),
+)
 
 same-length : tie.Need-same-length Inv-loop μ-loop
 same-length c = c .before .loop .inv .0 .same

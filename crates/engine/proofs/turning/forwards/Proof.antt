@@ -20,10 +20,18 @@ loop-holds c = (turned-none (omega (arith, c .before .pre .room)), omega arith)
 
 turn-requires : tie.Need-turn-requires Inv-loop μ-loop
 turn-requires c κs =
-    record { some = c .before .before .before .before .pre .some; room = omega (arith, c .before .before .before .before .pre .room, c .before .loop-test .taken, c .before .before .loop .inv .0 .same) }
+    record {
+      some = c .before .before .before .before .pre .some;
+      room = omega
+          (arith, c .before .before .before .before .pre .room, c .before .loop-test .taken, c .before .before .loop .inv .0 .same);
+    }
 
 loop-again : tie.Need-loop-again Inv-loop μ-loop
-loop-again c = (turned-again (c .before .before .before .before .before .loop .inv .0) (c .before .before .turn .ensures), omega (arith, c .before .before .before .before .loop-test .taken))
+loop-again c = (
+  turned-again (c .before .before .before .before .before .loop .inv .0) (c .before .before .turn .ensures),
+  omega
+      (arith, c .before .before .before .before .loop-test .taken),
+)
 
 same-length : tie.Need-same-length Inv-loop μ-loop
 same-length c = c .before .loop .inv .0 .same
