@@ -9,7 +9,7 @@
  *
  * Stack: a call takes at most VISHALNEQ_STACK bytes, whatever the book; a call of a repacker at most VISHALNEQ_REPACK_STACK, one of
  * vishalneq_joint, vishalneq_slip, vishalneq_corners or vishalneq_batch at most VISHALNEQ_LONG_STACK. Measured on x86-64, with what a
- * thread takes for itself: 127,720 for a plan's line, 240,024 for two books joined, 242,872 for the corners of 4,095 rules, 242,920 for a
+ * thread takes for itself: 154,216 for a plan's line, 240,024 for two books joined, 242,872 for the corners of 4,095 rules, 242,920 for a
  * batch, 234,312 for a slip and 119,960 for its check. No memory is allocated. */
 #ifndef VISHALNEQ_H
 #define VISHALNEQ_H
@@ -29,7 +29,7 @@ extern "C" {
 #define VISHALNEQ_REPACKED 3584
 #define VISHALNEQ_REPACKED2 57344
 
-#define VISHALNEQ_STACK 131072
+#define VISHALNEQ_STACK 163840
 #define VISHALNEQ_REPACK_STACK 20480
 #define VISHALNEQ_LONG_STACK 262144
 
