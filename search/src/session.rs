@@ -12,6 +12,19 @@ use crate::random::Random;
 
 const MOST: usize = 64;
 
+/// Lines that are no step: another word, a number too few or too many, one beyond its range, and a space too many.
+const NO_STEPS: [&str; 9] = [
+    "backwards",
+    "start 1 1 0",
+    "start 1 1 0 0 0",
+    "start 1 1 32768 0",
+    "start 1 -32769 0 0",
+    "rule 256 1 1 1 7",
+    "rule 1 1 1 2147483648 7",
+    "rule 1 1 1  1 7",
+    "add 65536 x <= 1",
+];
+
 /// A step, as a line of the program says it.
 #[derive(Clone, Copy, Debug)]
 enum Step {
@@ -19,7 +32,7 @@ enum Step {
     Add(Rule),
     Typed(Rule),
     Back,
-    Other,
+    Other(&'static str),
 }
 
 impl Step {
@@ -31,7 +44,7 @@ impl Step {
                 format!("add {} {}*x + {}*y {} {}\n", r.label, r.a, r.b, if r.kind == 1 { "<=" } else { ">=" }, r.c)
             }
             Step::Back => "back\n".into(),
-            Step::Other => "backwards\n".into(),
+            Step::Other(line) => format!("{line}\n"),
         }
     }
 }
@@ -62,7 +75,7 @@ impl State {
             },
             Step::Back if self.rules.is_empty() => return refused(19, 0),
             Step::Back => drop(self.rules.pop()),
-            Step::Other => return turned_back("no step: start P Q LX LY, add LABEL RULE, rule KIND A B C LABEL, or back".into()),
+            Step::Other(_) => return turned_back("no step: start P Q LX LY, add LABEL RULE, rule KIND A B C LABEL, or back".into()),
         }
         self.answer()
     }
@@ -112,7 +125,7 @@ fn script(random: &mut Random, steps: usize) -> Vec<Step> {
     let mut step = |i: usize| match random.below(40) {
         _ if i == 0 => Step::Start(start.p, start.q, start.lx, start.ly),
         0 if random.one_in(8) => Step::Start(random.pick(&[1, i16::MIN]), 1, random.between(-9, 9) as i16, 0),
-        1 => Step::Other,
+        1 => Step::Other(random.pick(&NO_STEPS)),
         2 => {
             up = !up;
             Step::Back

@@ -20,7 +20,9 @@ use Rattle.session_lines.specs.declared.numbers.Found.{Found}
 use Rattle.session_lines.specs.Fields.{noNumber, greatest, numeralOf, minus, digitsIn, numberWith, numberIn, pastField, fits, valueOf}
 use Rattle.session_lines.specs.Asked.{Goes, Runs, FindsFrom, Finds}
 
-pub numeral-small : (negative : Bool) (size : ℕ) → size ≤ greatest → record { there = true; negative = negative; size = size } ≡ numeralOf negative size
+pub numeral-small : (negative : Bool) (size : ℕ) →
+    size ≤ greatest →
+    record { there = true; negative = negative; size = size } ≡ numeralOf negative size
 unfolding numeralOf
 numeral-small negative size h = rw (le-leb size greatest h)
 
@@ -144,7 +146,9 @@ five a b c d m e =
 -- a number that fits is no greater than its side of 0 allows
 pub bounded : (n : Number) (below above : ℕ) → fits below above n ≡ true → n .size ≤ cond (n .negative) below above
 unfolding fits
-bounded n below above e = leb-true (n .size) (cond (n .negative) below above) (both (n .there) (leb (n .size) (cond (n .negative) below above)) e .1)
+bounded n below above e =
+    leb-true (n .size) (cond (n .negative) below above)
+    (both (n .there) (leb (n .size) (cond (n .negative) below above)) e .1)
 
 -- ---- a sign and a size
 

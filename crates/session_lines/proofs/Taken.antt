@@ -27,6 +27,7 @@ use Rattle.session_lines.specs.declared.Asked.the-variants.{Nothing, Beg
 use Rattle.session_lines.specs.Fields.{numberIn, pastField, fits, valueOf}
 use Rattle.session_lines.specs.Lines.{sixteens, begunOf, ended, startIn, ruleOf, ruleIn, writtenOf, readAs, typedOf, typedIn}
 use Rattle.session_lines.specs.Asked.{Goes, Finds}
+use Rattle.session_lines.proofs.Signs.{four, five}
 
 -- ---- the end of a text
 
@@ -49,7 +50,10 @@ then g f = (f .number ∙ ap numberIn (g .goes-on), record { goes-on = f .goes .
 
 module _ (s : List ℕ) {at : ℕ} {p q lx ly : Found} (word : Goes s (drop 5 s) at) (f : Finds s at p) (g : Finds s (p .next) q)
     (h : Finds s (q .next) lx) (k : Finds s (lx .next) ly) where
-  pub start-read : ly .next ≡ length s → {a : Asked} → a ≡ begunOf (p .number) (q .number) (lx .number) (ly .number) → a ≡ startIn (drop 5 s)
+  pub start-read : ly .next ≡ length s →
+      {a : Asked} →
+      a ≡ begunOf (p .number) (q .number) (lx .number) (ly .number) →
+      a ≡ startIn (drop 5 s)
   unfolding startIn
   start-read e z =
       let f′ = then word f in
@@ -87,6 +91,10 @@ module _ (p q lx ly : Number) {a b c d : Bool} (f : a ≡ sixteens p) (g : b ≡
   tested : {u : Bool} → ((a && b) && (c && d)) ≡ u → ((sixteens p && sixteens q) && (sixteens lx && sixteens ly)) ≡ u
   tested e = sym (λ i. (f i && g i) && (h i && k i)) ∙ e
 
+  pub begun-fits : ((a && b) && (c && d)) ≡ true →
+      (sixteens p ≡ true) × (sixteens q ≡ true) × (sixteens lx ≡ true) × (sixteens ly ≡ true)
+  begun-fits e = four (sixteens p) (sixteens q) (sixteens lx) (sixteens ly) (tested e)
+
   pub begun-read : ((a && b) && (c && d)) ≡ true →
       {x y z w : ℤ} →
       x ≡ valueOf p →
@@ -97,7 +105,8 @@ module _ (p q lx ly : Number) {a b c d : Bool} (f : a ≡ sixteens p) (g : b ≡
   unfolding begunOf
   begun-read e x′ y′ z′ w′ =
       (λ i. Begin (record { p = x′ i; q = y′ i; lx = z′ i; ly = w′ i }))
-      ∙ sym (ap (λ (t : Bool). cond t (Begin (record { p = valueOf p; q = valueOf q; lx = valueOf lx; ly = valueOf ly })) Nothing) (tested e))
+      ∙ sym (ap (λ (t : Bool). cond t (Begin (record { p = valueOf p; q = valueOf q; lx = valueOf lx; ly = valueOf ly })) Nothing)
+      (tested e))
 
   pub begun-other : ((a && b) && (c && d)) ≡ false → Nothing ≡ begunOf p q lx ly
   unfolding begunOf
@@ -110,6 +119,15 @@ module _ (kind na nb nc label : Number) {a b c d m : Bool} (f : a ≡ sixteens n
       ((a && b && c) && (d && m)) ≡ u →
       ((sixteens na && sixteens nb && fits 2147483648 2147483647 nc) && (fits 0 255 kind && fits 0 65535 label)) ≡ u
   ruled e = sym (λ i. (f i && g i && h i) && (k i && l i)) ∙ e
+
+  pub ruled-fits : ((a && b && c) && (d && m)) ≡ true →
+      (sixteens na ≡ true)
+      × (sixteens nb ≡ true)
+      × (fits 2147483648 2147483647 nc ≡ true)
+      × (fits 0 255 kind ≡ true)
+      × (fits 0 65535 label ≡ true)
+  ruled-fits e =
+      five (sixteens na) (sixteens nb) (fits 2147483648 2147483647 nc) (fits 0 255 kind) (fits 0 65535 label) (ruled e)
 
   pub ruled-read : ((a && b && c) && (d && m)) ≡ true →
       {x y z : ℤ} →
@@ -162,7 +180,8 @@ module _ (s : List ℕ) {at : ℕ} {label : Found} (word : Goes s (drop 3 s) at)
   pub typed-unlabelled : t ≡ false → Nothing ≡ typedIn (drop 3 s)
   unfolding typedIn
   typed-unlabelled e =
-      sym (ap (λ (t : Bool). cond (t && eqb (first (pastField (drop 3 s))) 32) (typedOf (numberIn (drop 3 s)) (pastField (drop 3 s))) Nothing)
+      let l = drop 3 s in
+      sym (ap (λ (t : Bool). cond (t && eqb (first (pastField l)) 32) (typedOf (numberIn l) (pastField l)) Nothing)
       (told e))
 
 -- ---- what a text reads as

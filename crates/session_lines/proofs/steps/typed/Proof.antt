@@ -13,23 +13,24 @@ returns : tie.Need-returns
 returns c =
     let f = c .before .before .before .before .before in
     let start = f .before .before .before .before .before in
+    let label = f .before .before .field .result in
     typed-read (start .args .text .now) (f .before .before .before .behind .ensures) (f .before .before .field .ensures) (f .fits2 .ensures)
     (c .before .before .before .before .if1 .taken) (c .before .before .before .byte-at .ensures) (c .before .before .if2 .taken)
-    (c .typed-under .ensures ∙ ap (typedOf (f .before .before .field .result .number)) (whole (start .args .text .now) (f .before .before .field .result .next)))
+    (c .typed-under .ensures ∙ ap (typedOf (label .number)) (whole (start .args .text .now) (label .next)))
 
 returns-2 : tie.Need-returns-2
 returns-2 c =
     let f = c .before .before .before in
     let start = f .before .before .before .before .before in
-    typed-unspaced (start .args .text .now) (f .before .before .before .behind .ensures) (f .before .before .field .ensures) (f .fits2 .ensures)
-    (c .before .before .if1 .taken) (c .before .byte-at .ensures) (c .if2 .left)
+    typed-unspaced (start .args .text .now) (f .before .before .before .behind .ensures) (f .before .before .field .ensures)
+    (f .fits2 .ensures) (c .before .before .if1 .taken) (c .before .byte-at .ensures) (c .if2 .left)
 
 returns-3 : tie.Need-returns-3
 returns-3 c =
     let f = c .before in
     let start = f .before .before .before .before .before in
-    typed-unlabelled (start .args .text .now) (f .before .before .before .behind .ensures) (f .before .before .field .ensures) (f .fits2 .ensures)
-    (c .if1 .left)
+    typed-unlabelled (start .args .text .now) (f .before .before .before .behind .ensures) (f .before .before .field .ensures)
+    (f .fits2 .ensures) (c .if1 .left)
 
 pub typed-spec : {M : Type 1} → statement M
 typed-spec =
