@@ -15,16 +15,16 @@ returns-2 c =
     let place = c .before .before .before .before in
     let start = place .before .before .before .before in
     number-there (start .args .negative) (start .args .text .now) (start .args .at) (start .args .from)
-    (place .before .before .digits .ensures) (place .before .byte-at .ensures) (place .if1 .left) (c .before .before .before .byte-at2 .ensures) (c .before .before .digit .ensures)
-    (c .before .if2 .taken) (c .numeral .ensures)
+    (place .before .before .digits .ensures) (place .before .byte-at .ensures) (place .if1 .left)
+    (c .before .before .before .byte-at2 .ensures) (c .before .before .digit .ensures) (c .before .if2 .taken) (c .numeral .ensures)
 
 returns-3 : tie.Need-returns-3
 returns-3 c =
     let place = c .before .before .before .before in
     let start = place .before .before .before .before in
     number-undigited (start .args .negative) (start .args .text .now) (start .args .at) (start .args .from)
-    (place .before .before .digits .ensures) (place .before .byte-at .ensures) (place .if1 .left) (c .before .before .before .byte-at2 .ensures) (c .before .before .digit .ensures)
-    (c .before .if2 .left) (c .no-number2 .ensures)
+    (place .before .before .digits .ensures) (place .before .byte-at .ensures) (place .if1 .left)
+    (c .before .before .before .byte-at2 .ensures) (c .before .before .digit .ensures) (c .before .if2 .left) (c .no-number2 .ensures)
 
 pub number-from-spec : {M : Type 1} → statement M
 number-from-spec =

@@ -9,7 +9,8 @@ returns c =
     let f = c .before .before .before in
     let start = f .before .before .before .before .before .before .before in
     rule-read (start .args .text .now) (f .before .before .before .before .before .behind .ensures)
-    (f .before .before .before .before .field .ensures) (f .before .before .before .field2 .ensures) (f .before .before .field3 .ensures) (f .before .field4 .ensures) (f .field5 .ensures)
+    (f .before .before .before .before .field .ensures) (f .before .before .before .field2 .ensures)
+    (f .before .before .field3 .ensures) (f .before .field4 .ensures) (f .field5 .ensures)
     (c .before .if1 .taken) (c .ruled .ensures)
 
 returns-2 : tie.Need-returns-2
@@ -17,7 +18,8 @@ returns-2 c =
     let f = c .before .before in
     let start = f .before .before .before .before .before .before .before in
     rule-other (start .args .text .now) (f .before .before .before .before .before .behind .ensures)
-    (f .before .before .before .before .field .ensures) (f .before .before .before .field2 .ensures) (f .before .before .field3 .ensures) (f .before .field4 .ensures) (f .field5 .ensures)
+    (f .before .before .before .before .field .ensures) (f .before .before .before .field2 .ensures)
+    (f .before .before .field3 .ensures) (f .before .field4 .ensures) (f .field5 .ensures)
     (c .if1 .left)
 
 pub added-spec : {M : Type 1} → statement M
