@@ -6,18 +6,17 @@ use mathlib.Core.Logic.{_⊎_, inl, inr}
 use Prim.Native.Nat.{ℕ, zero, suc, _≤_, _<_}
 use native.Mathlib.Omega.{arith}
 use lib.Dec.{T, eqb, leb}
-use lib.ListN.{length, drop}
+use lib.ListN.{drop}
 use lib.IntN.{ℤ, pos, negsuc, negℤ, natAbs, _-ℤ_, +ℤ-idl}
 use mir.Syntax.{Width, w8, w16, w32, w64}
 use mir.Val.{Fits, SFits, toZ, ofZ}
 use mir.Facts.{toZ-ofZ, toZ-pos}
 use borrow.Author.Tests.{eq-eqb, ne-eqb, leb-true, le-leb, lt-leb}
-use Rattle.text.specs.Number.{valueFrom}
-use Rattle.language.specs.Parser.{first, tail, digit, run, past}
+use Rattle.language.specs.Parser.{first, tail, digit, past}
 use Rattle.session_lines.specs.declared.digits.Run.{Run}
 use Rattle.session_lines.specs.declared.numbers.Number.{Number}
 use Rattle.session_lines.specs.declared.numbers.Found.{Found}
-use Rattle.session_lines.specs.Fields.{noNumber, greatest, numeralOf, minus, digitsIn, numberWith, numberIn, pastField, fits, valueOf}
+use Rattle.session_lines.specs.Fields.{noNumber, greatest, numeralOf, minus, numberWith, numberIn, pastField, fits, valueOf}
 use Rattle.session_lines.specs.Asked.{Goes, Runs, FindsFrom, Finds}
 
 pub numeral-small : (negative : Bool) (size : ℕ) →

@@ -1,9 +1,8 @@
 -- The steps that lines ask for: each from what its parts were read as.
-use mathlib.Core.Path.{_≡_, refl, ap, ap₂, sym, _∙_, subst}
+use mathlib.Core.Path.{_≡_, ap, ap₂, sym, _∙_, subst}
 use mathlib.Core.Bool.{Bool, true, false, cond, _&&_}
 use mathlib.Core.List.{List}
-use mathlib.Core.Logic.{_⊎_, inl, inr}
-use Prim.Native.Nat.{ℕ, _-_, _≤_}
+use Prim.Native.Nat.{ℕ, _-_}
 use native.Mathlib.Omega.{arith}
 use lib.Dec.{eqb, leb}
 use lib.ListN.{length, take, drop, length-drop}
@@ -18,12 +17,12 @@ use Rattle.forms.specs.declared.Typed.the-variants as typed
 use Rattle.forms.specs.Value.{noRule}
 use Rattle.language.specs.Grammar as grammar
 use Rattle.language.specs.Value.{valueRule}
-use Rattle.language.specs.Parser.{Parsed, fail, got, first, tail, parse, judged, answer}
+use Rattle.language.specs.Parser.{Parsed, fail, got, first, parse, judged, answer}
 use Rattle.language.proofs.Refusals.{InRange, Sound, value-sound}
 use Rattle.session_lines.specs.declared.numbers.Number.{Number}
 use Rattle.session_lines.specs.declared.numbers.Found.{Found}
 use Rattle.session_lines.specs.declared.Asked.{Asked}
-use Rattle.session_lines.specs.declared.Asked.the-variants.{Nothing, Begin, Add, Turn, Back}
+use Rattle.session_lines.specs.declared.Asked.the-variants.{Nothing, Begin, Add, Turn}
 use Rattle.session_lines.specs.Fields.{numberIn, pastField, fits, valueOf}
 use Rattle.session_lines.specs.Lines.{sixteens, begunOf, ended, startIn, ruleOf, ruleIn, writtenOf, readAs, typedOf, typedIn}
 use Rattle.session_lines.specs.Asked.{Goes, Finds}

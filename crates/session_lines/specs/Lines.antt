@@ -1,7 +1,7 @@
 -- What a line asks for: `start P Q LX LY`, `add LABEL RULE`, `rule KIND A B C LABEL` or `back`. P, Q, LX, LY, A and B have 16 bits with a
 -- sign, C has 32, KIND 8 and LABEL 16 without one; RULE is read by the language of typed rules (`language`), its space with it. Any other
 -- text asks for nothing.
-use mathlib.Core.Bool.{Bool, true, false, cond, _&&_}
+use mathlib.Core.Bool.{Bool, true, cond, _&&_}
 use mathlib.Core.List.{List, [], _∷_}
 use Prim.Native.Nat.{ℕ}
 use lib.Dec.{eqb}

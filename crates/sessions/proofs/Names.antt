@@ -1,14 +1,10 @@
 -- The names of the rules: after i turns the first i places have theirs, and after 64 all.
 use mathlib.Core.Path.{_≡_, refl, sym, _∙_, ap}
 use mathlib.Core.List.{List}
-use Prim.Native.Nat.{ℕ, zero, suc, _+_}
+use Prim.Native.Nat.{ℕ, _+_}
 use native.Mathlib.Numerals.{add-one}
-use lib.ListN.{length, set, length-set}
+use lib.ListN.{set}
 use Rattle.sessions.specs.Laying.{positions, namedTo}
-
-pub named-length : (i : ℕ) → length (namedTo i) ≡ 64
-named-length zero = refl
-named-length (suc i) = length-set (namedTo i) i (suc i) ∙ named-length i
 
 pub named-next : (i : ℕ) {names : List ℕ} → names ≡ namedTo i → set names i (i + 1) ≡ namedTo (i + 1)
 named-next i e =

@@ -1,5 +1,4 @@
 -- `session_lines::digits::behind` meets its contract: the place after a word.
-use borrow.Author.Needs.{needs}
 use Rattle.session_lines.proofs.Places.{behind-here, behind-end}
 use Rattle.session_lines.proofs.digits.behind.Statement.{statement}
 use Rattle.session_lines.proofs.digits.behind.Tie as tie

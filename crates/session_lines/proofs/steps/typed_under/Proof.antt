@@ -1,5 +1,5 @@
 -- `session_lines::steps::typed_under` meets its contract: what a text reads as.
-use mathlib.Core.Path.{sym, _∙_}
+use mathlib.Core.Path.{sym}
 use borrow.Author.Needs.{needs}
 use Rattle.session_lines.proofs.Taken.{ranged, read-rule, read-refused}
 use Rattle.session_lines.proofs.steps.typed_under.Statement.{statement}

@@ -4,7 +4,7 @@ use Prim.Native.Nat.{_-_, _≤_}
 use mathlib.Core.Path.{_≡_, refl, ap, _∙_}
 use borrow.Author.Needs.{needs}
 use Rattle.sessions.specs.Laying.{namedTo}
-use Rattle.sessions.proofs.Names.{named-length, named-next, all-named}
+use Rattle.sessions.proofs.Names.{named-next, all-named}
 use Rattle.sessions.proofs.plan.places.Statement.{statement}
 use Rattle.sessions.proofs.plan.places.Tie as tie
 
