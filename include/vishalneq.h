@@ -8,9 +8,9 @@
  * version has its own functions, those of version 2 with a 2 at the end of their names; a book of the other version is refused.
  *
  * Stack: a call takes at most VISHALNEQ_STACK bytes, whatever the book; a call of a repacker at most VISHALNEQ_REPACK_STACK, one of
- * vishalneq_joint, vishalneq_slip, vishalneq_corners or vishalneq_batch at most VISHALNEQ_LONG_STACK. Measured on x86-64, with what a
- * thread takes for itself: 154,216 for a plan's line, 240,024 for two books joined, 242,872 for the corners of 4,095 rules, 242,920 for a
- * batch, 234,312 for a slip and 119,960 for its check. No memory is allocated. */
+ * vishalneq_joint, vishalneq_slip, vishalneq_corners or vishalneq_batch at most VISHALNEQ_LONG_STACK. Measured on x86-64, with the
+ * 4,464 that a thread takes for itself: 154,216 for a plan's line, 21,336 for a repacked book, 266,520 for two books joined, 242,744 for
+ * the corners of 4,095 rules, 242,920 for a batch, 260,808 for a slip and 119,960 for its check. No memory is allocated. */
 #ifndef VISHALNEQ_H
 #define VISHALNEQ_H
 
@@ -30,8 +30,8 @@ extern "C" {
 #define VISHALNEQ_REPACKED2 57344
 
 #define VISHALNEQ_STACK 163840
-#define VISHALNEQ_REPACK_STACK 20480
-#define VISHALNEQ_LONG_STACK 262144
+#define VISHALNEQ_REPACK_STACK 24576
+#define VISHALNEQ_LONG_STACK 294912
 
 /* What a function that writes no line hands back is a count or an answer below this, or a refusal: its number is the quotient by this, its
  * record the remainder. */
@@ -86,9 +86,9 @@ size_t vishalneq_corners(const uint8_t *book, size_t book_length, uint8_t *out, 
 size_t vishalneq_batch(const uint8_t *book, size_t book_length, const uint8_t *objectives, size_t objectives_length, uint8_t *out,
                        size_t out_length);
 
-/* A slip, by which a plan is rechecked without planning: VISHALNEQ_SLIP numbers, the outcome (1 best, 2 unlimited, 3 impossible), a count of
- * entries, X, Y, D, dx, dy, a scale, and then three times an entry's code and its weight. Code 0 is floor x, 1 floor y, and r + 1 the rule in
- * record r. What is not used is 0. Books are of version 2. */
+/* A slip, by which a plan is rechecked without planning: VISHALNEQ_SLIP numbers, the outcome (1 best, 2 unlimited, 3 impossible), a count
+ * of entries, X, Y, D, dx, dy, a scale, and then three times an entry's code and its weight. Code 0 is floor x, 1 floor y, and r + 1 the
+ * rule in record r. What is not used is 0. Books are of version 2. */
 #define VISHALNEQ_SLIP 14
 
 /* The slip of a book's plan, with its pair and direction, at the start of `out`. Hands back VISHALNEQ_SLIP. A run of fewer numbers is left
@@ -96,10 +96,10 @@ size_t vishalneq_batch(const uint8_t *book, size_t book_length, const uint8_t *o
  * back. */
 size_t vishalneq_slip(const uint8_t *book, size_t book_length, int64_t *out, size_t out_length);
 
-/* Whether a slip of a book is right, whoever wrote it: 1 is yes, 0 is no. A refused book, and a slip with a field out of its range, an entry
- * that is no floor and no rule of the chain, or one named twice (number 17, record 0), hand back VISHALNEQ_REFUSED times the number plus the
- * record; so does a run of another length. Yes for impossible means that no pair is allowed; for unlimited, that pairs are and gains have
- * no top; for best, that the pair is allowed and no allowed pair gains more. */
+/* Whether a slip of a book is right, whoever wrote it: 1 is yes, 0 is no. A refused book, and a slip with a field out of its range, an
+ * entry that is no floor and no rule of the chain, or one named twice (number 17, record 0), hand back VISHALNEQ_REFUSED times the number
+ * plus the record; so does a run of another length. Yes for impossible means that no pair is allowed; for unlimited, that pairs are
+ * and gains have no top; for best, that the pair is allowed and no allowed pair gains more. */
 size_t vishalneq_check(const uint8_t *book, size_t book_length, const int64_t *slip, size_t slip_length);
 
 #ifdef __cplusplus

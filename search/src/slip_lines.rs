@@ -1,5 +1,5 @@
-//! The lines of slips through the check program: read here by splitting at spaces, and judged by the checker of `slips`. The planner's slips,
-//! slips with a field damaged, entries in another order, and texts that are no line.
+//! The lines of slips through the check program: read here by splitting at spaces, and judged by the checker of `slips`. The planner's
+//! slips, slips with a field damaged, entries in another order, and texts that are no line.
 
 use crate::book::to_hex;
 use crate::families::source;

@@ -1,5 +1,5 @@
-// Books that a program's arguments name. A file that is missing or cannot be read gets a line on standard error; a buffer with one byte more
-// than a book may have shows that a longer file is too long.
+// Books that a program's arguments name. A file that is missing or cannot be read gets a line on standard error; a buffer with one byte
+// more than a book may have shows that a longer file is too long.
 ghost use lib.ListN.{length};
 ghost use Rattle.files.specs.Loading.{Held};
 

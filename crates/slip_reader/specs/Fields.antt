@@ -1,5 +1,7 @@
--- How any bytes are read as a slip. A text stands for what is left of it; a field begins with the byte before it, a space in a line, and ends
--- before the next space or line feed. That the line of a slip is read as that slip is proved in proofs/Lines.antt; nothing here stands in a
+-- How any bytes are read as a slip. A text stands for what is left of it; a field begins with the byte before it, a space in a line,
+-- and ends
+-- before the next space or line feed. That the line of a slip is read as that slip is proved in proofs/Lines.antt; nothing here stands
+-- in a
 -- promise, since what was read is written again and compared.
 use mathlib.Core.List.{List, [], _∷_}
 use mathlib.Core.Bool.{Bool, true, false, cond, _&&_, _||_}

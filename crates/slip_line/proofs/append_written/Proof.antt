@@ -17,7 +17,11 @@ returns c =
 returns-2 : tie.Need-returns-2
 unfolding writtenFields
 returns-2 c = spelt (ap writtenFields (sym (c .before .before .before .before .before .written2 .given .1)))
-    (c .before .before .append-slip .ensures .fits (omega (arith, c .before .before .before .before .before .before .before .before .pre .free)))
+    (c .before .before .append-slip .ensures .fits (omega (
+      arith,
+      c .before .before .before .before .before .before .before .before
+          .pre .free,
+    )))
 
 pub append-written-spec : {M : Type 1} → statement M
 append-written-spec =

@@ -10,13 +10,15 @@ returns : tie.Need-returns
 returns c =
     let start = c .before .before .before .before .before .before .before in
     checks-none (start .args .book .now) (start .args .text .now)
-    (subst (Reads (start .args .text .now)) (c .before .before .enum-told .given .1) (c .before .before .before .before .read-slip .ensures)) (c .check-numbers .ensures)
+    (subst (Reads (start .args .text .now)) (c .before .before .enum-told .given .1) (c .before .before .before .before .read-slip
+    .ensures)) (c .check-numbers .ensures)
 
 returns-2 : tie.Need-returns-2
 returns-2 c =
     let start = c .before .before .before .before .before .before .before in
     checks-given (start .args .book .now) (start .args .text .now) (c .before .before .s .given .0 .0)
-    (subst (Reads (start .args .text .now)) (c .before .before .s .given .1) (c .before .before .before .before .read-slip .ensures)) (c .check .ensures)
+    (subst (Reads (start .args .text .now)) (c .before .before .s .given .1) (c .before .before .before .before .read-slip .ensures))
+    (c .check .ensures)
 
 pub check-line-spec : {M : Type 1} → statement M
 check-line-spec =

@@ -20,7 +20,8 @@ returns-2 c =
     let test = c .before .before .before .before in
     let room = test .before .lacks-room in
     let start = test .before .before .before in
-    appends (free (start .args .out .now) 0 235 (room .result) (room .ensures) (test .if1 .left)) (c .before .before .append-fields .ensures)
+    appends (free (start .args .out .now) 0 235 (room .result) (room .ensures) (test .if1 .left)) (c .before .before .append-fields
+    .ensures)
 
 pub append-slip-spec : {M : Type 1} → statement M
 append-slip-spec = tie.close (tie.spec (λ c κs. search needs) returns append-fields-requires (λ c. search needs) returns-2)

@@ -20,7 +20,8 @@ returns-3 : tie.Need-returns-3
 returns-3 c =
     let start = c .before .before .before .before .before .before .before .before .before in
     judged (start .args .s) (start .args .text .now)
-    (count-within (start .args .s .weights .count) (record { sfits = c .before .before .struct-told2 .given .1 .0 .1 }) (c .before .before .before .before .if1 .left)
+    (count-within (start .args .s .weights .count) (record { sfits = c .before .before .struct-told2 .given .1 .0 .1 }) (c .before
+    .before .before .before .if1 .left)
     (c .before .if2 .left)) (c .is-text .ensures)
 
 pub is-line-spec : {M : Type 1} → statement M

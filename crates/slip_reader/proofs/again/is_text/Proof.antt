@@ -1,4 +1,5 @@
--- `slip_reader::again::is_text` meets its contract: the slip is written again with a line feed after it, and compared without and with it.
+-- `slip_reader::again::is_text` meets its contract: the slip is written again with a line feed after it, and compared without and with
+-- it.
 use native.Mathlib.Omega.{arith}
 use borrow.Author.Needs.{needs}
 use mathlib.Core.Path.{refl, sym}
@@ -39,8 +40,14 @@ returns c =
 returns-2 : tie.Need-returns-2
 returns-2 c =
     let start = c .before .before .before .before .before .before .before .before .before .before .before .before .before in
-    let first = c .before .before .before .before .before .before .before .before .before .before .append-slip .ensures .fits (omega arith) in
-    let second = c .before .before .before .before .before .before .append-word .ensures .fits (omega (arith, first .moved, first .small)) in
+    let first = c .before .before .before .before .before .before .before .before .before .before .append-slip .ensures .fits (omega
+    arith) in
+    let second = c .before .before .before .before .before .before .append-word .ensures .fits (omega (
+      arith,
+      first .moved,
+      first
+          .small,
+    )) in
     line-alike (start .args .s) refl first second (start .args .text .now) (c .before .before .before .same .ensures)
     (c .before .before .if1 .left) (c .same2 .ensures)
 

@@ -13,13 +13,15 @@ returns c =
 returns-2 : tie.Need-returns-2
 returns-2 c =
     let start = c .before .before .before .before .before .before in
-    code-y (start .args .text .now) (start .args .at) (c .before .before .before .before .integer .ensures) (c .before .before .before .after .ensures)
+    code-y (start .args .text .now) (start .args .at) (c .before .before .before .before .integer .ensures) (c .before .before .before
+    .after .ensures)
     (c .before .before .byte-at .ensures) (c .before .if1 .left) (c .if2 .taken)
 
 returns-3 : tie.Need-returns-3
 returns-3 c =
     let start = c .before .before .before .before .before .before .before in
-    code-record (start .args .text .now) (start .args .at) (c .before .before .before .before .before .integer .ensures) (c .before .before .before .before .after .ensures)
+    code-record (start .args .text .now) (start .args .at) (c .before .before .before .before .before .integer .ensures) (c .before
+    .before .before .before .after .ensures)
     (c .before .before .before .byte-at .ensures) (c .before .before .if1 .left) (c .before .if2 .left) (c .recorded .ensures)
 
 pub code-spec : {M : Type 1} → statement M

@@ -7,7 +7,8 @@ use Rattle.slip_reader.proofs.parts.best.Tie as tie
 returns : tie.Need-returns
 returns c =
     let start = c .before .before .before .before .before .before in
-    best-read (start .args .text .now) (c .before .before .before .before .behind .ensures) (c .before .before .before .pair-at .ensures) (c .before .before .integer .ensures)
+    best-read (start .args .text .now) (c .before .before .before .before .behind .ensures) (c .before .before .before .pair-at
+    .ensures) (c .before .before .integer .ensures)
     (c .weights .ensures)
 
 pub best-spec : {M : Type 1} → statement M

@@ -12,13 +12,15 @@ returns c =
 returns-2 : tie.Need-returns-2
 returns-2 c =
     let start = c .before .before .before .before .before in
-    parsed-unlimited (start .args .text .now) (c .before .before .before .byte-at .ensures) (c .before .before .if1 .left) (c .before .if2 .taken)
+    parsed-unlimited (start .args .text .now) (c .before .before .before .byte-at .ensures) (c .before .before .if1 .left) (c .before
+    .if2 .taken)
     (c .unlimited .ensures)
 
 returns-3 : tie.Need-returns-3
 returns-3 c =
     let start = c .before .before .before .before .before in
-    parsed-impossible (start .args .text .now) (c .before .before .before .byte-at .ensures) (c .before .before .if1 .left) (c .before .if2 .left)
+    parsed-impossible (start .args .text .now) (c .before .before .before .byte-at .ensures) (c .before .before .if1 .left) (c .before
+    .if2 .left)
     (c .impossible .ensures)
 
 pub parsed-spec : {M : Type 1} → statement M

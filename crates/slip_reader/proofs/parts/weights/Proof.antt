@@ -6,9 +6,14 @@ use Rattle.slip_reader.proofs.parts.weights.Tie as tie
 
 returns : tie.Need-returns
 returns c =
-    let start = c .before .before .before .before .before .before .before .before .before .before .before .before .before .before .before .before in
-    weights-read (start .args .text .now) (start .args .scale) (c .before .before .before .before .before .before .before .before .before .before .before .before .before .before .integer .result)
-    (record { sfits = c .before .before .before .before .struct-told4 .given .0 .1 }) (record { sfits = c .before .before .before .struct-told5 .given .0 .1 })
+    let start = c .before .before .before .before .before .before .before .before .before .before .before .before .before .before
+    .before .before in
+    weights-read (start .args .text .now) (start .args .scale) (c .before .before .before .before .before .before .before .before
+    .before .before .before .before .before .before .integer .result)
+    (record { sfits = c .before .before .before .before .struct-told4 .given .0 .1 }) (record {
+      sfits = c .before .before .before
+          .struct-told5 .given .0 .1;
+    })
     (record {
       code = record { sfits = c .before .before .struct-told6 .given .0 .1 };
       weight = record { sfits = c .before .before .struct-told6 .given .1 .0 .1 };
@@ -21,7 +26,9 @@ returns c =
       code = record { sfits = c .struct-told8 .given .0 .1 };
       weight = record { sfits = c .struct-told8 .given .1 .0 .1 };
     })
-    (c .before .before .before .before .before .before .before .before .before .before .before .before .before .before .integer .ensures) (c .before .before .before .before .before .before .before .slot-at .ensures) (c .before .before .before .before .before .before .slot-at2 .ensures) (c .before .before .before .before .before .slot-at3 .ensures)
+    (c .before .before .before .before .before .before .before .before .before .before .before .before .before .before .integer
+    .ensures) (c .before .before .before .before .before .before .before .slot-at .ensures) (c .before .before .before .before .before
+    .before .slot-at2 .ensures) (c .before .before .before .before .before .slot-at3 .ensures)
 
 pub weights-spec : {M : Type 1} → statement M
 weights-spec =

@@ -16,7 +16,13 @@ returns-2 : tie.Need-returns-2
 unfolding verdictLine
 returns-2 c =
     let fields = c .before .before .before .before .before .before .before .append-verdict .ensures in
-    let last = c .before .before .append-word .ensures .fits (omega (arith, c .before .before .before .before .before .before .before .before .before .if1 .left, fields .moved, fields .small)) in
+    let last = c .before .before .append-word .ensures .fits (omega (
+      arith,
+      c .before .before .before .before .before .before .before
+          .before .before .if1 .left,
+      fields .moved,
+      fields .small,
+    )) in
     rw (last .moved) at (filled {room = verdictRoom} (omega arith) (omega arith) (followed fields last))
 
 pub write-verdict-spec : {M : Type 1} → statement M
