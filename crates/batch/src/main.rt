@@ -36,7 +36,7 @@ fn answer(book: &[u8], objectives: &[u8]) {
         show_all(&out[..done.filled]);
     } else {
         let mut line = [0u8; 256];
-        let end = report::write_line(Answer::Refused(refusal), &mut line);
+        let end = answer_line::write_line(Answer::Refused(refusal), &mut line);
         io::write_all(STDOUT_FILENO, &line[..end]);
     }
 }

@@ -34,7 +34,7 @@ fn batch_in(
     requires { ⌜ Roomy (now book) (now records) (now run) (now ring) (now corners) ⌝ }
     ensures { λ r. ⌜ Batches (now (book .entry)) (now (objectives .entry)) (now (out .entry)) r (now (out .exit)) ⌝ }
 {
-    let head = book::read(Version::Two, book, &mut *records, &mut run[6..]);
+    let head = reading::read(Version::Two, book, &mut *records, &mut run[6..]);
     let refusal = head.refusal;
     if refusal.number != 0 {
         return Batched { refusal, filled: 0 };

@@ -13,8 +13,8 @@ use Rattle.records.specs.Layout.{Layout}
 use Rattle.records.specs.Number.{Bytes}
 use Rattle.records.specs.Record.{recordAt, ruleOf, linkOf, decodedOf, numberOf}
 use Rattle.records.specs.Header.{countOf}
-use Rattle.book.specs.declared.judge.Judged.{Judged}
-use Rattle.book.specs.declared.judge.Judged.the-variants.{Sound, Refused}
+use Rattle.book.specs.declared.Judged.{Judged}
+use Rattle.book.specs.declared.Judged.the-variants.{Sound, Refused}
 use Rattle.book.specs.Reading.{labelAt, memb, refused, endOf}
 use Rattle.book.specs.Causes.{Walked, header, visit}
 use Rattle.book.specs.Tables.{isNoted}

@@ -9,8 +9,8 @@ use Rattle.records.specs.declared.Heading.{Heading}
 use Rattle.records.specs.Layout.{Layout}
 use Rattle.records.specs.Record.{recordAt, ruleOf, linkOf, decodedOf, numberOf}
 use Rattle.records.specs.Header.{headingOf}
-use Rattle.book.specs.declared.judge.Judged.{Judged}
-use Rattle.book.specs.declared.judge.Judged.the-variants.{Sound, Refused}
+use Rattle.book.specs.declared.Judged.{Judged}
+use Rattle.book.specs.declared.Judged.the-variants.{Sound, Refused}
 use Rattle.book.specs.Reading.{labelAt}
 use Rattle.book.specs.Tables.{isNoted, noting}
 

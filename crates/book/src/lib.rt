@@ -1,22 +1,8 @@
-// A rule book as a whole: what it reads as, along its chain, and what turns it back. Every function that can be called
-// from outside is total: it takes any bytes and answers.
-mod again;
-mod judge;
-mod put;
-mod tables;
-mod walk;
-
+// A rule book as a whole: what it reads as, along its chain, and what turns it back, as definitions and laws (specs/, proofs/), with the types
+// that code and definitions share. The code is crates `judging`, one link of the chain, and `reading`, the chain.
 use answers::Refusal;
-use lp::Floors;
-use lp::Functional;
 use lp::Terms;
-use records::Version;
-use records::heading_of;
-ghost use mathlib.Core.Path.{_≡_};
-ghost use lib.ListN.{length};
-ghost use Rattle.records.specs.Layout.{layoutOf};
-ghost use Rattle.book.specs.Reading as reading;
-ghost use Rattle.book.specs.Promises.{headOf, ReadInto};
+use records::Rule;
 
 // What a book reads as, but for its chain. Turned back: the refusal, and all else zero. Accepted: the refusal is zero, and n is the number
 // of rules.
@@ -26,30 +12,9 @@ pub struct Head {
     pub n: usize,
 }
 
-// A book that is turned back.
-fn refused(number: u8, at: u16) -> Head
-    ensures { λ r. ⌜ r ≡ headOf (reading.refused number at) ⌝ }
-{
-    let objective = Functional { p: 0, q: 0 };
-    let floors = Floors { lx: 0, ly: 0 };
-    Head {
-        refusal: Refusal { number, at },
-        terms: Terms { objective, floors },
-        n: 0,
-    }
-}
-
-// What a book reads as. The records of the chain and its rules as they are planned go into two runs, as far as the walk comes and there is
-// room.
-pub fn read(version: Version, book: &[u8], records: &mut [u16], rules: &mut [i64]) -> Head
-    ensures { λ r. ⌜ ReadInto (layoutOf version) (now (book .entry)) (now (records .entry)) (now (rules .entry))
-        r (now (records .exit)) (now (rules .exit)) ⌝ }
-{
-    let heading = heading_of(version, book);
-    let fault = heading.fault;
-    if fault == 0 {
-        walk::walk(version, book, heading, records, rules)
-    } else {
-        refused(fault, 0)
-    }
+// What a link of the chain leads to: a sound rule that is new on it, with the rule's own link, or what turns the book back, with its
+// number and record.
+pub enum Judged {
+    Sound(Rule, u16),
+    Refused(u8, u16),
 }

@@ -63,7 +63,7 @@ fn part(s: &[u8], from: usize, len: usize) -> &[u8]
 // A rule of the chain: its record, kind, a, b, c and label, and then a, b, c as they are planned.
 fn print_rule(version: Version, bytes: &[u8], index: u16) {
     let rule = records::rule_at(version, bytes, index);
-    let planned = records::constraint(rule);
+    let planned = rules::constraint(rule);
     io::write_all(1, b" |");
     number(index as u64);
     number(rule.kind as u64);
@@ -92,7 +92,7 @@ fn print_rules(version: Version, bytes: &[u8], indices: [u16; 255], n: usize) {
 fn print_reading(version: Version, bytes: &[u8]) {
     let mut indices = [0u16; 255];
     let mut rules = [0i64; 765];
-    let head = book::read(version, bytes, &mut indices, &mut rules);
+    let head = reading::read(version, bytes, &mut indices, &mut rules);
     let refusal = head.refusal;
     if refusal.number != 0 {
         io::write_all(1, b" refused");

@@ -21,7 +21,7 @@ fn corners_in(
     requires { ⌜ Roomy (now book) (now records) (now run) (now ring) (now keys) ⌝ }
     ensures { λ r. ⌜ Outlines (now (book .entry)) (now (out .entry)) r (now (out .exit)) ⌝ }
 {
-    let head = book::read(Version::Two, book, &mut *records, &mut run[6..]);
+    let head = reading::read(Version::Two, book, &mut *records, &mut run[6..]);
     let refusal = head.refusal;
     if refusal.number != 0 {
         return Outlined { refusal, count: 0 };

@@ -33,7 +33,7 @@ fn main() {
         show_all(&out[..end]);
     } else {
         let mut line = [0u8; 256];
-        let end = report::write_line(Answer::Refused(refusal), &mut line);
+        let end = answer_line::write_line(Answer::Refused(refusal), &mut line);
         io::write_all(1, &line[..end]);
     }
 }

@@ -15,7 +15,7 @@ fn read_behind(book: &[u8], names: &mut [u16], entries: &mut [i64], n: usize) ->
     ensures { λ r. ⌜ ReadsBehind (now (book .entry)) n (now (names .entry)) (now (entries .entry)) r (now (names .exit)) (now (entries .exit)) ⌝ }
 {
     let at = 6 + 3 * n;
-    book::read(Version::Two, book, &mut names[n..], &mut entries[at..])
+    reading::read(Version::Two, book, &mut names[n..], &mut entries[at..])
 }
 
 // Reads both. A refused site leaves no rules, and the tenant is then read for nothing.

@@ -2,12 +2,12 @@
 // record, or a refusal that names the book that is turned back.
 mod line;
 
+use answer_line::write_line_of;
 use answers::Answer;
 use answers::Refusal;
 use joining::JointAnswer;
 use line::append_turned;
 use report::Naming;
-use report::write_line_of;
 use text::append_word;
 ghost use Rattle.text.specs.Append.{Fills};
 ghost use Rattle.joint_line.specs.JointLine.{refusedLine, JointWritten};

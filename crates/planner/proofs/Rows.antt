@@ -16,11 +16,11 @@ use Rattle.records.specs.Layout.{Layout}
 use Rattle.answers.specs.declared.Answer.the-variants.{Refused}
 use Rattle.text.specs.Append.{Appended, Appends, Fills}
 use Rattle.text.proofs.Put.{followed, roomier, spelt, nothing, too-small, filled, widened}
-use Rattle.report.specs.declared.panel.Row.{Row}
+use Rattle.panel_row.specs.declared.Row.{Row}
 use Rattle.report.specs.Line.{lineOf}
-use Rattle.report.specs.Panel.{rowLine, rowLines}
+use Rattle.panel_row.specs.Panel.{rowLine, rowLines}
 use Rattle.report.specs.Written.{Written}
-use Rattle.report.proofs.Rows.{lines-append}
+use Rattle.panel_row.proofs.Rows.{lines-append}
 use Rattle.planner.specs.declared.run.Findings.{Findings}
 use Rattle.planner.specs.Panel.{panelRoom}
 use Rattle.planner.specs.Running.{rowFor, rowsFrom, panelFrom, Listing, Shows}

@@ -28,7 +28,7 @@ use Rattle.theory.proofs.Slack.{best-slacks}
 use Rattle.theory.proofs.Largest.{best-numerators}
 use Rattle.text.specs.Append.{Fills}
 use Rattle.report.specs.Line.{lineOf}
-use Rattle.report.specs.Panel.{rowLines}
+use Rattle.panel_row.specs.Panel.{rowLines}
 use Rattle.planner.specs.Panel.{rowOf, rowsFor, panelText}
 
 planned-member : (e : Entry) (es : List Entry) → List·Memᴰ e es → List·Memᴰ (plannedRule (e .rule)) (rulesOf es)

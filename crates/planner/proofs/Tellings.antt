@@ -39,9 +39,9 @@ use Rattle.theory.proofs.Ties.{tie-good}
 use Rattle.theory.proofs.Theorems.{walk-is-defined}
 use Rattle.theory.proofs.Starts.{WalkStarts, walk-starts}
 use Rattle.text.specs.Append.{Fills}
-use Rattle.report.specs.declared.panel.Row.{Row}
+use Rattle.panel_row.specs.declared.Row.{Row}
 use Rattle.report.specs.Line.{lineOf}
-use Rattle.report.specs.Panel.{rowLines}
+use Rattle.panel_row.specs.Panel.{rowLines}
 use Rattle.plans.specs.Planning.{PlannedAs, planOf}
 use Rattle.plans.proofs.Demands.{outcome-small}
 use Rattle.plans.proofs.Finish.{finished}

@@ -14,9 +14,9 @@ use Rattle.book.specs.Reading.{Reading, refused, accepted, Entry, readOf, rules
 use Rattle.answers.specs.declared.Answer.the-variants.{Refused}
 use Rattle.answers.specs.Refusal.{refusal}
 use Rattle.text.specs.Append.{Fills}
-use Rattle.report.specs.declared.panel.Row.{Row}
+use Rattle.panel_row.specs.declared.Row.{Row}
 use Rattle.report.specs.Line.{lineOf}
-use Rattle.report.specs.Panel.{rowLines}
+use Rattle.panel_row.specs.Panel.{rowLines}
 
 -- a rule of the chain, kind 2 turned round, at a pair
 abbrev pub rowOf : Point → Entry → Row

@@ -26,9 +26,9 @@ use Rattle.engine.specs.declared.Solution.{Solution}
 use Rattle.engine.specs.Solving.{solutionOf, amountOf}
 use Rattle.model.specs.Step.{walk}
 use Rattle.text.specs.Append.{Fills}
-use Rattle.report.specs.declared.panel.Row.{Row}
+use Rattle.panel_row.specs.declared.Row.{Row}
 use Rattle.report.specs.Line.{lineOf}
-use Rattle.report.specs.Panel.{rowLines}
+use Rattle.panel_row.specs.Panel.{rowLines}
 use Rattle.witness.specs.Witness.{nobody}
 use Rattle.plans.specs.Planning.{planOf}
 use Rattle.planner.specs.declared.StartView.{StartView}

@@ -4,16 +4,16 @@ use crate::run::Findings;
 use answers::Answer;
 use lp::Outcome;
 use lp::Point;
+use panel_row::Row;
+use panel_row::append_row;
 use records::Version;
-use report::panel::Row;
-use report::panel::append_row;
 ghost use mathlib.Core.Path.{_≡_};
 ghost use Rattle.records.specs.Layout.{layoutOf};
 ghost use mathlib.Core.List.{map};
 ghost use Prim.Native.Nat.{_*_};
 ghost use lib.ListN.{take};
 ghost use Rattle.text.specs.Append.{Appended};
-ghost use Rattle.report.specs.Panel.{rowLines};
+ghost use Rattle.panel_row.specs.Panel.{rowLines};
 ghost use Rattle.planner.specs.Panel.{panelRoom};
 ghost use Rattle.planner.specs.Running.{rowFor, Listing, Showing, Shows};
 
@@ -34,7 +34,7 @@ fn row(version: Version, book: &[u8], index: u16, v: Point) -> Row
     let rule = records::rule_at(version, book, index);
     Row {
         label: rule.label,
-        slack: engine::amount(records::constraint(rule), v),
+        slack: engine::amount(rules::constraint(rule), v),
     }
 }
 
@@ -69,7 +69,7 @@ pub fn show(
     let refusal = found.refusal;
     let number = refusal.number;
     if number != 0 {
-        return report::write_line(Answer::Refused(refusal), out);
+        return answer_line::write_line(Answer::Refused(refusal), out);
     }
     let solution = found.solution;
     let outcome = solution.outcome;

@@ -61,7 +61,7 @@ pub fn run(
     requires { ⌜ Roomy (layoutOf version) (now book) (now records) (now entries) ⌝ }
     ensures { λ r. ⌜ Runs (layoutOf version) (now (book .entry)) prefix r (now (records .exit)) ⌝ }
 {
-    let head = book::read(version, book, &mut *records, &mut entries[6..]);
+    let head = reading::read(version, book, &mut *records, &mut entries[6..]);
     let refusal = head.refusal;
     let number = refusal.number;
     let n = head.n;

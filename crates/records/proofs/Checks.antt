@@ -4,18 +4,11 @@ use mathlib.Core.Path.{_≡_}
 use mathlib.Core.Bool.{Bool, true, false, cond}
 use mathlib.Core.List.{List}
 use native.Mathlib.Omega.{arith}
-use borrow.Author.Tests.{eq-eqb, ne-eqb}
-use lib.Dec.{eqb, lit≤}
-use lib.IntN.{pos, _-ℤ_}
-use mir.Syntax.{w16, w32, w64}
-use mir.Val.{toZ, ofZ, SFits}
-use Rattle.lp.specs.declared.Constraint.{Constraint}
+use lib.Dec.{eqb}
 use Rattle.records.specs.declared.Rule.{Rule}
 use Rattle.records.specs.declared.Decoded.the-variants.{Sound, Kind, Slope, Bound}
 use Rattle.records.specs.Layout.{Layout}
 use Rattle.records.specs.Record.{decodedWith, decodedOf, ruleOf, linkOf, padOf, badKind, badSlope, badBound}
-use Rattle.records.specs.Planned.{plannedRule}
-use Rattle.records.proofs.Numbers.{widened, turned-round-is}
 
 module _ (clear : Bool) (r : Rule) (next : ℕ) where
   pub kind-first : badKind clear r ≡ true → Kind ≡ decodedWith clear r next
@@ -48,40 +41,3 @@ pub sound-holds : (L : Layout) (t : List ℕ) (r : Rule) (i : ℕ) → decodedOf
 unfolding decodedOf decodedWith
 sound-holds L t r i e =
     chosen (badKind (eqb (padOf L t) 0) (ruleOf L t)) (badSlope (ruleOf L t)) (badBound (ruleOf L t)) (ruleOf L t) r (linkOf L t) i e
-
--- ---- a rule as it is planned
-
-module _ (r : Rule) (fa : SFits w16 (r .a)) (fb : SFits w16 (r .b)) (fc : SFits w32 (r .c)) where
-  -- kind 2, each number widened and turned round
-  pub at-least : r .kind ≡ 2 →
-      _≡_ {A = Constraint}
-      (record {
-        a = toZ w64 (ofZ w64 (pos 0 -ℤ toZ w64 (ofZ w64 (toZ w16 (ofZ w16 (r .a))))));
-        b = toZ w64 (ofZ w64 (pos 0 -ℤ toZ w64 (ofZ w64 (toZ w16 (ofZ w16 (r .b))))));
-        c = toZ w64 (ofZ w64 (pos 0 -ℤ toZ w64 (ofZ w64 (toZ w32 (ofZ w32 (r .c))))));
-      })
-      (plannedRule r)
-  at-least h =
-      rw (eq-eqb (r .kind) 2 h)
-      (λ i. record {
-        a = turned-round-is w16 (r .a) fa (lit≤ tt) i;
-        b = turned-round-is w16 (r .b) fb (lit≤ tt) i;
-        c = turned-round-is w32 (r .c) fc (lit≤ tt) i;
-      })
-
-  -- any other kind, each number widened
-  pub at-most : (r .kind ≡ 2 → ⊥) →
-      _≡_ {A = Constraint}
-      (record {
-        a = toZ w64 (ofZ w64 (toZ w16 (ofZ w16 (r .a))));
-        b = toZ w64 (ofZ w64 (toZ w16 (ofZ w16 (r .b))));
-        c = toZ w64 (ofZ w64 (toZ w32 (ofZ w32 (r .c))));
-      })
-      (plannedRule r)
-  at-most h =
-      rw (ne-eqb (r .kind) 2 h)
-      (λ i. record {
-        a = widened w16 (r .a) fa (lit≤ tt) i;
-        b = widened w16 (r .b) fb (lit≤ tt) i;
-        c = widened w32 (r .c) fc (lit≤ tt) i;
-      })

@@ -3,4 +3,3 @@ pub mod Numbers
 pub mod Small
 pub mod Offsets
 pub mod Checks
-pub mod HeaderTests

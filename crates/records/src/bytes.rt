@@ -2,8 +2,6 @@
 ghost use mathlib.Core.Path.{_≡_};
 ghost use Prim.Native.Nat.{_+_, _*_, _<_, _≤_, _^_};
 ghost use lib.ListN.{length, getD, drop};
-ghost use mir.Syntax.{w16, w32};
-ghost use mir.Val.{toZ};
 ghost use Rattle.records.specs.Number.{number, Copied};
 
 // The byte at an index, or zero where there is none.
@@ -55,21 +53,4 @@ pub fn number4(s: &[u8], at: usize) -> u32
     ensures { λ r. ⌜ r ≡ number 4 (drop at (now (s .entry))) ⌝ }
 {
     quad(s[at], s[at + 1], s[at + 2], s[at + 3])
-}
-
-// Sixteen bits as a signed number in two's complement: half the range up and, round the end, half the range down. The compiler makes
-// one instruction of it.
-pub fn signed16(bits: u16) -> i16
-    ensures { λ r. ⌜ r ≡ toZ w16 bits ⌝ }
-{
-    let up = (bits as u64 + 32768) % 65536;
-    (up as i64 - 32768) as i16
-}
-
-// Thirty-two bits as a signed number in two's complement.
-pub fn signed32(bits: u32) -> i32
-    ensures { λ r. ⌜ r ≡ toZ w32 bits ⌝ }
-{
-    let up = (bits as u64 + 2147483648) % 4294967296;
-    (up as i64 - 2147483648) as i32
 }

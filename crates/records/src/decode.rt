@@ -2,15 +2,16 @@
 use crate::Decoded;
 use crate::Rule;
 use crate::Version;
-use crate::bytes::signed16;
-use crate::bytes::signed32;
 use crate::fields::Fields;
 use crate::layouts::fields_inside;
 use crate::layouts::fields_past;
 use crate::layouts::is_inside;
+use signed::least;
+use signed::signed16;
+use signed::signed32;
 ghost use mathlib.Core.Path.{_≡_};
 ghost use Rattle.records.specs.Layout.{layoutOf};
-ghost use Rattle.records.specs.Record.{recordAt, ruleWith, isLeast, isBeyond, badKind, badSlope, badBound, decodedWith, decodedFrom, decodedOf};
+ghost use Rattle.records.specs.Record.{recordAt, ruleWith, isBeyond, badKind, badSlope, badBound, decodedWith, decodedFrom, decodedOf};
 
 // A rule, from its fields as they stand.
 pub fn rule_in(f: Fields) -> Rule
@@ -23,13 +24,6 @@ pub fn rule_in(f: Fields) -> Rule
         c: signed32(f.c),
         label: f.label,
     }
-}
-
-// -32,768, which no number of sixteen bits of a book may be.
-pub fn least(x: i16) -> bool
-    ensures { λ r. ⌜ r ≡ isLeast x ⌝ }
-{
-    x < -32767
 }
 
 // Outside the range of c.

@@ -1,24 +1,17 @@
-// The records of a rule book, of either version of the format: the header and what it says, a rule record and what turns it back. A
-// function takes the version and any bytes, and answers; a byte that is not there reads as zero.
+// The records of a rule book, of either version of the format: a record's fields, a rule record and what turns it back. A function takes
+// the version and any bytes, and answers; a byte that is not there reads as zero. The definitions of the whole format stand here; what a
+// header says is crate `headings`, and what a rule is planned as crate `rules`.
 mod bytes;
 mod decode;
 pub mod fields;
-mod header;
 mod layouts;
 
-use bytes::signed16;
 use decode::rule_in;
 use fields::fields_at;
-use header::fault;
-use header::floors_in;
-use lp::Constraint;
-use lp::Functional;
 use lp::Terms;
 ghost use mathlib.Core.Path.{_≡_};
 ghost use Rattle.records.specs.Layout.{layoutOf};
-ghost use Rattle.records.specs.Record.{recordAt, ruleOf, decodedOf, numberOf};
-ghost use Rattle.records.specs.Header.{headingOf};
-ghost use Rattle.records.specs.Planned.{plannedRule};
+ghost use Rattle.records.specs.Record.{recordAt, ruleOf, decodedOf};
 
 // The versions of the format: records of 12 bytes, at most 256 of them, and of 14, at most 4,096.
 pub enum Version {
@@ -51,60 +44,11 @@ pub struct Heading {
     pub link: u16,
 }
 
-// What a book's header says.
-pub fn heading_of(version: Version, book: &[u8]) -> Heading
-    ensures { λ r. ⌜ r ≡ headingOf (layoutOf version) (now (book .entry)) ⌝ }
-{
-    let f = fields_at(version, book, 0);
-    let objective = Functional {
-        p: signed16(f.a) as i64,
-        q: signed16(f.b) as i64,
-    };
-    let floors = floors_in(version, f.c);
-    Heading {
-        fault: fault(version, book, f),
-        terms: Terms { objective, floors },
-        count: f.label,
-        link: f.link,
-    }
-}
-
 // The rule of a record, whether the record is on the chain or not.
 pub fn rule_at(version: Version, book: &[u8], index: u16) -> Rule
     ensures { λ r. ⌜ r ≡ ruleOf (layoutOf version) (recordAt (layoutOf version) (now (book .entry)) index) ⌝ }
 {
     rule_in(fields_at(version, book, index))
-}
-
-// A rule as it is planned: at most, so that kind 2 is turned round. Its numbers are wider then, so that each has its opposite.
-pub fn constraint(rule: Rule) -> Constraint
-    ensures { λ r. ⌜ r ≡ plannedRule rule ⌝ }
-{
-    let a = rule.a as i64;
-    let b = rule.b as i64;
-    let c = rule.c as i64;
-    let kind = rule.kind;
-    if kind == 2 {
-        Constraint {
-            a: 0 - a,
-            b: 0 - b,
-            c: 0 - c,
-        }
-    } else {
-        Constraint { a, b, c }
-    }
-}
-
-// The cause's number; 0 for a sound record.
-pub fn number_of(decoded: Decoded) -> u8
-    ensures { λ r. ⌜ r ≡ numberOf decoded ⌝ }
-{
-    match decoded {
-        Decoded::Sound(_, _) => 0,
-        Decoded::Kind => 8,
-        Decoded::Slope => 9,
-        Decoded::Bound => 10,
-    }
 }
 
 // What the record at an index comes to.

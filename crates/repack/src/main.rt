@@ -14,7 +14,7 @@ fn main() {
         io::write_all(1, &out[..answer.filled]);
     } else {
         let mut line = [0u8; 256];
-        let end = report::write_line(Answer::Refused(refusal), &mut line);
+        let end = answer_line::write_line(Answer::Refused(refusal), &mut line);
         io::write_all(2, &line[..end]);
     }
 }

@@ -3,11 +3,11 @@
 mod pack;
 
 use answers::Refusal;
-use book::read;
 use pack::header_bytes;
 use pack::next_of;
 use pack::put_rules;
 use pack::store;
+use reading::read;
 use records::Version;
 ghost use mathlib.Core.Path.{_≡_};
 ghost use lib.ListN.{length};

@@ -1,4 +1,3 @@
--- Lemmas over the definitions: a panel's lines (Rows), a witness's entries (Witness), and the lines spelt out (Examples).
-pub mod Rows
+-- Lemmas over the definitions: a witness's entries (Witness), and the lines spelt out (Examples).
 pub mod Witness
 pub mod Examples

@@ -1,4 +1,4 @@
--- Answers with their lines, spelt out, and rows of a panel with theirs. In a witness 0 is floor x, 1 is floor y, and r + 1 is the rule
+-- Answers with their lines, spelt out. In a witness 0 is floor x, 1 is floor y, and r + 1 is the rule
 -- in record r; of two books joined, 4,097 + r is the rule in the tenant's record r.
 use mathlib.Core.List.{List, [], _∷_}
 use Prim.Native.Nat.{ℕ}
@@ -11,7 +11,6 @@ use Rattle.lp.specs.Program.{point, ray}
 use Rattle.answers.specs.Refusal.{refusal}
 use Rattle.answers.specs.declared.Answer.{Answer}
 use Rattle.answers.specs.declared.Answer.the-variants.{Refused, Planned}
-use Rattle.report.specs.declared.panel.Row.{Row}
 use Rattle.report.specs.declared.Naming.{Naming}
 use Rattle.report.specs.declared.Naming.the-variants.{OneBook, TwoBooks}
 
@@ -68,20 +67,3 @@ examples =
     ∷ row (Refused (refusal 10 255)) "refused 10 255\n"
     ∷ row (Refused (refusal 255 65535)) "refused 255 65535\n"
     ∷ []
-
--- ---- a panel's rows: label, numerator and denominator of the slack
-
-abbrev slack : ℕ → ℤ → ℤ → Row
-slack label numerator denominator = record { label = label; slack = record { numerator = numerator; denominator = denominator } }
-
-abbrev pub rows : List Row
-rows =
-    slack 7 (pos 0) (pos 1)
-    ∷ slack 300 (pos 9) (pos 5)
-    ∷ slack 65535 (negsuc 11) (pos 7)
-    ∷ slack 1 (pos 6442057732999967233) (pos 2147352577)
-    ∷ slack 2 (negsuc 6442057732999967232) (pos 2147352577)
-    ∷ []
-
-abbrev pub rowsSpelt : String
-rowsSpelt = "7 0 1\n300 9 5\n65535 -12 7\n1 6442057732999967233 2147352577\n2 -6442057732999967233 2147352577\n"

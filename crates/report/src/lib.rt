@@ -1,36 +1,8 @@
-// The line that shows the answer to a book, and the lines of its panel. They rest on the parts of a line (crate `text`); the answer
-// itself is `answers`'s.
-use answers::Answer;
-use line::append_fields;
-use text::append_word;
-ghost use Rattle.report.specs.Written.{Written, WrittenOf};
-
-mod entries;
-mod line;
-pub mod panel;
+// The line that shows the answer to a book, as definitions and laws (specs/, proofs/): what is printed, not how. It rests on the parts of a
+// line (crate `text`); the answer itself is `answers`'s, and crate `answer_line` writes the line.
 
 // How a witness names the rule in a record: by the record's index, or, of two books joined, by the book's letter with the index behind it.
 pub enum Naming {
     OneBook,
     TwoBooks,
-}
-
-// The line of an answer, at the start of a buffer of at least 256 bytes, and its length. A smaller buffer is left as it is, and 0
-// handed back.
-pub fn write_line_of(naming: Naming, answer: Answer, out: &mut [u8]) -> usize
-    ensures { λ r. ⌜ WrittenOf naming answer (now (out .entry)) (now (out .exit)) r ⌝ }
-{
-    if out.len() < 256 {
-        return 0;
-    }
-    let end = append_fields(naming, answer, out);
-    append_word(b"\n", out, end);
-    end + 1
-}
-
-// That of the answer to one book.
-pub fn write_line(answer: Answer, out: &mut [u8]) -> usize
-    ensures { λ r. ⌜ Written answer (now (out .entry)) (now (out .exit)) r ⌝ }
-{
-    write_line_of(Naming::OneBook, answer, out)
 }

@@ -23,7 +23,7 @@ struct Turn {
 // Prints the line of an answer.
 fn say(answer: Answer) {
     let mut line = [0u8; 256];
-    let end = report::write_line(answer, &mut line);
+    let end = answer_line::write_line(answer, &mut line);
     io::write_all(1, &line[..end]);
 }
 

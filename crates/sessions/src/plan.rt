@@ -5,7 +5,7 @@ use engine::Solved;
 use lp::Certificate;
 use lp::Constraint;
 use lp::Outcome;
-use records::constraint;
+use rules::constraint;
 ghost use mathlib.Core.Path.{_≡_};
 ghost use Prim.Native.Nat.{_+_};
 ghost use Rattle.engine.specs.Entries.{putEntry};

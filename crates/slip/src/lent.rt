@@ -16,7 +16,7 @@ fn check_in(book: &[u8], slip: Slip, records: &mut [u16], rules: &mut [i64]) -> 
     requires { ⌜ Roomy (now book) (now records) (now rules) ⌝ }
     ensures { λ r. ⌜ r ≡ verdictOf (readOf v2 (now (book .entry))) slip ⌝ }
 {
-    let head = book::read(Version::Two, book, &mut *records, &mut *rules);
+    let head = reading::read(Version::Two, book, &mut *records, &mut *rules);
     let refusal = head.refusal;
     let number = refusal.number;
     if number == 0 {

@@ -14,7 +14,7 @@ fn best_in(book: &[u8], v: Point, records: &mut [u16], rules: &mut [i64]) -> Wei
     requires { ⌜ Lent (now book) (now records) (now rules) v ⌝ }
     ensures { λ r. ⌜ BestOf (now (book .entry)) v r ⌝ }
 {
-    let head = book::read(Version::Two, book, &mut *records, &mut *rules);
+    let head = reading::read(Version::Two, book, &mut *records, &mut *rules);
     let terms = head.terms;
     let f = terms.objective;
     let held = passed(f, v, terms.floors, &*records, &*rules, head.n);

@@ -13,7 +13,7 @@ use Rattle.book.proofs.Bounds.{chain-few}
 use Rattle.outline.specs.declared.Outlined.{Outlined}
 use Rattle.outline.specs.Outline.{Outline, declined, listed, outlineBy, outlineOf, outlinedOf}
 use Rattle.outline.proofs.Laws.{few-corners}
-use Rattle.vishalneq.specs.Loaded.{toldOf}
+use Rattle.handed.specs.Told.{toldOf}
 
 module _ (s : List ℕ) (room : ℕ) where
   -- what is told of a refusal is a machine number, and its sum with the count is one too

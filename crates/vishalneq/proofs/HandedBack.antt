@@ -19,8 +19,9 @@ use Rattle.book.proofs.Bounds.{chain-count, count-room}
 use Rattle.repacker.proofs.RepackLaws.{declined-number, repacked-length}
 use Rattle.planner.specs.View.{unseen, viewed, viewOf}
 use Rattle.planner.proofs.Seen.{restarts-seen, restarts-within}
-use Rattle.vishalneq.specs.Loaded.{toldOf, StartWritten, RepackWritten}
-use Rattle.vishalneq.proofs.Buffers.{told-refused}
+use Rattle.vishalneq.specs.Loaded.{StartWritten, RepackWritten}
+use Rattle.handed.specs.Told.{toldOf}
+use Rattle.handed.proofs.Buffers.{told-refused}
 
 told-viewed : (x : Start) (n : ℕ) → toldOf (viewed x n .refusal) (viewed x n .restarts) ≡ viewed x n .restarts
 told-viewed none n = refl

@@ -6,7 +6,7 @@ use lib.ListN.{length}
 use Rattle.records.specs.Layout.{v2}
 use Rattle.book.specs.Reading.{readOf}
 use Rattle.batching.specs.Promises.{batchOf, batchedOf, outputOf}
-use Rattle.vishalneq.specs.Loaded.{toldOf}
+use Rattle.handed.specs.Told.{toldOf}
 
 pub record BatchWritten (s objectives before after : List ℕ) (count : ℕ) : Type 0 where
   pub output : after ≡ outputOf (batchOf (readOf v2 s) objectives (length before)) before

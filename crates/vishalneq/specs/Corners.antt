@@ -6,7 +6,7 @@ use Prim.Native.Nat.{ℕ, _+_}
 use lib.ListN.{length}
 use Rattle.outline.specs.declared.Outlined.{Outlined}
 use Rattle.outline.specs.Outline.{outlineOf, outlinedOf, outputOf}
-use Rattle.vishalneq.specs.Loaded.{toldOf}
+use Rattle.handed.specs.Told.{toldOf}
 
 abbrev pub cornersTold : Outlined → ℕ
 cornersTold r = toldOf (r .refusal) 0 + r .count

@@ -1,21 +1,13 @@
--- What is handed back of slips, as runs of 14 numbers: the planner's slip of a book, and what the checker says of one.
+-- What is handed back of the planner's slip of a book, as a run of 14 numbers.
 use mathlib.Core.Path.{_≡_}
 use mathlib.Core.List.{List}
 use Prim.Native.Nat.{ℕ}
 use lib.IntN.{ℤ}
-use Rattle.slip.specs.declared.Verdict.{Verdict}
-use Rattle.slip.specs.declared.Verdict.the-variants.{Refused, Yes, No}
 use Rattle.slip_numbers.specs.Form.{Laid}
 use Rattle.slips.specs.declared.Written.{Written}
 use Rattle.slips.specs.declared.Written.the-variants as written
 use Rattle.slips.specs.Writing.{Writes}
-use Rattle.vishalneq.specs.Loaded.{toldOf}
-
--- 1 is yes, 0 is no, and a refusal is 65,536 times its number plus its record
-abbrev pub verdictTold : Verdict → ℕ
-verdictTold (Refused x) = toldOf x 0
-verdictTold Yes = 1
-verdictTold No = 0
+use Rattle.handed.specs.Told.{toldOf}
 
 -- of what was written: the refusal, and the run as it was; or the slip's numbers
 abbrev pub LaidBy : Written → List ℤ → List ℤ → ℕ → Type 0

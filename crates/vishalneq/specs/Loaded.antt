@@ -2,39 +2,25 @@
 -- repacked form. (The lines of a panel are the planner's own promise.)
 use mathlib.Core.Path.{_≡_}
 use mathlib.Core.List.{List}
-use mathlib.Core.Bool.{cond}
-use Prim.Native.Nat.{ℕ, _+_, _*_, _≤_, _<_}
-use lib.ListN.{length, set}
-use lib.Dec.{eqb}
+use Prim.Native.Nat.{ℕ, _≤_, _<_}
+use lib.ListN.{length}
 use lib.IntN.{ℤ}
-use Rattle.lp.specs.declared.Point.{Point}
 use Rattle.records.specs.Layout.{Layout}
 use Rattle.book.specs.Reading.{readOf}
 use Rattle.repacker.specs.Repacking.{repackOf}
 use Rattle.repacker.specs.Promises.{repackedOf, outputOf}
 use Rattle.answers.specs.declared.Answer.{Answer}
-use Rattle.answers.specs.declared.Refusal.{Refusal}
 use Rattle.report.specs.Written.{Written}
 use Rattle.planner.specs.Planning.{Answers}
 use Rattle.planner.specs.View.{viewOf}
+use Rattle.handed.specs.Told.{toldOf}
+use Rattle.handed.specs.Start.{putPoint}
 
 -- the promise of the printed line: it is that of an answer to the book, which is one as `plan` promises
 pub record PlanLine (L : Layout) (s before after : List ℕ) (count : ℕ) : Type 0 where
   pub answer : Answer
   pub answers : Answers L s answer
   pub written : Written answer before after count
-
--- a point as three numbers at the start of a run
-abbrev pub putPoint : List ℤ → Point → List ℤ
-putPoint l v = set (set (set l 0 (v .x)) 1 (v .y)) 2 (v .d)
-
-pub record PointRoom (l : List ℤ) : Type 0 where
-  pub room : 3 ≤ length l
-
--- what is handed back: of an accepted book a count, which is below 65,536; of a refused one its number and record, so that it is 65,536 or
--- more
-abbrev pub toldOf : Refusal → ℕ → ℕ
-toldOf r count = cond (eqb (r .number) 0) count (65536 * r .number + r .at)
 
 -- the promise of the view: a refused book, and fewer than three numbers, leave what is lent as it was
 pub record StartWritten (L : Layout) (s : List ℕ) (k : ℕ) (before after : List ℤ) (count : ℕ) : Type 0 where

@@ -1,5 +1,5 @@
 // The corners of a book's region for programs in other languages: they draw the region from them.
-use crate::told;
+use handed::told;
 ghost use Rattle.vishalneq.specs.Corners.{CornersWritten};
 
 // All corners of a version 2 book's region, 24 bytes each, at the start of a buffer, and how many they are. What is turned back leaves the

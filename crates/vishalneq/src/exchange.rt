@@ -1,25 +1,15 @@
 // Slips for programs in other languages, as runs of 14 numbers: the planner's slip of a book, and what the checker says of one. Books are of
 // version 2.
-use crate::told;
-use slip::Verdict;
+use handed::told;
+use handed::verdict_told;
 use slips::Written;
 ghost use mathlib.Core.Path.{_≡_};
 ghost use Rattle.records.specs.Layout.{v2};
 ghost use Rattle.book.specs.Reading.{readOf};
 ghost use Rattle.slip.specs.Facts.{verdictOf};
 ghost use Rattle.slip_numbers.specs.Form.{slipOf};
-ghost use Rattle.vishalneq.specs.Exchange.{verdictTold, SlipWritten};
-
-// What the checker says, as one number: 1 is yes, 0 is no, and a refusal is 65,536 times its number plus its record.
-fn verdict_told(verdict: Verdict) -> usize
-    ensures { λ r. ⌜ r ≡ verdictTold verdict ⌝ }
-{
-    match verdict {
-        Verdict::Refused(refusal) => told(refusal, 0),
-        Verdict::Yes => 1,
-        Verdict::No => 0,
-    }
-}
+ghost use Rattle.handed.specs.Told.{verdictTold};
+ghost use Rattle.vishalneq.specs.Exchange.{SlipWritten};
 
 // What the checker says of a slip of 14 numbers.
 #[no_mangle]

@@ -7,20 +7,19 @@ mod exchange;
 pub mod joint;
 mod prices;
 
-use answers::Refusal;
-use lp::Point;
+use handed::told;
 use records::Version;
 ghost use mathlib.Core.Path.{_≡_};
 ghost use Rattle.records.specs.Layout.{v1, v2, layoutOf};
 ghost use Rattle.planner.specs.Panel.{Panels};
-ghost use Rattle.vishalneq.specs.Loaded.{PlanLine, putPoint, PointRoom, toldOf, StartWritten, RepackWritten};
+ghost use Rattle.vishalneq.specs.Loaded.{PlanLine, StartWritten, RepackWritten};
 
 // The line of a book: written at the start of a buffer of at least 256 bytes, with its length. A smaller buffer is left as it is, and 0
 // handed back.
 fn plan_line(version: Version, book: &[u8], out: &mut [u8]) -> usize
     ensures { λ r. ⌜ PlanLine (layoutOf version) (now (book .entry)) (now (out .entry)) (now (out .exit)) r ⌝ }
 {
-    report::write_line(planner::plan(version, book), out)
+    answer_line::write_line(planner::plan(version, book), out)
 }
 
 // The line of a book of version 1.
@@ -56,31 +55,6 @@ pub extern "C" fn vishalneq_panel_lines2(book: &[u8], out: &mut [u8]) -> usize
     planner::panel_lines(Version::Two, book, out)
 }
 
-// X, Y and D, at the start of a run of numbers.
-fn put_point(out: &mut [i64], v: Point)
-    requires { ⌜ PointRoom (now out) ⌝ }
-    ensures { λ r. ⌜ now (out .exit) ≡ putPoint (now (out .entry)) v ⌝ }
-{
-    let x = v.x;
-    let y = v.y;
-    let d = v.d;
-    out[0] = x;
-    out[1] = y;
-    out[2] = d;
-}
-
-// What is handed back: of an accepted book a count, and of a refused one its number and record as one number.
-fn told(refusal: Refusal, count: usize) -> usize
-    ensures { λ r. ⌜ r ≡ toldOf refusal count ⌝ }
-{
-    let cause = refusal.number;
-    if cause == 0 {
-        count
-    } else {
-        65536 * cause as usize + refusal.at as usize
-    }
-}
-
 // The start pair after a book's first `prefix` rules: X, Y and D stand at the start of a buffer of at least three numbers, zeros where no
 // pair is allowed, and the count is handed back. A refused book leaves the buffer as it is, and so does a smaller buffer; of a refused book
 // 65,536 times its number plus its record is handed back.
@@ -88,15 +62,7 @@ fn start_after(version: Version, book: &[u8], prefix: usize, out: &mut [i64]) ->
     ensures { λ r. ⌜ StartWritten (layoutOf version) (now (book .entry)) prefix (now (out .entry)) (now (out .exit)) r ⌝ }
 {
     let seen = planner::start_after(version, book, prefix);
-    let refusal = seen.refusal;
-    let answer = told(refusal, seen.restarts);
-    let number = refusal.number;
-    if number == 0 {
-        if out.len() >= 3 {
-            put_point(out, seen.point);
-        }
-    }
-    answer
+    handed::put_start(seen.refusal, seen.restarts, seen.point, out)
 }
 
 // The start pair of a book of version 1.

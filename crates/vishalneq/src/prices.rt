@@ -1,5 +1,5 @@
 // A batch for programs in other languages: many objectives for one book of version 2.
-use crate::told;
+use handed::told;
 ghost use Rattle.vishalneq.specs.Batch.{BatchWritten};
 
 // The answers to a batch's objectives, 32 bytes each, at the start of a buffer, and how many bytes they have. What is turned back leaves the

@@ -2,7 +2,7 @@
 use lib.Dec.{lit≤}
 use mir.Syntax.{w16, w32}
 use mir.Val.{SFits}
-use Rattle.records.proofs.Numbers.{widens}
+use Rattle.signed.proofs.Widths.{widens}
 use borrow.Author.Needs.{needs}
 use Rattle.book_vectors.proofs.print_rule.Statement.{statement}
 use Rattle.book_vectors.proofs.print_rule.Tie as tie

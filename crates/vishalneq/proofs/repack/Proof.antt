@@ -2,7 +2,7 @@
 use mathlib.Core.Path.{_∙_, ap}
 use borrow.Author.Needs.{needs}
 use Rattle.repacker.specs.declared.Repacked.{Repacked}
-use Rattle.vishalneq.specs.Loaded.{toldOf}
+use Rattle.handed.specs.Told.{toldOf}
 use Rattle.vishalneq.proofs.repack.Statement.{statement}
 use Rattle.vishalneq.proofs.repack.Tie as tie
 

@@ -6,7 +6,7 @@ use lib.IntN.{pos, _-ℤ_}
 use lib.Dec.{lit≤}
 use mir.Syntax.{w16, w64}
 use mir.Val.{toZ, Fits}
-use Rattle.records.proofs.Numbers.{turned-round, narrow-wide, bits-back}
+use Rattle.signed.proofs.Widths.{turned-round, narrow-wide, bits-back}
 use borrow.Author.Needs.{needs}
 use Rattle.batching.proofs.objectives.signed.Statement.{statement}
 use Rattle.batching.proofs.objectives.signed.Tie as tie

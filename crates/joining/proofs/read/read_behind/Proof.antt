@@ -4,7 +4,7 @@ use Rattle.joining.proofs.read.read_behind.Statement.{statement}
 use Rattle.joining.proofs.read.read_behind.Tie as tie
 use Rattle.joining.proofs.read.read_behind.Reads as reads
 use Rattle.joining.proofs.read.read_behind.Lts as lts
-use Rattle.book.proofs.read.Reads as read-reads
+use Rattle.reading.proofs.read.Reads as read-reads
 
 -- src/read.rt:17:18
 mul-at : tie.Need-mul-at

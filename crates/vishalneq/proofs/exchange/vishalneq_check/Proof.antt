@@ -1,7 +1,7 @@
 -- `vishalneq::exchange::vishalneq_check` meets its contract.
 use borrow.Author.Needs.{needs}
 use mathlib.Core.Path.{_∙_, ap}
-use Rattle.vishalneq.specs.Exchange.{verdictTold}
+use Rattle.handed.specs.Told.{verdictTold}
 use Rattle.vishalneq.proofs.exchange.vishalneq_check.Statement.{statement}
 use Rattle.vishalneq.proofs.exchange.vishalneq_check.Tie as tie
 

@@ -2,7 +2,7 @@
 use mathlib.Core.Path.{_∙_, ap}
 use borrow.Author.Needs.{needs}
 use Rattle.batching.specs.declared.Batched.{Batched}
-use Rattle.vishalneq.specs.Loaded.{toldOf}
+use Rattle.handed.specs.Told.{toldOf}
 use Rattle.vishalneq.proofs.prices.vishalneq_batch.Statement.{statement}
 use Rattle.vishalneq.proofs.prices.vishalneq_batch.Tie as tie
 
