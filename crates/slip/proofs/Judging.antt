@@ -135,6 +135,26 @@ joined : (r e d : Bool) → (r && (e && d)) ≡ (r && e && d)
 joined true e d = refl
 joined false e d = refl
 
+-- the facts of a best pair, where those of its entries were tested first
+module _ (t : Terms) (rules : List Constraint) (v : Point) (s : Slots) (scale : ℤ) {held even : Bool}
+    (eh : held ≡ tightOf s v) (ee : even ≡ balancedOf (totalOf s) scale (t .objective)) where
+  abbrev kept : Bool
+  kept = allowed (system (t .floors) rules) v
+
+  pub proves-kept : (held && even) ≡ true → {x : Bool} → x ≡ kept → x ≡ provesOf t rules v s scale
+  proves-kept b ex = ex ∙ go kept held even b ∙ λ i. kept && eh i && ee i
+    where
+      go : (a h e : Bool) → (h && e) ≡ true → a ≡ (a && h && e)
+      go true h e b = sym b
+      go false h e b = refl
+
+  pub proves-not : (held && even) ≡ false → false ≡ provesOf t rules v s scale
+  proves-not b = go kept held even b ∙ λ i. kept && eh i && ee i
+    where
+      go : (a h e : Bool) → (h && e) ≡ false → false ≡ (a && h && e)
+      go true h e b = sym b
+      go false h e b = refl
+
 module _ (t : Terms) (records : List ℕ) (rules : List Constraint) (w : Weights) where
   abbrev looked : Slots
   looked = slotsOf (t .floors) records rules w

@@ -136,14 +136,17 @@ fn unlimited(
     }
 }
 
-// The facts of a best pair, with its entries looked up.
+// The facts of a best pair, with its entries looked up. The pass over the rules comes last, so that it holds
+// nothing but the pair: with the entries held too it takes half as long again.
 fn proves(t: Terms, rules: &[i64], n: usize, v: Point, slots: Slots, scale: i64) -> bool
     requires { ⌜ Proving t (now rules) n v slots scale ⌝ }
     ensures { λ r. ⌜ r ≡ provesOf t (entries (now (rules .entry)) 0 n) v slots scale ⌝ }
 {
-    let kept = allowed(t.floors, rules, n, v);
-    let held = all_tight(slots, v);
-    kept & held & balanced(total(slots), scale, t.objective)
+    if all_tight(slots, v) & balanced(total(slots), scale, t.objective) {
+        allowed(t.floors, rules, n, v)
+    } else {
+        false
+    }
 }
 
 // Of one with a best pair.

@@ -1,8 +1,9 @@
 -- `slip::entries::rule_in` meets its contract: the rule in a record.
 use Prim.Native.Nat.{_-_}
 use native.Mathlib.Omega.{arith}
+use native.Mathlib.Nat.{mod-lt}
 use denote.Ref.{now}
-use Rattle.slip.proofs.Passes.{Sought, sought-start, sought-step, sought-stop, sought-end}
+use Rattle.slip.proofs.Passes.{Sought, passed-sought, sought-step, sought-stop, sought-end}
 use Rattle.slip.proofs.entries.rule_in.Statement.{statement}
 use Rattle.slip.proofs.entries.rule_in.Tie as tie
 
@@ -12,27 +13,31 @@ Inv-loop records rules n wanted i₀ i = Sought records rules n wanted i
 abbrev μ-loop : tie.MeasureT-loop
 μ-loop records rules n wanted i₀ i = n - i
 
+cast-passed : tie.Need-cast-passed Inv-loop μ-loop
+cast-passed c = omega (arith, mod-lt (c .before .args .wanted) {m = 65536} (omega arith))
+
+passed-requires : tie.Need-passed-requires Inv-loop μ-loop
+passed-requires c κs = c .before .pre .names
+
 loop-holds : tie.Need-loop-holds Inv-loop μ-loop
-loop-holds c = sought-start (now (c .before .args .records)) (now (c .before .args .rules)) (c .before .args .n) (c .before .args .wanted)
+loop-holds c =
+    let s = c .before .before in
+    passed-sought (now (s .args .records)) (now (s .args .rules)) (s .args .n) (s .args .wanted)
+    (λ k. c .before .shared-slice-known .given k .fits)
+    (c .passed .ensures)
 
 mul-if1 : tie.Need-mul-if1 Inv-loop μ-loop
-mul-if1 c = omega (arith, c .before .before .before .pre .names)
+mul-if1 c = omega (arith, c .before .before .before .before .pre .names)
 
 shared-slice-read-if1 : tie.Need-shared-slice-read-if1 Inv-loop μ-loop
-shared-slice-read-if1 c = omega (arith, c .before .before .before .before .pre .names)
+shared-slice-read-if1 c = omega (arith, c .before .before .before .before .before .pre .names)
 
 cast-if1 : tie.Need-cast-if1 Inv-loop μ-loop
 cast-if1 c = omega (arith, c .shared-slice-known2 .given (c .before .before .loop .i))
 
 entry-requires : tie.Need-entry-requires Inv-loop μ-loop
-entry-requires c κs = record {
-  room = omega (
-    arith,
-    c .before .before .before .before .before .pre .room,
-    c .before
-        .before .loop-test .taken,
-  );
-}
+entry-requires c κs =
+    record { room = omega (arith, c .before .before .before .before .before .before .pre .room, c .before .before .loop-test .taken) }
 
 returns : tie.Need-returns Inv-loop μ-loop
 returns c = sought-stop (c .before .before .before .before .loop .inv) (c .before .before .before .loop-test .taken)
@@ -50,6 +55,8 @@ rule-in-spec =
     (tie.spec
     Inv-loop
     μ-loop
+    cast-passed
+    passed-requires
     loop-holds
     mul-if1
     shared-slice-read-if1
