@@ -1,12 +1,12 @@
 -- What is answered of a slip of each outcome, from what the code's functions found: 17 where a test of a range failed, and else yes or no
 -- by the facts.
-use mathlib.Core.Path.{_≡_, refl, sym, _∙_, ap, ap₂, subst}
-use mathlib.Core.List.{List, [], _∷_}
-use mathlib.Core.Bool.{Bool, true, false, cond, _&&_}
-use Prim.Native.Nat.{ℕ, zero, suc, _+_, _≤_, _<_}
+use mathlib.Core.Path.{_≡_, refl, sym, _∙_, ap, subst}
+use mathlib.Core.List.{List}
+use mathlib.Core.Bool.{Bool, true, false, _&&_}
+use Prim.Native.Nat.{ℕ, zero, suc, _+_, _≤_}
 use native.Mathlib.Omega.{arith}
-use lib.Dec.{T, leb→le, le→leb}
-use lib.IntN.{ℤ, pos, negsuc, natAbs, _*ℤ_}
+use lib.Dec.{T, leb→le}
+use lib.IntN.{ℤ, pos, negsuc, _*ℤ_}
 use lib.Signed.{leZ, ltZ, leZ-yes}
 use Rattle.ints.specs.Within.{Within}
 use Rattle.ints.proofs.Machine.{within-range, within-read}
@@ -18,18 +18,18 @@ use Rattle.lp.specs.declared.Point.{Point}
 use Rattle.lp.specs.declared.Ray.{Ray}
 use Rattle.lp.specs.declared.Outcome.{Outcome}
 use Rattle.lp.specs.declared.Outcome.the-variants as outcome
-use Rattle.lp.specs.Program.{floorX, floorY, system}
+use Rattle.lp.specs.Program.{along, rise, floorX, floorY, system}
 use Rattle.lp.specs.Outcome.{every, keeps, allowed}
 use Rattle.lp.specs.Document.{same}
-use Rattle.lp.specs.Range.{SmallConstraint, SmallSystem}
+use Rattle.lp.specs.Range.{SmallSystem}
 use Rattle.slip.specs.declared.Weights.{Weights}
 use Rattle.slip.specs.declared.Verdict.{Verdict}
 use Rattle.slip.specs.declared.named.Slots.{Slots}
 use Rattle.slip.specs.Facts.{shares, distinct, ranges, pairInRange, rayInRange, weightInRange, shareInRange, sums, tightAll}
 use Rattle.slip.specs.Facts.{answered, inRange, holds}
-use Rattle.slip.specs.Slots.{slotsOf, soundOf, totalOf, tightOf, balancedOf, refutesOf, provesOf, lawfulOf, saidOf, refusedAs}
+use Rattle.slip.specs.Slots.{slotsOf, soundOf, totalOf, tightOf, balancedOf, refutesOf, provesOf, saidOf, refusedAs}
 use Rattle.slip.specs.Slots.{Proving, SmallSlots}
-use Rattle.slip.specs.Runs.{entries, indices, Entries, Chain, Allowing, Going, SmallPair, SmallDirection, Naming}
+use Rattle.slip.specs.Runs.{entries, indices, Entries, Chain, SmallPair, SmallDirection, Naming}
 use Rattle.slip.proofs.Shares.{both, sound-exactly, total-sums, tight-all, slots-small, weight-within}
 
 -- ---- ranges as sizes
@@ -247,13 +247,15 @@ module _ (t : Terms) (records : List ℕ) (rules : List Constraint) (w : Weights
   module _ (v : Point) (d : Ray) {p r : Bool} (ep : p ≡ pairInRange v) (er : r ≡ rayInRange d) where
     pub unlimited-said :
         (p && r) ≡ true →
-        {a l : Bool} →
+        {a s g : Bool} →
         a ≡ allowed (system (t .floors) rules) v →
-        l ≡ lawfulOf t rules d →
+        s ≡ every (λ r. leZ (rise r d) (pos 0)) rules →
+        g ≡ ltZ (pos 0) (along (t .objective) d) →
         {x : Verdict} →
-        x ≡ saidOf (a && l) →
+        x ≡ saidOf (a && s && g) →
         x ≡ answered (inRange t records rules (outcome.Unbounded v d) w) (holds t records rules (outcome.Unbounded v d) w)
-    unlimited-said h ea el ex = answered-said (sym (λ i. ep i && er i) ∙ h) (λ i. ea i && el i) ex
+    unlimited-said h {a} {s} {g} ea es eg ex =
+        answered-said (sym (λ i. ep i && er i) ∙ h) (sym (joined a s g) ∙ λ i. ea i && (es i && eg i)) ex
 
     pub unlimited-refused :
         (p && r) ≡ false →

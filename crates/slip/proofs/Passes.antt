@@ -1,7 +1,7 @@
 -- The passes over the chain's runs, from place i to n: what is left of a pass at i gives the answer of the whole. One record says so for
 -- each loop, with its start, its step and its end.
 use mathlib.Core.Path.{_≡_, refl, sym, _∙_, ap, subst}
-use mathlib.Core.List.{List, [], _∷_}
+use mathlib.Core.List.{List}
 use mathlib.Core.Bool.{Bool, true, false, _||_}
 use Prim.Native.Nat.{ℕ, zero, suc, _+_, _-_, _%_, _≤_, _<_}
 use native.Mathlib.Omega.{arith}

@@ -4,14 +4,13 @@ use mathlib.Core.List.{List, [], _∷_}
 use Prim.Native.Nat.{ℕ, zero, suc, _+_, _*_, _≤_, _<_}
 use native.Mathlib.Omega.{arith}
 use lib.ListN.{length, getD}
-use lib.IntN.{ℤ, pos}
+use lib.IntN.{ℤ}
 use Rattle.lp.specs.declared.Constraint.{Constraint}
 use Rattle.lp.specs.declared.Terms.{Terms}
 use Rattle.lp.specs.Range.{SmallConstraint, SmallSystem, SmallTerms}
 use Rattle.records.specs.Layout.{v2}
-use Rattle.records.specs.Header.{headerFault, countOf}
 use Rattle.book.specs.declared.Head.{Head}
-use Rattle.book.specs.Reading.{Reading, refused, accepted, Entry, readOf, passedOf, rulesOf, recordsOf}
+use Rattle.book.specs.Reading.{Reading, refused, accepted, Entry, readOf, rulesOf, recordsOf}
 use Rattle.book.specs.Runs.{Few, putRecords, putRules}
 use Rattle.book.specs.Promises.{headOf, ReadInto}
 use Rattle.book.proofs.Bounds.{chain-count, rules-small, terms-small}
@@ -22,7 +21,7 @@ use Rattle.slip.specs.declared.Slip.{Slip}
 use Rattle.slip.specs.declared.Verdict.{Verdict}
 use Rattle.slip.specs.declared.Verdict.the-variants.{Refused}
 use Rattle.slip.specs.Facts.{none, judged, verdictOf}
-use Rattle.slip.specs.Runs.{entry, entries, indices, Entries, Roomy, Chain}
+use Rattle.slip.specs.Runs.{entry, entries, indices, Roomy, Chain}
 
 length-rules : (es : List Entry) → length (rulesOf es) ≡ length es
 length-rules [] = refl

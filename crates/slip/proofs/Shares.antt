@@ -1,14 +1,12 @@
 -- The three slots say what the list of shares says: they are sound exactly if every share is in range and none is named twice, and then
 -- they have the same sums and are tight at the same pairs. By cases on which slots count, and on each test.
-use mathlib.Core.Path.{_≡_, refl, sym, _∙_, ap, ap₂, subst}
+use mathlib.Core.Path.{_≡_, refl, sym, _∙_, ap, subst}
 use mathlib.Core.List.{List, [], _∷_}
 use mathlib.Core.Bool.{Bool, true, false, not, cond, _&&_, _||_}
-use Prim.Native.Nat.{ℕ, zero, suc, _≤_, _<_}
-use native.Mathlib.Omega.{arith}
+use Prim.Native.Nat.{ℕ, zero, suc}
 use lib.Dec.{T, eqb}
-use lib.IntN.{ℤ, pos, negsuc, natAbs, negℤ, _+ℤ_, _-ℤ_, _*ℤ_}
+use lib.IntN.{ℤ, pos, negsuc, _+ℤ_, _-ℤ_, _*ℤ_}
 use lib.Signed.{leZ, ltZ, leZ-yes}
-use Rattle.ints.specs.Order.{_≤ᶻ_}
 use Rattle.ints.specs.Within.{Within}
 use Rattle.ints.proofs.Order.{le-trans}
 use Rattle.ints.proofs.Ring.{ring, _⊕_, _⊖_, _⊗_, _≐_, con}
@@ -25,10 +23,9 @@ use Rattle.lp.specs.Document.{same}
 use Rattle.slip.specs.declared.Weights.{Weights}
 use Rattle.slip.specs.declared.named.Named.{Named}
 use Rattle.slip.specs.declared.named.Named.the-variants.{Nowhere, At}
-use Rattle.slip.specs.declared.named.Slot.{Slot}
 use Rattle.slip.specs.declared.named.Slots.{Slots}
-use Rattle.slip.specs.Facts.{Share, share, shares, distinct, none, adding, ranges, weightInRange}
-use Rattle.slip.specs.Facts.{entryOf, ruleIn, isEntry, entryRule, ruleAt, shareInRange, sums, tightAll}
+use Rattle.slip.specs.Facts.{Share, share, shares, distinct, none, weightInRange}
+use Rattle.slip.specs.Facts.{entryOf, ruleIn, isEntry, entryRule, shareInRange, sums, tightAll}
 use Rattle.slip.specs.Slots.{slotWith, slotsWith, blankOf, weighedOf, slotOf, slotsOf, apartOf, soundOf, totalOf, tightOf}
 use Rattle.slip.specs.Slots.{one, two, three, SmallSlot, SmallSlots}
 

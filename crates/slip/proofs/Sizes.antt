@@ -1,18 +1,17 @@
 -- Every value that an exact computation makes on its way fits 64 bits, and what one function asks follows from what its caller has. An
 -- i64 that a call takes or returns is read back from its bits, `read z`, which is z where z fits.
-use mathlib.Core.Path.{_≡_, refl, _∙_, ap, sym, subst}
+use mathlib.Core.Path.{_≡_, _∙_, ap, sym}
 use mathlib.Core.Bool.{Bool, true, false, _&&_}
-use Prim.Native.Nat.{ℕ, _^_, _<_, _≤_}
-use native.Mathlib.Omega.{arith}
-use lib.Dec.{T, ltb, leb, leb→le}
-use lib.IntN.{ℤ, pos, negsuc, natAbs, negℤ, _+ℤ_, _-ℤ_, _*ℤ_, +ℤ-idl}
-use lib.Signed.{leZ, ltZ, mag}
+use Prim.Native.Nat.{ℕ, _^_, _<_}
+use lib.Dec.{T, ltb}
+use lib.IntN.{ℤ, pos, negℤ, _+ℤ_, _-ℤ_, _*ℤ_, +ℤ-idl}
+use lib.Signed.{leZ, mag}
 use mir.Syntax.{w64}
 use mir.Val.{SFits}
 use mir.Facts.{toZ-ofZ}
 use Rattle.ints.specs.Within.{Within}
 use Rattle.ints.proofs.Bits.{read}
-use Rattle.ints.proofs.Machine.{within-fits, within-read, within-add, within-sub, within-mul, within-neg, within-numeral, weaken}
+use Rattle.ints.proofs.Machine.{within-fits, within-read, within-add, within-sub, within-mul, within-numeral, weaken}
 use Rattle.lp.specs.declared.Constraint.{Constraint}
 use Rattle.lp.specs.declared.Functional.{Functional}
 use Rattle.lp.specs.declared.Point.{Point}

@@ -1,11 +1,11 @@
 -- What a code names and what a slot holds, from the code's tests on machine numbers; and the three slots as the list of shares.
 use mathlib.Core.Path.{_≡_, refl, sym, _∙_, ap, subst}
-use mathlib.Core.List.{List, [], _∷_}
-use mathlib.Core.Bool.{Bool, true, false, not, cond, _&&_, _||_}
-use Prim.Native.Nat.{ℕ, zero, suc, _-_, _^_, _<_}
+use mathlib.Core.List.{List}
+use mathlib.Core.Bool.{true, false}
+use Prim.Native.Nat.{ℕ, zero, suc, _-_}
 use native.Mathlib.Omega.{arith}
-use lib.IntN.{ℤ, pos, negsuc, natAbs, _+ℤ_, _*ℤ_, +ℤ-idl}
-use lib.Signed.{leZ, ltZ, mag}
+use lib.IntN.{ℤ, pos, natAbs}
+use lib.Signed.{ltZ, mag}
 use mir.Syntax.{w64}
 use mir.Val.{SFits}
 use mir.Facts.{toZ-ofZ}
@@ -20,7 +20,7 @@ use Rattle.slip.specs.declared.named.Named.the-variants.{Nowhere, At}
 use Rattle.slip.specs.declared.named.Slot.{Slot}
 use Rattle.slip.specs.declared.named.Slots.{Slots}
 use Rattle.slip.specs.Facts.{ruleIn, entryOf, none, adding}
-use Rattle.slip.specs.Slots.{slotsWith, totalOf, SmallSlot, SmallSlots}
+use Rattle.slip.specs.Slots.{slotsWith, totalOf, SmallSlots}
 use Rattle.slip.specs.Runs.{Summed}
 use Rattle.slip.proofs.Sizes.{within-unread}
 

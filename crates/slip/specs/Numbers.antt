@@ -1,17 +1,8 @@
 -- The exchange form of a slip, as a controller hands it over: a run of 14 signed numbers, outcome, count, X, Y, D, dx, dy, scale, and then
 -- three times code and weight. What is not used is 0.
-use mathlib.Core.List.{List, [], _∷_}
-use mathlib.Core.Bool.{Bool, true, false, cond, _&&_}
-use Prim.Native.Nat.{ℕ}
-use lib.Dec.{eqb}
-use lib.ListN.{length, getD}
 use lib.IntN.{ℤ, pos}
 use Rattle.lp.specs.declared.Outcome.{Outcome}
 use Rattle.lp.specs.declared.Outcome.the-variants as outcome
-use Rattle.lp.specs.Program.{point, ray}
-use Rattle.lp.specs.Document.{same}
-use Rattle.slip.specs.declared.Weights.{Weights}
-use Rattle.slip.specs.declared.Slip.{Slip}
 
 -- ---- the outcomes' numbers
 

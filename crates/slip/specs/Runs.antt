@@ -2,7 +2,7 @@
 -- one a place, and its rules, three numbers a rule. No function that is called from outside asks anything.
 use mathlib.Core.Path.{_≡_}
 use mathlib.Core.List.{List, [], _∷_}
-use mathlib.Core.Bool.{Bool, true, false, _||_}
+use mathlib.Core.Bool.{Bool, _||_}
 use Prim.Native.Nat.{ℕ, zero, suc, _+_, _*_, _≤_, _<_}
 use lib.Dec.{eqb}
 use lib.ListN.{length, getD}
@@ -141,11 +141,6 @@ pub record Allowing (floors : Floors) (l : List ℤ) (n : ℕ) (v : Point) : Typ
   pub floors-small : SmallFloors floors
   pub entries : Entries l n
   pub pair : SmallPair v
-
-pub record Going (t : Terms) (l : List ℤ) (n : ℕ) (d : Ray) : Type 0 where
-  pub objective : SmallFunctional (t .objective)
-  pub entries : Entries l n
-  pub ray : SmallDirection d
 
 pub record Balancing (scale : ℤ) (f : Functional) : Type 0 where
   pub scale-small : Within 2147352578 scale

@@ -4,16 +4,15 @@ use mathlib.Core.List.{List}
 use mathlib.Core.Bool.{Bool, true, false, not, cond, _&&_, _||_}
 use Prim.Native.Nat.{ℕ}
 use lib.IntN.{ℤ, pos, _*ℤ_}
-use lib.Signed.{leZ, ltZ}
+use lib.Signed.{ltZ}
 use Rattle.ints.specs.Within.{Within}
 use Rattle.lp.specs.declared.Constraint.{Constraint}
 use Rattle.lp.specs.declared.Functional.{Functional}
 use Rattle.lp.specs.declared.Floors.{Floors}
 use Rattle.lp.specs.declared.Terms.{Terms}
 use Rattle.lp.specs.declared.Point.{Point}
-use Rattle.lp.specs.declared.Ray.{Ray}
-use Rattle.lp.specs.Program.{slack, along, rise, system}
-use Rattle.lp.specs.Outcome.{every, allowed}
+use Rattle.lp.specs.Program.{slack, system}
+use Rattle.lp.specs.Outcome.{allowed}
 use Rattle.lp.specs.Certificate.{isZero}
 use Rattle.lp.specs.Range.{SmallConstraint, SmallTerms}
 use Rattle.answers.specs.Refusal.{refusal}
@@ -93,9 +92,6 @@ pub record Proving (t : Terms) (l : List ℤ) (n : ℕ) (v : Point) (s : Slots) 
   pub pair : SmallPair v
   pub slots : SmallSlots s
   pub scale-small : Within 2147352578 scale
-
-abbrev pub lawfulOf : Terms → List Constraint → Ray → Bool
-lawfulOf t rules d = every (λ r. leZ (rise r d) (pos 0)) rules && ltZ (pos 0) (along (t .objective) d)
 
 abbrev pub tightOf : Slots → Point → Bool
 tightOf s v = isZero (slack (s .first .rule) v) && isZero (slack (s .second .rule) v) && isZero (slack (s .third .rule) v)

@@ -31,9 +31,9 @@ ghost use Rattle.lp.specs.declared.Outcome.the-variants as outcome;
 ghost use Rattle.lp.specs.Program.{system};
 ghost use Rattle.lp.specs.Outcome.{allowed as allowedOf};
 ghost use Rattle.slip.specs.Facts.{answered, inRange, holds, judged as judgedOf};
-ghost use Rattle.slip.specs.Slots.{lawfulOf, tightOf, balancedOf, refutesOf, provesOf, saidOf, refusedAs};
+ghost use Rattle.slip.specs.Slots.{tightOf, balancedOf, refutesOf, provesOf, saidOf, refusedAs};
 ghost use Rattle.slip.specs.Slots.{Tight, Proving};
-ghost use Rattle.slip.specs.Runs.{entries, indices, Chain, Allowing, Going, Balancing};
+ghost use Rattle.slip.specs.Runs.{entries, indices, Chain, Allowing, Balancing};
 
 // An allowed pair keeps both floors and every rule.
 fn allowed(floors: Floors, rules: &[i64], n: usize, v: Point) -> bool
@@ -46,18 +46,6 @@ fn allowed(floors: Floors, rules: &[i64], n: usize, v: Point) -> bool
         }
     }
     false
-}
-
-// A lawful direction leaves no rule, and gains.
-fn lawful(t: Terms, rules: &[i64], n: usize, d: Ray) -> bool
-    requires { ⌜ Going t (now rules) n d ⌝ }
-    ensures { λ r. ⌜ r ≡ lawfulOf t (entries (now (rules .entry)) 0 n) d ⌝ }
-{
-    if stays_all(rules, n, d) {
-        gains(t.objective, d)
-    } else {
-        false
-    }
 }
 
 // Each entry holds with equality.
@@ -114,7 +102,7 @@ fn conflict(t: Terms, records: &[u16], rules: &[i64], n: usize, w: Weights) -> V
     }
 }
 
-// Of an unlimited one.
+// Of an unlimited one: a lawful direction leaves no rule, and gains.
 fn unlimited(
     t: Terms,
     records: &[u16],
@@ -130,7 +118,8 @@ fn unlimited(
         (holds t (indices (now (records .entry)) 0 n) (entries (now (rules .entry)) 0 n) (outcome.Unbounded v d) w) ⌝ }
 {
     if pair_in_range(v) & ray_in_range(d) {
-        said(allowed(t.floors, rules, n, v) & lawful(t, rules, n, d))
+        let kept = allowed(t.floors, rules, n, v);
+        said(kept & stays_all(rules, n, d) & gains(t.objective, d))
     } else {
         refused()
     }

@@ -27,7 +27,7 @@ fn check_in(book: &[u8], slip: Slip, records: &mut [u16], rules: &mut [i64]) -> 
 }
 
 // Of a book with 30 rules at most.
-fn check_short(book: &[u8], slip: Slip) -> Verdict
+pub fn check_short(book: &[u8], slip: Slip) -> Verdict
     requires { ⌜ Few v2 (now book) 30 ⌝ }
     ensures { λ r. ⌜ r ≡ verdictOf (readOf v2 (now (book .entry))) slip ⌝ }
 {
@@ -37,7 +37,7 @@ fn check_short(book: &[u8], slip: Slip) -> Verdict
 }
 
 // Of one with 255.
-fn check_middle(book: &[u8], slip: Slip) -> Verdict
+pub fn check_middle(book: &[u8], slip: Slip) -> Verdict
     requires { ⌜ Few v2 (now book) 255 ⌝ }
     ensures { λ r. ⌜ r ≡ verdictOf (readOf v2 (now (book .entry))) slip ⌝ }
 {
@@ -53,16 +53,4 @@ pub fn check_long(book: &[u8], slip: Slip) -> Verdict
     let mut records = [0u16; 4095];
     let mut rules = [0i64; 12285];
     check_in(book, slip, &mut records, &mut rules)
-}
-
-// Of one with 255 at most.
-pub fn check_few(book: &[u8], slip: Slip) -> Verdict
-    requires { ⌜ Few v2 (now book) 255 ⌝ }
-    ensures { λ r. ⌜ r ≡ verdictOf (readOf v2 (now (book .entry))) slip ⌝ }
-{
-    if book.len() <= 434 {
-        check_short(book, slip)
-    } else {
-        check_middle(book, slip)
-    }
 }

@@ -44,8 +44,11 @@ pub enum Verdict {
 pub fn check(book: &[u8], slip: Slip) -> Verdict
     ensures { λ r. ⌜ r ≡ verdictOf (readOf v2 (now (book .entry))) slip ⌝ }
 {
+    if book.len() <= 434 {
+        return lent::check_short(book, slip);
+    }
     if book.len() <= 3584 {
-        lent::check_few(book, slip)
+        lent::check_middle(book, slip)
     } else {
         lent::check_long(book, slip)
     }

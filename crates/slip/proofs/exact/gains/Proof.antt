@@ -1,6 +1,6 @@
 -- `slip::exact::gains` meets its contract.
 use mathlib.Core.Path.{ap}
-use lib.IntN.{ℤ, pos}
+use lib.IntN.{pos}
 use lib.Signed.{ltZ}
 use Rattle.slip.proofs.Sizes.{factors-read, along-factors, sum-read}
 use Rattle.slip.proofs.exact.gains.Statement.{statement}
