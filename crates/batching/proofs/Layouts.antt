@@ -23,7 +23,7 @@ use Rattle.engine.proofs.Laid.{put-other, laid, laid-rules}
 use Rattle.boundary.specs.Size.{horizon}
 use Rattle.sorting.specs.Sorting.{sortOf, sortIn}
 use Rattle.sorting.proofs.Sorted.{sort-keeps, sort-loses-none}
-use Rattle.engine.proofs.Tests.{floors-pass, system-passes}
+use Rattle.amounts.proofs.Tests.{floors-pass, system-passes}
 use Rattle.region.specs.declared.Listed.{Listed}
 use Rattle.region.specs.declared.Listed.the-variants as listed
 use Rattle.region.specs.Listing.{Lists, taken, framed, cornersOf, putPoints}

@@ -29,8 +29,8 @@ use Rattle.compare.specs.Comparing.{isDenominator, lessIn}
 use Rattle.compare.proofs.Points.{less-exact}
 use Rattle.fraction.proofs.Quotients.{unread}
 use Rattle.engine.specs.Sizes.{Risen, Gained}
-use Rattle.engine.proofs.Sizes.{within-unread}
-use Rattle.engine.proofs.Tests.{is-true}
+use Rattle.amounts.proofs.Sizes.{within-unread}
+use Rattle.amounts.proofs.Tests.{is-true}
 use Rattle.batching.specs.Asked.{Summing, Earning, Weighing}
 
 module _ {p x q y : ℤ} (h : Summing p x q y) where

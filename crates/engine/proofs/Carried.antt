@@ -30,7 +30,7 @@ use Rattle.engine.specs.Sizes.{Entries, Stepping, Walking}
 use Rattle.engine.specs.Row.{named, edge, edges, Named}
 use Rattle.engine.specs.Rings.{At, Ring, Inserting, Inserted, Holding}
 use Rattle.engine.specs.Carrying.{Between, SteppingAt, Growing, Grown, Advancing, Advanced, Carrying}
-use Rattle.engine.specs.Tests.{ruleInRange}
+use Rattle.amounts.specs.Tests.{ruleInRange}
 use Rattle.engine.proofs.Rows.{ring-at, ring-small, size-small}
 use Rattle.engine.proofs.Walks.{Walked, entries-grow, stepping, more-taken}
 use Rattle.engine.proofs.Drops.{arc, never-cut}

@@ -19,7 +19,7 @@ use Rattle.engine.specs.declared.insert.Arc.{Arc}
 use Rattle.engine.specs.Row.{edge, edges, Named, frontRow}
 use Rattle.engine.specs.Rings.{Pair, Place, Ring, Turned, Seeking, Sparing, Spared, Cutting, Putting, Cut, Holds, Inserting, Entering}
 use Rattle.engine.specs.Rings.{Inserted}
-use Rattle.engine.proofs.Tests.{both}
+use Rattle.amounts.proofs.Tests.{both}
 use Rattle.engine.proofs.Rows.{ring-pair, edges-last}
 use Rattle.engine.proofs.Drops.{arc, never-cut, nothing-named}
 

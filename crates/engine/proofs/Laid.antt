@@ -13,9 +13,9 @@ use Rattle.lp.specs.declared.Constraint.{Constraint}
 use Rattle.lp.specs.declared.Floors.{Floors}
 use Rattle.lp.specs.Program.{constraint, floorX, floorY}
 use Rattle.engine.specs.Entries.{entry, entries, putEntry}
-use Rattle.engine.specs.Tests.{floorsInRange}
+use Rattle.amounts.specs.Tests.{floorsInRange}
 use Rattle.engine.specs.Solving.{Lays}
-use Rattle.engine.proofs.Tests.{both}
+use Rattle.amounts.proofs.Tests.{both}
 
 pub put-length : (l : List ℤ) (k : ℕ) (c : Constraint) → length (putEntry l k c) ≡ length l
 put-length l k c = simp length-set

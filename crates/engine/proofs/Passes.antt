@@ -28,9 +28,10 @@ use Rattle.model.proofs.Bounds.{tighter-small, tightest-small, firstBroken-smal
 use Rattle.engine.specs.Entries.{entry, entries}
 use Rattle.engine.specs.declared.scan.Held.{Held}
 use Rattle.engine.specs.Held.{held, far, farthest, tightened, foundOf}
-use Rattle.engine.proofs.Sizes.{kept-distance}
-use Rattle.engine.proofs.Tests.{is-true}
-use Rattle.engine.specs.Sizes.{Entries, Room, Distance, SmallTriple, Along, Checking, Tightening}
+use Rattle.amounts.proofs.Sizes.{kept-distance}
+use Rattle.amounts.proofs.Tests.{is-true}
+use Rattle.amounts.specs.Sizes.{Distance}
+use Rattle.engine.specs.Sizes.{Entries, Room, SmallTriple, Along, Checking, Tightening}
 
 pub found-parts :
     {f : Found} →

@@ -21,10 +21,11 @@ use Rattle.lp.specs.Outcome.{meet}
 use Rattle.lp.specs.Range.{SmallConstraint, SmallFloors}
 use Rattle.boundary.specs.Size.{size, horizon}
 use Rattle.boundary.specs.Ring.{keepsAt, joined}
-use Rattle.engine.specs.Sizes.{Distance, Lines, Room, Entries}
+use Rattle.amounts.specs.Sizes.{Distance}
+use Rattle.engine.specs.Sizes.{Lines, Room, Entries}
 use Rattle.engine.specs.Row.{named, edge, edges, frontRow, backRow}
 use Rattle.engine.specs.Rings.{At, Meeting, Pair, Place, Ring}
-use Rattle.engine.proofs.Sizes.{within-unread}
+use Rattle.amounts.proofs.Sizes.{within-unread}
 
 -- ---- the corner of two constraints within document 01's bounds is within its own
 

@@ -30,14 +30,14 @@ use Rattle.model.proofs.Bounds.{step-small, begin-small, floorX-small, floorY-s
 use Rattle.engine.specs.declared.Solution.{Solution}
 use Rattle.engine.specs.declared.Solved.the-variants as solved
 use Rattle.engine.specs.declared.Solved.the-variants.{Outside}
-use Rattle.engine.specs.Tests.{ruleInRange}
+use Rattle.amounts.specs.Tests.{ruleInRange}
 use Rattle.engine.specs.Solving.{solutionOf, rulesSolved}
 use Rattle.engine.specs.Entries.{entry, entries}
 use Rattle.engine.specs.Sizes.{Room, Entries, Stepping, Walking, Answering}
 use Rattle.ints.proofs.Bits.{read}
 use Rattle.fraction.proofs.Quotients.{point-same}
-use Rattle.engine.proofs.Sizes.{within-unread}
-use Rattle.engine.proofs.Tests.{rule-small}
+use Rattle.amounts.proofs.Sizes.{within-unread}
+use Rattle.amounts.proofs.Tests.{rule-small}
 use Rattle.engine.proofs.Passes.{entries-small, entries-more, entries-none}
 
 -- ---- the beginning

@@ -26,7 +26,7 @@ use Rattle.boundary.proofs.Ends.{after}
 use Rattle.engine.specs.declared.insert.Arc.{Arc}
 use Rattle.engine.specs.declared.carry.Carried.{Carried}
 use Rattle.engine.specs.Entries.{entry, entries}
-use Rattle.engine.specs.Tests.{ruleInRange}
+use Rattle.amounts.specs.Tests.{ruleInRange}
 use Rattle.engine.specs.Sizes.{Entries, Restarting, Moving, Improving, Stepping, Walking}
 use Rattle.engine.specs.Rings.{Holding}
 

@@ -31,15 +31,6 @@ pub record Factors (p q s t : ℤ) : Type 0 where
   pub s-small : Within 1000000000 s
   pub t-small : Within 1000000000 t
 
--- of c·d − (a·x + b·y)
-pub record Distance (a x b y c d : ℤ) : Type 0 where
-  pub a-small : Within 32767 a
-  pub x-small : Within 65534000000000 x
-  pub b-small : Within 32767 b
-  pub y-small : Within 65534000000000 y
-  pub c-small : Within 1000000000 c
-  pub d-small : Within 2147352578 d
-
 pub record Lines (r s : Constraint) : Type 0 where
   pub first : SmallConstraint r
   pub second : SmallConstraint s

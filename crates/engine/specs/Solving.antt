@@ -1,4 +1,4 @@
--- The promises of `solve` and `amount`. What `solve` hands back is the model's walk along the rules that stand in the run of numbers, if
+-- The promise of `solve`. What `solve` hands back is the model's walk along the rules that stand in the run of numbers, if
 -- all numbers are within their ranges and the run has room; what the run holds afterwards is the floors before the same rules.
 use mathlib.Core.Path.{_≡_}
 use mathlib.Core.List.{List}
@@ -12,11 +12,9 @@ use Rattle.lp.specs.declared.Functional.{Functional}
 use Rattle.lp.specs.declared.Floors.{Floors}
 use Rattle.lp.specs.declared.Terms.{Terms}
 use Rattle.lp.specs.declared.Point.{Point}
-use Rattle.lp.specs.declared.Amount.{Amount}
 use Rattle.lp.specs.declared.Certificate.{Certificate}
 use Rattle.lp.specs.Program.{point, floorX, floorY}
 use Rattle.lp.specs.Outcome.{every}
-use Rattle.lp.specs.Slack.{amount, slackOf}
 use Rattle.lp.specs.Start.{Start, none, at}
 use Rattle.lp.specs.Document.{tie}
 use Rattle.witness.specs.Witness.{nobody}
@@ -28,7 +26,7 @@ use Rattle.engine.specs.declared.Solution.{Solution}
 use Rattle.engine.specs.declared.Solved.{Solved}
 use Rattle.engine.specs.declared.Solved.the-variants.{Outside, Walked}
 use Rattle.engine.specs.Entries.{entries, putEntry}
-use Rattle.engine.specs.Tests.{ruleInRange, objectiveInRange, floorsInRange, pointInRange}
+use Rattle.amounts.specs.Tests.{ruleInRange, objectiveInRange, floorsInRange}
 
 -- ---- what a walk comes to
 
@@ -86,8 +84,3 @@ pub record Lays (f : Floors) (before : List ℤ) (t : Bool) (after : List ℤ) :
 pub record Solves (t : Terms) (n : ℕ) (before : List ℤ) (r : Solved) (after : List ℤ) : Type 0 where
   pub answer : r ≡ solvedOf t before n
   pub run : after ≡ withFloors (t .floors) before
-
--- ---- the promise of `amount`
-
-abbrev pub amountOf : Constraint → Point → Amount
-amountOf r v = cond (ruleInRange r && pointInRange v) (slackOf r v) (amount (pos 0) (pos 0))

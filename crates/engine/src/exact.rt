@@ -15,7 +15,8 @@ ghost use Rattle.lp.specs.Outcome.{det as detOf, meet as meetOf, keeps as keeps
 ghost use Rattle.lp.specs.Certificate.{isZero};
 ghost use Rattle.lp.specs.Range.{SmallConstraint};
 ghost use Rattle.model.specs.Scan.{facing as facingOf, direction as directionOf};
-ghost use Rattle.engine.specs.Sizes.{Factors, Distance, Lines, Risen, Gained};
+ghost use Rattle.amounts.specs.Sizes.{Distance};
+ghost use Rattle.engine.specs.Sizes.{Factors, Lines, Risen, Gained};
 
 // p·q + s·t
 fn sum(p: i64, q: i64, s: i64, t: i64) -> i64

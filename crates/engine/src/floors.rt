@@ -1,7 +1,7 @@
 // The floors as the first two entries of a run.
 use crate::entries::put_entry;
 use crate::exact::opposite;
-use crate::range::up_to;
+use amounts::range::up_to;
 use lp::Constraint;
 use lp::Floors;
 ghost use Rattle.engine.specs.Solving.{Lays};

@@ -1,6 +1,6 @@
 // The engine: a chain of rules planned, with no byte of a book in sight. Exact arithmetic on 64-bit integers, equal function by function
 // to the functional model of crate `model`. What a private function asks of its numbers is one record, and document 01's bounds answer
-// it; the two functions below ask nothing. The walk goes by passes over the entries, and where these get long along the region's boundary.
+// it; the function below asks nothing. The walk goes by passes over the entries, and where these get long along the region's boundary.
 mod between;
 mod carry;
 mod cone;
@@ -12,7 +12,6 @@ mod grow;
 mod insert;
 mod optimum;
 mod order;
-mod range;
 mod scan;
 mod seeking;
 mod start;
@@ -20,14 +19,13 @@ mod turning;
 mod verdict;
 mod walk;
 
-use lp::Amount;
+use amounts::range::up_to;
 use lp::Certificate;
-use lp::Constraint;
 use lp::Outcome;
 use lp::Point;
 use lp::Terms;
 ghost use mathlib.Core.Path.{_≡_};
-ghost use Rattle.engine.specs.Solving.{Solves, amountOf};
+ghost use Rattle.engine.specs.Solving.{Solves};
 
 // What the walk along a chain of rules comes to: the outcome, the counts, the place and a certificate by index (0 and 1 are the floors, i
 // + 2 is rule i), and the start pair with how often it was worked out. What is not used is zero.
@@ -57,24 +55,10 @@ pub fn solve(terms: Terms, run: &mut [i64], n: usize) -> Solved
     if !floors::lay_floors(floors, &mut *run) {
         return Solved::Outside;
     }
-    if range::up_to(32767, objective.p) & range::up_to(32767, objective.q) {
+    if up_to(32767, objective.p) & up_to(32767, objective.q) {
         if n <= (run.len() - 6) / 3 {
             return walk::walk_rules(objective, floors, run, n);
         }
     }
     Solved::Outside
-}
-
-// How far a point is from a constraint's line, in lowest terms.
-pub fn amount(r: Constraint, v: Point) -> Amount
-    ensures { λ a. ⌜ a ≡ amountOf r v ⌝ }
-{
-    if range::rule_in_range(r) & range::point_in_range(v) {
-        fraction::lowest(exact::slack(r, v), v.d)
-    } else {
-        Amount {
-            numerator: 0,
-            denominator: 0,
-        }
-    }
 }

@@ -11,7 +11,7 @@ use lib.IntN.{ℤ}
 use Rattle.records.specs.Layout.{v2}
 use Rattle.book.specs.Runs.{Few}
 use Rattle.book.proofs.Causes.{count-is, count-small}
-use Rattle.engine.proofs.Tests.{both}
+use Rattle.amounts.proofs.Tests.{both}
 use Rattle.joining.specs.Running.{BothFew, Roomy, bothWithin}
 
 few-of-length : (s : List ℕ) (n : ℕ) → length s ≤ (n + 1) * 14 → Few v2 s n

@@ -10,9 +10,10 @@ use Rattle.lp.specs.Outcome.{det, meet, reduce}
 use Rattle.lp.specs.Range.{SmallConstraint}
 use Rattle.model.proofs.Bounds.{det-small}
 use Rattle.boundary.proofs.Bounds.{meet-x-small, meet-y-small}
-use Rattle.engine.specs.Tests.{ruleInRange}
-use Rattle.engine.specs.Sizes.{Distance, Lines}
-use Rattle.engine.proofs.Tests.{both, rule-small, rule-passes}
+use Rattle.amounts.specs.Tests.{ruleInRange}
+use Rattle.amounts.specs.Sizes.{Distance}
+use Rattle.engine.specs.Sizes.{Lines}
+use Rattle.amounts.proofs.Tests.{both, rule-small, rule-passes}
 use Rattle.lines.specs.Sides.{sideOf, nowhere, cornerOf, Three}
 
 module _ (m p q : Constraint) {r s t : Bool} (er : r ≡ ruleInRange m) (es : s ≡ ruleInRange p) (et : t ≡ ruleInRange q) where

@@ -8,7 +8,7 @@ use Rattle.lp.specs.declared.Point.{Point}
 use Rattle.lp.specs.Program.{point, slack}
 use Rattle.lp.specs.Outcome.{det, meet, reduce}
 use Rattle.lp.specs.Range.{SmallConstraint}
-use Rattle.engine.specs.Tests.{ruleInRange}
+use Rattle.amounts.specs.Tests.{ruleInRange}
 
 abbrev pub sideOf : Constraint → Constraint → Constraint → ℤ
 sideOf m p q = cond (ruleInRange m && ruleInRange p && ruleInRange q) (slack m (meet p q)) (pos 0)

@@ -1,28 +1,16 @@
 // Exact arithmetic of a region's edges: on which side of a line the corner of two others lies, and where that corner is. Every test that
 // the region's boundary needs is a sign of the first. Nothing leaves 64 bits for lawful constraints; other ones get a zero.
+use amounts::range::rule_in_range;
 use fraction::reduce;
-use ints::magnitude;
 use lp::Constraint;
 use lp::Point;
 ghost use mathlib.Core.Path.{_≡_};
 ghost use lib.IntN.{_+ℤ_, _-ℤ_, _*ℤ_};
 ghost use Rattle.lp.specs.Program.{slack as slackOf};
 ghost use Rattle.lp.specs.Outcome.{meet as meetOf};
-ghost use Rattle.engine.specs.Tests.{upTo, ruleInRange};
-ghost use Rattle.engine.specs.Sizes.{Factors, Distance, Lines};
+ghost use Rattle.amounts.specs.Sizes.{Distance};
+ghost use Rattle.engine.specs.Sizes.{Factors, Lines};
 ghost use Rattle.lines.specs.Sides.{sideOf, cornerOf};
-
-fn up_to(n: u64, z: i64) -> bool
-    ensures { λ t. ⌜ t ≡ upTo n z ⌝ }
-{
-    magnitude(z) <= n
-}
-
-fn is_lawful(r: Constraint) -> bool
-    ensures { λ t. ⌜ t ≡ ruleInRange r ⌝ }
-{
-    up_to(32767, r.a) & up_to(32767, r.b) & up_to(1000000000, r.c)
-}
 
 // p·q − s·t
 fn difference(p: i64, q: i64, s: i64, t: i64) -> i64
@@ -64,7 +52,7 @@ fn slack(r: Constraint, v: Point) -> i64
 pub fn side(m: Constraint, p: Constraint, q: Constraint) -> i64
     ensures { λ z. ⌜ z ≡ sideOf m p q ⌝ }
 {
-    if is_lawful(m) & is_lawful(p) & is_lawful(q) {
+    if rule_in_range(m) & rule_in_range(p) & rule_in_range(q) {
         slack(m, meet(p, q))
     } else {
         0
@@ -75,7 +63,7 @@ pub fn side(m: Constraint, p: Constraint, q: Constraint) -> i64
 pub fn corner(p: Constraint, q: Constraint) -> Point
     ensures { λ v. ⌜ v ≡ cornerOf p q ⌝ }
 {
-    if is_lawful(p) & is_lawful(q) {
+    if rule_in_range(p) & rule_in_range(q) {
         let v = meet(p, q);
         if 0 < v.d {
             return reduce(v);

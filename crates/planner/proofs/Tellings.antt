@@ -31,7 +31,7 @@ use Rattle.answers.specs.declared.Refusal.{Refusal}
 use Rattle.answers.specs.Refusal.{refusal, notRefused}
 use Rattle.engine.specs.declared.Solution.{Solution}
 use Rattle.engine.specs.Solving.{isHeld, heldPoint, solutionOf}
-use Rattle.engine.proofs.Tests.{measured}
+use Rattle.amounts.proofs.Tests.{measured}
 use Rattle.model.specs.Bounds.{SmallOutcome, SmallPoint}
 use Rattle.model.specs.declared.Walk.{Walk}
 use Rattle.model.specs.Step.{walk, said, startHeld}

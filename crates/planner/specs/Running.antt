@@ -23,7 +23,8 @@ use Rattle.answers.specs.declared.Answer.{Answer}
 use Rattle.answers.specs.declared.Answer.the-variants.{Refused, Planned}
 use Rattle.answers.specs.Refusal.{refusal, notRefused}
 use Rattle.engine.specs.declared.Solution.{Solution}
-use Rattle.engine.specs.Solving.{solutionOf, amountOf}
+use Rattle.amounts.specs.Amounts.{amountOf}
+use Rattle.engine.specs.Solving.{solutionOf}
 use Rattle.model.specs.Step.{walk}
 use Rattle.text.specs.Append.{Fills}
 use Rattle.panel_row.specs.declared.Row.{Row}

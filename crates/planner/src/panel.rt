@@ -34,7 +34,7 @@ fn row(version: Version, book: &[u8], index: u16, v: Point) -> Row
     let rule = records::rule_at(version, book, index);
     Row {
         label: rule.label,
-        slack: engine::amount(rules::constraint(rule), v),
+        slack: amounts::amount(rules::constraint(rule), v),
     }
 }
 

@@ -16,8 +16,8 @@ use Rattle.lp.specs.Range.{SmallConstraint}
 use Rattle.model.proofs.Bounds.{floorX-small, floorY-small}
 use Rattle.engine.specs.Entries.{entry, entries, putEntry}
 use Rattle.engine.specs.Sizes.{Entries}
-use Rattle.engine.specs.Tests.{ruleInRange, floorsInRange}
-use Rattle.engine.proofs.Tests.{both, rule-small, floors-small}
+use Rattle.amounts.specs.Tests.{ruleInRange, floorsInRange}
+use Rattle.amounts.proofs.Tests.{both, rule-small, floors-small}
 use Rattle.engine.proofs.Laid.{put-length, put-same, put-other, laid, laid-length, laid-x, laid-y}
 use Rattle.boundary.specs.Size.{horizon}
 use Rattle.boundary.specs.Ring.{grown, corners}

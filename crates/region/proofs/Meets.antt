@@ -12,8 +12,9 @@ use Rattle.lp.specs.declared.Point.{Point}
 use Rattle.lp.specs.Program.{constraint}
 use Rattle.lp.specs.Outcome.{meet}
 use Rattle.lp.specs.Range.{SmallConstraint, SmallFloors}
-use Rattle.engine.specs.Sizes.{Distance, Lines}
-use Rattle.engine.proofs.Sizes.{within-unread}
+use Rattle.amounts.specs.Sizes.{Distance}
+use Rattle.engine.specs.Sizes.{Lines}
+use Rattle.amounts.proofs.Sizes.{within-unread}
 use Rattle.boundary.specs.Size.{size, horizon}
 use Rattle.region.specs.Asked.{Meeting}
 

@@ -15,7 +15,7 @@ use Rattle.lp.specs.declared.Floors.{Floors}
 use Rattle.lp.specs.Outcome.{every}
 use Rattle.engine.specs.Entries.{entry, entries}
 use Rattle.engine.specs.Sizes.{Room}
-use Rattle.engine.specs.Tests.{ruleInRange, floorsInRange}
+use Rattle.amounts.specs.Tests.{ruleInRange, floorsInRange}
 use Rattle.region.specs.Listing.{isRule, roomy, taken}
 use Rattle.region.specs.Asked.{Testing}
 

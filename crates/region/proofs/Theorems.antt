@@ -19,7 +19,7 @@ use Rattle.lp.specs.Textbook.{Infeasible}
 use Rattle.theory.proofs.Lists.{for-members, every-of}
 use Rattle.theory.proofs.Enumeration.{allowedVertices}
 use Rattle.engine.specs.Entries.{entry, entries}
-use Rattle.engine.proofs.Tests.{is-true}
+use Rattle.amounts.proofs.Tests.{is-true}
 use Rattle.boundary.proofs.Theorems.{ring-corners, ring-infeasible}
 use Rattle.boundary.proofs.Count.{corners-at-most}
 use Rattle.region.specs.Listing.{chosen, isRule, cornersOf}

@@ -12,7 +12,7 @@ use Rattle.lp.specs.declared.Point.{Point}
 use Rattle.lp.specs.Program.{floorX, floorY}
 use Rattle.lp.specs.Outcome.{every}
 use Rattle.engine.specs.Entries.{entry, entries, putEntry}
-use Rattle.engine.specs.Tests.{ruleInRange, floorsInRange}
+use Rattle.amounts.specs.Tests.{ruleInRange, floorsInRange}
 use Rattle.boundary.specs.Size.{horizon}
 use Rattle.boundary.specs.Ring.{grown, corners}
 use Rattle.region.specs.declared.Listed.{Listed}

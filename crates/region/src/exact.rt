@@ -5,7 +5,8 @@ use lp::Point;
 ghost use mathlib.Core.Path.{_≡_};
 ghost use lib.IntN.{_+ℤ_, _-ℤ_, _*ℤ_};
 ghost use Rattle.lp.specs.Outcome.{meet as meetOf, keeps as keepsOf};
-ghost use Rattle.engine.specs.Sizes.{Factors, Distance, Lines};
+ghost use Rattle.amounts.specs.Sizes.{Distance};
+ghost use Rattle.engine.specs.Sizes.{Factors, Lines};
 ghost use Rattle.boundary.specs.Ring.{keepsAt as keepsAtOf};
 ghost use Rattle.region.specs.Asked.{Meeting};
 

@@ -1,26 +1,14 @@
 // Whether runs have room and numbers are within their ranges, asked before anything is computed of them.
 use crate::edges::entry;
-use ints::magnitude;
-use lp::Constraint;
+use amounts::range::rule_in_range;
+use amounts::range::up_to;
 use lp::Floors;
 ghost use mathlib.Core.Path.{_≡_};
 ghost use Rattle.lp.specs.Outcome.{every};
-ghost use Rattle.engine.specs.Tests.{upTo, ruleInRange, floorsInRange};
+ghost use Rattle.amounts.specs.Tests.{ruleInRange, floorsInRange};
 ghost use Rattle.engine.specs.Entries.{entries};
 ghost use Rattle.region.specs.Listing.{isRule, roomy, taken};
 ghost use Rattle.region.specs.Asked.{Testing};
-
-fn up_to(n: u64, z: i64) -> bool
-    ensures { λ t. ⌜ t ≡ upTo n z ⌝ }
-{
-    magnitude(z) <= n
-}
-
-fn rule_in_range(r: Constraint) -> bool
-    ensures { λ t. ⌜ t ≡ ruleInRange r ⌝ }
-{
-    up_to(32767, r.a) & up_to(32767, r.b) & up_to(1000000000, r.c)
-}
 
 fn floors_in_range(f: Floors) -> bool
     ensures { λ t. ⌜ t ≡ floorsInRange f ⌝ }

@@ -2,7 +2,7 @@
 use borrow.Author.Needs.{needs}
 use borrow.Author.Tests.{not-true, not-false}
 use denote.Ref.{now}
-use Rattle.engine.proofs.Tests.{two-passed}
+use Rattle.amounts.proofs.Tests.{two-passed}
 use Rattle.engine.proofs.Laid.{lays-six}
 use Rattle.engine.proofs.Solves.{unlaid, no-objective, no-room, walking, solved-by}
 use Rattle.engine.proofs.solve.Statement.{statement}

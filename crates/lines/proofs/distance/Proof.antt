@@ -1,6 +1,6 @@
 -- `lines::distance` meets its contract: c·d − (a·x + b·y).
 use mir.Facts.{toZ-ofZ}
-use Rattle.engine.proofs.Sizes.{distance-fits}
+use Rattle.amounts.proofs.Sizes.{distance-fits}
 use Rattle.lines.proofs.distance.Statement.{statement}
 use Rattle.lines.proofs.distance.Tie as tie
 

@@ -1,5 +1,5 @@
 -- `lines::slack` meets its contract: how far a point is from a constraint's line, times d.
-use Rattle.engine.proofs.Sizes.{distance-args, distance-read}
+use Rattle.amounts.proofs.Sizes.{distance-args, distance-read}
 use Rattle.lines.proofs.slack.Statement.{statement}
 use Rattle.lines.proofs.slack.Tie as tie
 

@@ -1,7 +1,8 @@
 -- `batching::exact::backward` meets its contract: the same line the other way.
 use Rattle.ints.proofs.Machine.{within-read, weaken}
 use Rattle.fraction.proofs.Quotients.{ray-same}
-use Rattle.engine.proofs.Sizes.{within-unread, opposite-read}
+use Rattle.amounts.proofs.Sizes.{within-unread}
+use Rattle.engine.proofs.Sizes.{opposite-read}
 use Rattle.batching.proofs.exact.backward.Statement.{statement}
 use Rattle.batching.proofs.exact.backward.Tie as tie
 

@@ -6,7 +6,7 @@ use denote.Ref.{now}
 use Rattle.model.specs.Bounds.{SmallCone}
 use Rattle.model.proofs.Bounds.{narrow-small}
 use Rattle.engine.specs.Entries.{entries}
-use Rattle.engine.proofs.Sizes.{kept-distance}
+use Rattle.amounts.proofs.Sizes.{kept-distance}
 use Rattle.engine.proofs.Steps.{state-parts, step-ended, step-moved, step-failed}
 use Rattle.engine.proofs.between.step_at.Statement.{statement}
 use Rattle.engine.proofs.between.step_at.Tie as tie

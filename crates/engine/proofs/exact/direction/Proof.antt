@@ -1,7 +1,8 @@
 -- `engine::exact::direction` meets its contract: the direction in which a constraint's line is walked.
 use Rattle.ints.proofs.Machine.{within-read, weaken}
 use Rattle.fraction.proofs.Quotients.{ray-same}
-use Rattle.engine.proofs.Sizes.{within-unread, opposite-read}
+use Rattle.amounts.proofs.Sizes.{within-unread}
+use Rattle.engine.proofs.Sizes.{opposite-read}
 use Rattle.engine.proofs.exact.direction.Statement.{statement}
 use Rattle.engine.proofs.exact.direction.Tie as tie
 

@@ -1,5 +1,5 @@
 -- `engine::exact::slack` meets its contract: how far a point is from a constraint's line, times d.
-use Rattle.engine.proofs.Sizes.{distance-args, distance-read}
+use Rattle.amounts.proofs.Sizes.{distance-args, distance-read}
 use Rattle.engine.proofs.exact.slack.Statement.{statement}
 use Rattle.engine.proofs.exact.slack.Tie as tie
 

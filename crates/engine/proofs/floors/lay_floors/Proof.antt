@@ -3,7 +3,7 @@ use borrow.Author.Needs.{needs}
 use denote.Ref.{now}
 use Rattle.ints.proofs.Machine.{within-read, weaken}
 use Rattle.engine.proofs.Sizes.{opposite-read}
-use Rattle.engine.proofs.Tests.{two-passed, floors-small}
+use Rattle.amounts.proofs.Tests.{two-passed, floors-small}
 use Rattle.engine.proofs.Laid.{lays, laid-by, lays-no-room, lays-out-of-range}
 use Rattle.engine.proofs.floors.lay_floors.Statement.{statement}
 use Rattle.engine.proofs.floors.lay_floors.Tie as tie

@@ -4,7 +4,7 @@ use borrow.Author.Tests.{ltb-true}
 use Prim.Native.Nat.{_+_, _-_}
 use native.Mathlib.Omega.{arith}
 use lib.Dec.{ltb}
-use Rattle.engine.proofs.Tests.{both}
+use Rattle.amounts.proofs.Tests.{both}
 use Rattle.engine.proofs.Drops.{never-cut}
 use Rattle.engine.proofs.Insertions.{seek-place, spared-next}
 use Rattle.engine.proofs.insert.spares.Statement.{statement}

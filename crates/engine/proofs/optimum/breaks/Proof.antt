@@ -1,6 +1,6 @@
 -- `engine::optimum::breaks` meets its contract: a best pair that does not keep the new constraint.
 use borrow.Author.Needs.{needs}
-use Rattle.engine.proofs.Sizes.{kept-distance}
+use Rattle.amounts.proofs.Sizes.{kept-distance}
 use Rattle.engine.proofs.Steps.{best-point}
 use Rattle.engine.proofs.optimum.breaks.Statement.{statement}
 use Rattle.engine.proofs.optimum.breaks.Tie as tie

@@ -3,7 +3,8 @@ use mathlib.Core.Path.{refl, ap}
 use Rattle.ints.proofs.Machine.{within-read, weaken}
 use Rattle.engine.specs.Held.{held}
 use Rattle.fraction.proofs.Quotients.{point-same}
-use Rattle.engine.proofs.Sizes.{within-unread, opposite-read}
+use Rattle.amounts.proofs.Sizes.{within-unread}
+use Rattle.engine.proofs.Sizes.{opposite-read}
 use Rattle.engine.proofs.scan.at_infinity.Statement.{statement}
 use Rattle.engine.proofs.scan.at_infinity.Tie as tie
 

@@ -6,7 +6,7 @@ use mathlib.Core.Path.{sym, _∙_}
 use Prim.Native.Nat.{_+_, _-_}
 use native.Mathlib.Omega.{arith}
 use lib.Dec.{leb, ltb}
-use Rattle.engine.proofs.Tests.{both}
+use Rattle.amounts.proofs.Tests.{both}
 use Rattle.engine.proofs.Walks.{Walked, walked-start, walked-room, stepping, walked-step, walked-stop, answering, walked-end}
 use Rattle.engine.proofs.Carried.{walked-carrying}
 use Rattle.engine.proofs.walk.walk_rules.Statement.{statement}

@@ -4,7 +4,7 @@ use borrow.Author.Needs.{needs}
 use Rattle.lp.specs.declared.Constraint.{Constraint}
 use Rattle.records.specs.declared.Rule.{Rule}
 use Rattle.records.specs.Planned.{plannedRule}
-use Rattle.engine.specs.Solving.{amountOf}
+use Rattle.amounts.specs.Amounts.{amountOf}
 use Rattle.planner.proofs.panel.row.Statement.{statement}
 use Rattle.planner.proofs.panel.row.Tie as tie
 

@@ -1,6 +1,6 @@
 -- `region::exact::distance` meets its contract: c·d − (a·x + b·y).
 use mir.Facts.{toZ-ofZ}
-use Rattle.engine.proofs.Sizes.{distance-fits}
+use Rattle.amounts.proofs.Sizes.{distance-fits}
 use Rattle.region.proofs.exact.distance.Statement.{statement}
 use Rattle.region.proofs.exact.distance.Tie as tie
 

@@ -2,7 +2,7 @@
 use mathlib.Core.Path.{ap}
 use lib.IntN.{pos}
 use lib.Signed.{leZ}
-use Rattle.engine.proofs.Sizes.{distance-args, distance-read}
+use Rattle.amounts.proofs.Sizes.{distance-args, distance-read}
 use Rattle.region.proofs.exact.keeps.Statement.{statement}
 use Rattle.region.proofs.exact.keeps.Tie as tie
 

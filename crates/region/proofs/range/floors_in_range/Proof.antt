@@ -1,7 +1,7 @@
 -- `region::range::floors_in_range` meets its contract.
 use borrow.Author.Needs.{needs}
 use mathlib.Core.Bool.{_&&_}
-use Rattle.engine.proofs.Tests.{passed}
+use Rattle.amounts.proofs.Tests.{passed}
 use Rattle.region.proofs.range.floors_in_range.Statement.{statement}
 use Rattle.region.proofs.range.floors_in_range.Tie as tie
 

@@ -1,13 +1,13 @@
--- `engine::range::point_in_range` meets its contract.
+-- `amounts::point_in_range` meets its contract.
 use borrow.Author.Needs.{needs}
 use mathlib.Core.Path.{ap}
 use mathlib.Core.Bool.{_&&_}
 use lib.IntN.{pos}
 use lib.Signed.{ltZ}
 use Rattle.fraction.proofs.Quotients.{unread}
-use Rattle.engine.proofs.Tests.{passed, far-passed}
-use Rattle.engine.proofs.range.point_in_range.Statement.{statement}
-use Rattle.engine.proofs.range.point_in_range.Tie as tie
+use Rattle.amounts.proofs.Tests.{passed, far-passed}
+use Rattle.amounts.proofs.point_in_range.Statement.{statement}
+use Rattle.amounts.proofs.point_in_range.Tie as tie
 
 returns : tie.Need-returns
 returns c =

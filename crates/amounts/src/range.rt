@@ -1,9 +1,7 @@
 // Whether numbers are within their ranges, asked before anything is computed of them. The tests of one rule are joined without a branch.
-use ints::magnitude;
 use lp::Constraint;
-use lp::Point;
 ghost use mathlib.Core.Path.{_≡_};
-ghost use Rattle.engine.specs.Tests.{upTo, ruleInRange, pointInRange};
+ghost use Rattle.amounts.specs.Tests.{upTo, ruleInRange};
 
 // From -n to n. The compiler makes one comparison of the two, and works out no magnitude.
 pub fn up_to(n: u32, z: i64) -> bool
@@ -17,13 +15,4 @@ pub fn rule_in_range(r: Constraint) -> bool
     ensures { λ t. ⌜ t ≡ ruleInRange r ⌝ }
 {
     up_to(32767, r.a) & up_to(32767, r.b) & up_to(1000000000, r.c)
-}
-
-pub fn point_in_range(v: Point) -> bool
-    ensures { λ t. ⌜ t ≡ pointInRange v ⌝ }
-{
-    (magnitude(v.x) <= 65534000000000)
-        & (magnitude(v.y) <= 65534000000000)
-        & up_to(2147352578, v.d)
-        & (0 < v.d)
 }

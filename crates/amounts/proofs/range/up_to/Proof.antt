@@ -1,8 +1,8 @@
--- `engine::range::up_to` meets its contract: a number from -n to n has a magnitude of at most n.
+-- `amounts::range::up_to` meets its contract: a number from -n to n has a magnitude of at most n.
 use borrow.Author.Needs.{needs}
-use Rattle.engine.proofs.Tests.{least-fits, up-to-is}
-use Rattle.engine.proofs.range.up_to.Statement.{statement}
-use Rattle.engine.proofs.range.up_to.Tie as tie
+use Rattle.amounts.proofs.Tests.{least-fits, up-to-is}
+use Rattle.amounts.proofs.range.up_to.Statement.{statement}
+use Rattle.amounts.proofs.range.up_to.Tie as tie
 
 sub-result : tie.Need-sub-result
 sub-result c = least-fits (c .args .n) (c .fits .n .fits)

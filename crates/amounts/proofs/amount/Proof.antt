@@ -1,9 +1,9 @@
--- `engine::amount` meets its contract: how far a point is from a constraint's line, in lowest terms.
+-- `amounts::amount` meets its contract: how far a point is from a constraint's line, in lowest terms.
 use borrow.Author.Needs.{needs}
-use Rattle.engine.proofs.Sizes.{kept-distance}
-use Rattle.engine.proofs.Amounts.{amount-tests, amount-in, amount-out}
-use Rattle.engine.proofs.amount.Statement.{statement}
-use Rattle.engine.proofs.amount.Tie as tie
+use Rattle.amounts.proofs.Sizes.{kept-distance}
+use Rattle.amounts.proofs.Amounts.{amount-tests, amount-in, amount-out}
+use Rattle.amounts.proofs.amount.Statement.{statement}
+use Rattle.amounts.proofs.amount.Tie as tie
 
 slack-requires : tie.Need-slack-requires
 slack-requires c κs =

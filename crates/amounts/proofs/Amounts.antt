@@ -14,10 +14,10 @@ use Rattle.lp.specs.Program.{slack}
 use Rattle.lp.specs.Slack.{amount, lowest, slackOf}
 use Rattle.lp.specs.Range.{SmallConstraint}
 use Rattle.model.specs.Bounds.{SmallPoint}
-use Rattle.engine.specs.Tests.{ruleInRange, pointInRange}
-use Rattle.engine.specs.Solving.{amountOf}
-use Rattle.engine.proofs.Sizes.{within-unread}
-use Rattle.engine.proofs.Tests.{both, rule-small, point-small}
+use Rattle.amounts.specs.Tests.{ruleInRange, pointInRange}
+use Rattle.amounts.specs.Amounts.{amountOf}
+use Rattle.amounts.proofs.Sizes.{within-unread}
+use Rattle.amounts.proofs.Tests.{both, rule-small, point-small}
 
 module _ (r : Constraint) (v : Point) {a b : Bool} (ea : a ≡ ruleInRange r) (eb : b ≡ pointInRange v) where
   pub amount-tests : (a && b) ≡ true → SmallConstraint r × SmallPoint v

@@ -1,9 +1,9 @@
--- `engine::range::rule_in_range` meets its contract.
+-- `amounts::range::rule_in_range` meets its contract.
 use borrow.Author.Needs.{needs}
 use mathlib.Core.Bool.{_&&_}
-use Rattle.engine.proofs.Tests.{passed}
-use Rattle.engine.proofs.range.rule_in_range.Statement.{statement}
-use Rattle.engine.proofs.range.rule_in_range.Tie as tie
+use Rattle.amounts.proofs.Tests.{passed}
+use Rattle.amounts.proofs.range.rule_in_range.Statement.{statement}
+use Rattle.amounts.proofs.range.rule_in_range.Tie as tie
 
 returns : tie.Need-returns
 returns c =
