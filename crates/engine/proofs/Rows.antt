@@ -22,33 +22,41 @@ use Rattle.lp.specs.Range.{SmallConstraint, SmallFloors}
 use Rattle.boundary.specs.Size.{size, horizon}
 use Rattle.boundary.specs.Ring.{keepsAt, joined}
 use Rattle.amounts.specs.Sizes.{Distance}
-use Rattle.engine.specs.Sizes.{Lines, Room, Entries}
+use Rattle.engine.specs.Sizes.{Room, Entries, SmallTriple}
 use Rattle.engine.specs.Row.{named, edge, edges, frontRow, backRow}
-use Rattle.engine.specs.Rings.{At, Meeting, Pair, Place, Ring}
+use Rattle.engine.specs.Rings.{At, Pair, Place, Ring}
 use Rattle.amounts.proofs.Sizes.{within-unread}
 
--- ---- the corner of two constraints within document 01's bounds is within its own
+-- ---- a constraint at a point, or at one at infinity
 
-module _ {h p q : Constraint} (m : Meeting h p q) where
-  pub meeting-lines : Lines p q
-  meeting-lines = record { first = m .p-small; second = m .q-small }
+pub at-point :
+    {r : Constraint} {v : Point} →
+    SmallConstraint r →
+    SmallTriple v →
+    Distance (r .a) (v .x) (r .b) (v .y) (r .c) (v .d)
+at-point h k =
+    record {
+      a-small = h .a-small;
+      x-small = k .x-small;
+      b-small = h .b-small;
+      y-small = k .y-small;
+      c-small = h .c-small;
+      d-small = k .d-small;
+    }
 
-  at-meet : Distance (h .a) (meet p q .x) (h .b) (meet p q .y) (h .c) (meet p q .d)
-  at-meet =
-      record {
-        a-small = m .h-small .a-small;
-        x-small = weaken tt
-            (within-sub (within-mul (m .p-small .c-small) (m .q-small .b-small)) (within-mul (m .q-small .c-small) (m .p-small .b-small)));
-        b-small = m .h-small .b-small;
-        y-small = weaken tt
-            (within-sub (within-mul (m .p-small .a-small) (m .q-small .c-small)) (within-mul (m .q-small .a-small) (m .p-small .c-small)));
-        c-small = m .h-small .c-small;
-        d-small = weaken tt
-            (within-sub (within-mul (m .p-small .a-small) (m .q-small .b-small)) (within-mul (m .q-small .a-small) (m .p-small .b-small)));
-      }
+-- the corner of two constraints within document 01's bounds is within its own
+pub meet-small : {p q : Constraint} → SmallConstraint p → SmallConstraint q → {v : Point} → v ≡ meet p q → SmallTriple v
+meet-small s t e =
+    subst SmallTriple (sym e)
+    (record {
+      x-small = weaken tt (within-sub (within-mul (s .c-small) (t .b-small)) (within-mul (t .c-small) (s .b-small)));
+      y-small = weaken tt (within-sub (within-mul (s .a-small) (t .c-small)) (within-mul (t .a-small) (s .c-small)));
+      d-small = weaken tt (within-sub (within-mul (s .a-small) (t .b-small)) (within-mul (t .a-small) (s .b-small)));
+    })
 
-  pub meeting-distance : {v : Point} → v ≡ meet p q → Distance (h .a) (v .x) (h .b) (v .y) (h .c) (v .d)
-  meeting-distance e = subst (λ (v : Point). Distance (h .a) (v .x) (h .b) (v .y) (h .c) (v .d)) (sym e) at-meet
+-- an edge that was read from the run
+pub read-small : {p r : Constraint} → SmallConstraint p → r ≡ p → SmallConstraint r
+read-small s e = subst SmallConstraint (sym e) s
 
 pub size-small : {f : Floors} → SmallFloors f → SmallConstraint (size f)
 size-small h =
@@ -60,23 +68,6 @@ size-small h =
 
 horizon-small : SmallConstraint horizon
 horizon-small = record { a-small = within-numeral tt; b-small = within-numeral tt; c-small = within-numeral tt }
-
--- edges that were read from the run
-pub meeting-read : {h p q r s : Constraint} → Meeting h p q → r ≡ p → s ≡ q → Meeting h r s
-meeting-read m a b =
-    record {
-      h-small = m .h-small;
-      p-small = subst SmallConstraint (sym a) (m .p-small);
-      q-small = subst SmallConstraint (sym b) (m .q-small);
-    }
-
--- the size, where h meets the edge before its place, and the edge after it
-module _ {D h p q : Constraint} (d : SmallConstraint D) (m : Meeting h p q) where
-  pub before-place : {r : Constraint} → r ≡ p → Meeting D r h
-  before-place a = record { h-small = d; p-small = subst SmallConstraint (sym a) (m .p-small); q-small = m .h-small }
-
-  pub after-place : {s : Constraint} → s ≡ q → Meeting D h s
-  after-place b = record { h-small = d; p-small = m .h-small; q-small = subst SmallConstraint (sym b) (m .q-small) }
 
 -- ---- the size, computed: every number on the way is read back from its bits
 
@@ -147,6 +138,16 @@ module _ {e : List ℤ} {run : List ℕ} {lo n : ℕ} (r : Ring e run lo n) wher
         first = ring-at p a b;
         second = ring-at q c d;
         meeting = record { h-small = s; p-small = ring-small p a b; q-small = ring-small q c d };
+      }
+
+  pub ring-place : {w : Point} → SmallTriple w → (p q : ℕ) → lo ≤ p → p < lo + n → lo ≤ q → q < lo + n → Place e run w p q
+  ring-place s p q a b c d =
+      record {
+        first = ring-at p a b;
+        second = ring-at q c d;
+        first-small = ring-small p a b;
+        second-small = ring-small q c d;
+        w-small = s;
       }
 
 -- ---- rows that hold the same

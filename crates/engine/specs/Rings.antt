@@ -2,18 +2,19 @@
 -- system, whichever system that is; and which of its turnings the run holds is left open, so that any search for a place will do.
 use mathlib.Core.Path.{_≡_}
 use mathlib.Core.List.{List, [], _∷_, _++_}
-use mathlib.Core.Bool.{Bool, true}
-use Prim.Native.Nat.{ℕ, _+_, _*_, _-_, _≤_, _<_}
+use mathlib.Core.Bool.{true}
+use Prim.Native.Nat.{ℕ, _+_, _*_, _-_, _^_, _≤_, _<_}
 use lib.ListN.{length, getD}
 use lib.IntN.{ℤ}
 use Rattle.lp.specs.declared.Constraint.{Constraint}
+use Rattle.lp.specs.declared.Point.{Point}
 use Rattle.lp.specs.Range.{SmallConstraint}
 use Rattle.boundary.specs.Size.{horizon}
 use Rattle.boundary.specs.Ring.{closed}
 use Rattle.boundary.proofs.Insert.{Encloses}
 use Rattle.engine.specs.Entries.{entry, entries}
-use Rattle.engine.specs.Sizes.{Entries}
-use Rattle.engine.specs.Row.{named, edge, edges, Named, frontRow, backRow}
+use Rattle.engine.specs.Sizes.{Entries, SmallTriple}
+use Rattle.engine.specs.Row.{named, edge, edges, Named, following, isBetween, frontRow, backRow}
 use Rattle.engine.specs.declared.insert.Arc.{Arc}
 
 -- ---- one edge, and a corner
@@ -34,9 +35,13 @@ pub record Pair (e : List ℤ) (run : List ℕ) (h : Constraint) (i j : ℕ) : T
   pub second : At e run j
   pub meeting : Meeting h (edge e run i) (edge e run j)
 
-pub record Place (e : List ℤ) (run : List ℕ) (D h : Constraint) (i j : ℕ) : Type 0 where
-  pub pair : Pair e run h i j
-  pub size-small : SmallConstraint D
+-- a constraint whose line meets that of the size in w, at two places
+pub record Place (e : List ℤ) (run : List ℕ) (w : Point) (i j : ℕ) : Type 0 where
+  pub first : At e run i
+  pub second : At e run j
+  pub first-small : SmallConstraint (edge e run i)
+  pub second-small : SmallConstraint (edge e run j)
+  pub w-small : SmallTriple w
 
 -- ---- the ring
 
@@ -49,29 +54,21 @@ pub record Ring (e : List ℤ) (run : List ℕ) (lo n : ℕ) : Type 0 where
 
 -- ---- turning it
 
-pub record Turning (run : List ℕ) (lo n : ℕ) : Type 0 where
-  pub some : 0 < n
-  pub room : lo + n < length run
-
-pub record TurningBack (run : List ℕ) (lo n : ℕ) : Type 0 where
-  pub some : 0 < n
-  pub fits : lo + n ≤ length run
-  pub room : 0 < lo
-
--- by j edges
-pub record Forwards (run : List ℕ) (lo n j : ℕ) : Type 0 where
-  pub some : 0 < n
-  pub room : lo + n + j ≤ length run
-
-pub record Backwards (run : List ℕ) (lo n j : ℕ) : Type 0 where
-  pub some : 0 < n
-  pub fits : lo + n ≤ length run
-  pub room : j ≤ lo
-
--- to begin after the edge at place lo + k
+-- to begin behind its edge k
 pub record TurningTo (run : List ℕ) (lo n k : ℕ) : Type 0 where
   pub inside : k < n
   pub fits : lo + n ≤ length run
+
+-- there is room behind it
+pub record Forwards (run : List ℕ) (lo n k : ℕ) : Type 0 where
+  pub inside : k < n
+  pub room : lo + n + k + 1 ≤ length run
+
+-- there is room before it, and for one more
+pub record Backwards (run : List ℕ) (lo n k : ℕ) : Type 0 where
+  pub inside : k < n
+  pub fits : lo + n ≤ length run
+  pub room : n < lo + k + 1
 
 -- it holds the same edges, and encloses what it enclosed
 pub record Turned (before : List ℕ) (lo n : ℕ) (at : ℕ) (after : List ℕ) : Type 0 where
@@ -83,34 +80,39 @@ pub record Turned (before : List ℕ) (lo n : ℕ) (at : ℕ) (after : List ℕ)
       Encloses D S (edges e before lo n) →
       Encloses D S (edges e after at n)
 
--- ---- the search for the place of h
+-- and edge k is its last, so that the one that followed it is its first
+pub record Faces (before : List ℕ) (lo n k : ℕ) (at : ℕ) (after : List ℕ) : Type 0 where
+  pub turned : Turned before lo n at after
+  pub later : 0 < at
+  pub last : getD after (at + n - 1) 0 ≡ getD before (lo + k) 0
+  pub first : getD after at 0 ≡ getD before (lo + following n k) 0
 
-pub record Ordering (D first x h : Constraint) : Type 0 where
-  pub size-small : SmallConstraint D
-  pub first-small : SmallConstraint first
+-- if there was room
+pub record Turns (before : List ℕ) (lo n k : ℕ) (at : ℕ) (after : List ℕ) : Type 0 where
+  pub same : length after ≡ length before
+  pub faces : 0 < at → Faces before lo n k at after
+
+-- ---- the search for the place of a constraint whose line meets that of the size in w
+
+pub record Ordering (v : Point) (x : Constraint) (w : Point) : Type 0 where
+  pub v-small : SmallTriple v
   pub x-small : SmallConstraint x
-  pub h-small : SmallConstraint h
+  pub w-small : SmallTriple w
 
-pub record Seeking (e : List ℤ) (run : List ℕ) (D h : Constraint) (lo n : ℕ) : Type 0 where
+pub record Seeking (e : List ℤ) (run : List ℕ) (w : Point) (lo n : ℕ) : Type 0 where
   pub ring : Ring e run lo n
   pub two : 2 ≤ n
+  pub w-small : SmallTriple w
+
+pub record Halving (e : List ℤ) (run : List ℕ) (D : Constraint) (w : Point) (lo n : ℕ) : Type 0 where
+  pub seeking : Seeking e run w lo n
   pub size-small : SmallConstraint D
-  pub h-small : SmallConstraint h
+
+-- it is between edge k and the one that follows; k is n where no place was found
+pub record Sought (e : List ℤ) (run : List ℕ) (w : Point) (lo n k : ℕ) : Type 0 where
+  pub between : k < n → isBetween w (edge e run (lo + k)) (edge e run (lo + following n k)) ≡ true
 
 -- ---- what h leaves of the ring
-
--- at the corner behind the edge at place lo + k
-pub record Sparing (e : List ℤ) (run : List ℕ) (D h : Constraint) (lo n k : ℕ) : Type 0 where
-  pub seeking : Seeking e run D h lo n
-  pub inside : k < n
-
--- what the ring encloses it encloses with h too
-pub record Spared (e : List ℤ) (run : List ℕ) (D h : Constraint) (lo n : ℕ) (t : Bool) : Type 0 where
-  pub stays :
-      t ≡ true →
-      (S : List Constraint) →
-      Encloses D S (edges e run lo n) →
-      Encloses D (S ++ (h ∷ [])) (edges e run lo n)
 
 pub record Cutting (e : List ℤ) (run : List ℕ) (h : Constraint) (lo n : ℕ) : Type 0 where
   pub ring : Ring e run lo n
@@ -145,6 +147,10 @@ pub record Cut (e : List ℤ) (before : List ℕ) (i : ℕ) (h : Constraint) (lo
 
 -- ---- h enters
 
+pub record Following (lo n k : ℕ) : Type 0 where
+  pub inside : k < n
+  pub room : lo + n < 2 ^ 64
+
 -- a run of no edges holds no ring, and says nothing; else the ring encloses the system
 abbrev pub Holds : Constraint → List Constraint → List ℤ → List ℕ → ℕ → ℕ → Type 0
 Holds D S e run lo n = 0 < n → Encloses D S (edges e run lo n)
@@ -154,11 +160,6 @@ pub record Inserting (e : List ℤ) (run : List ℕ) (D : Constraint) (i : ℕ) 
   pub size-small : SmallConstraint D
   pub h-small : SmallConstraint h
   pub is : h ≡ named e i
-
--- a ring of two edges or more
-pub record Entering (e : List ℤ) (run : List ℕ) (D : Constraint) (i : ℕ) (h : Constraint) (lo n : ℕ) : Type 0 where
-  pub inserting : Inserting e run D i h lo n
-  pub two : 2 ≤ n
 
 -- where h has cut the ring it is the first edge, and others follow
 pub record Inserted (e : List ℤ) (before : List ℕ) (D : Constraint) (i : ℕ) (h : Constraint) (lo n : ℕ) (next : Arc) (after : List ℕ) :

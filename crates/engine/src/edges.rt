@@ -3,11 +3,13 @@
 use crate::entries::entry;
 use crate::exact::keeps;
 use crate::exact::meet;
+use crate::exact::reaches;
 use lp::Constraint;
+use lp::Point;
 ghost use mathlib.Core.Path.{_≡_};
-ghost use Rattle.boundary.specs.Ring.{keepsAt as keepsAtOf, atPlace};
-ghost use Rattle.engine.specs.Row.{edge as edgeOf};
-ghost use Rattle.engine.specs.Rings.{At, Meeting, Pair, Place};
+ghost use Rattle.boundary.specs.Ring.{keepsAt};
+ghost use Rattle.engine.specs.Row.{edge as edgeOf, isBetween};
+ghost use Rattle.engine.specs.Rings.{At, Pair, Place};
 
 // The edge at place k of the ring's run.
 pub fn edge(run: &[i64], ring: &[u16], k: usize) -> Constraint
@@ -21,40 +23,24 @@ pub fn edge(run: &[i64], ring: &[u16], k: usize) -> Constraint
     entry(run, i - 1)
 }
 
-// Whether the corner of p and q keeps h. Asked of the size of a point, this says that the way from p to q is a turn to the left.
-pub fn keeps_at(h: Constraint, p: Constraint, q: Constraint) -> bool
-    requires { ⌜ Meeting h p q ⌝ }
-    ensures { λ t. ⌜ t ≡ keepsAtOf h p q ⌝ }
-{
-    keeps(h, meet(p, q))
-}
-
 // Whether the corner of the edges at places i and j keeps h.
 pub fn corner_keeps(run: &[i64], ring: &[u16], h: Constraint, i: usize, j: usize) -> bool
     requires { ⌜ Pair (now run) (now ring) h i j ⌝ }
-    ensures { λ t. ⌜ t ≡ keepsAtOf h (edgeOf (now (run .entry)) (now (ring .entry)) i)
+    ensures { λ t. ⌜ t ≡ keepsAt h (edgeOf (now (run .entry)) (now (ring .entry)) i)
         (edgeOf (now (run .entry)) (now (ring .entry)) j) ⌝ }
 {
-    keeps_at(h, edge(run, ring, i), edge(run, ring, j))
+    keeps(h, meet(edge(run, ring, i), edge(run, ring, j)))
 }
 
-// Whether h belongs between the edges at places i and j.
-pub fn at_place(
-    run: &[i64],
-    ring: &[u16],
-    size: Constraint,
-    h: Constraint,
-    i: usize,
-    j: usize,
-) -> bool
-    requires { ⌜ Place (now run) (now ring) size h i j ⌝ }
-    ensures { λ t. ⌜ t ≡ atPlace size h (edgeOf (now (run .entry)) (now (ring .entry)) i)
+// Whether a constraint belongs between the edges at places i and j. The turns from the one to it and from it to the other are asked of the
+// point w in which its line meets that of the size, which is worked out once for the constraint and not for each edge.
+pub fn is_between(run: &[i64], ring: &[u16], w: Point, i: usize, j: usize) -> bool
+    requires { ⌜ Place (now run) (now ring) w i j ⌝ }
+    ensures { λ t. ⌜ t ≡ isBetween w (edgeOf (now (run .entry)) (now (ring .entry)) i)
         (edgeOf (now (run .entry)) (now (ring .entry)) j) ⌝ }
 {
-    let k = edge(run, ring, i);
-    if keeps_at(size, k, h) {
-        let e = edge(run, ring, j);
-        keeps_at(size, h, e)
+    if keeps(edge(run, ring, i), w) {
+        reaches(edge(run, ring, j), w)
     } else {
         false
     }

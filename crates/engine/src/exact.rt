@@ -93,6 +93,14 @@ pub fn keeps(r: Constraint, v: Point) -> bool
     0 <= slack(r, v)
 }
 
+// A point on the constraint's line or beyond it.
+pub fn reaches(r: Constraint, v: Point) -> bool
+    requires { ⌜ Distance (r .a) (v .x) (r .b) (v .y) (r .c) (v .d) ⌝ }
+    ensures { λ t. ⌜ t ≡ leZ (slackOf r v) (pos 0) ⌝ }
+{
+    slack(r, v) <= 0
+}
+
 // A constraint that is never left along a ray.
 pub fn stays(r: Constraint, d: Ray) -> bool
     requires { ⌜ Risen r d ⌝ }

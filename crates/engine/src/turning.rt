@@ -1,68 +1,53 @@
-// Turning the ring within its run: the first edge is put behind the last, or the last before the first. The shorter way to a place is
-// taken if the run has room for it, and else the other; a run twice as long as the ring always has room for one of them.
-ghost use Rattle.engine.specs.Rings.{Turning, TurningBack, Forwards, Backwards, TurningTo, Turned};
-ghost use Prim.Native.Nat.{_+_, _-_};
+// Turning the ring within its run: edge after edge the first is put behind the last, or the last before the first. The shorter way to a
+// place is taken if the run has room for it, and else the other; a run twice as long as the ring always has room for one of them.
+ghost use Rattle.engine.specs.Rings.{Forwards, Backwards, TurningTo, Faces, Turns};
 
-// The first edge behind the last: the ring stands one place higher then.
-fn turn(ring: &mut [u16], lo: usize, n: usize)
-    requires { ⌜ Turning (now ring) lo n ⌝ }
-    ensures { λ u. ⌜ Turned (now (ring .entry)) lo n (lo + 1) (now (ring .exit)) ⌝ }
+// The first edge behind the last, until edge k is the last.
+fn forwards(ring: &mut [u16], lo: usize, n: usize, k: usize) -> usize
+    requires { ⌜ Forwards (now ring) lo n k ⌝ }
+    ensures { λ at. ⌜ Faces (now (ring .entry)) lo n k at (now (ring .exit)) ⌝ }
 {
-    let k = ring[lo];
-    ring[lo + n] = k;
-}
-
-// The last edge before the first: the ring stands one place lower then.
-fn turn_back(ring: &mut [u16], lo: usize, n: usize)
-    requires { ⌜ TurningBack (now ring) lo n ⌝ }
-    ensures { λ u. ⌜ Turned (now (ring .entry)) lo n (lo - 1) (now (ring .exit)) ⌝ }
-{
-    let k = ring[lo + n - 1];
-    ring[lo - 1] = k;
-}
-
-fn forwards(ring: &mut [u16], lo: usize, n: usize, j: usize) -> usize
-    requires { ⌜ Forwards (now ring) lo n j ⌝ }
-    ensures { λ at. ⌜ Turned (now (ring .entry)) lo n at (now (ring .exit)) ⌝ }
-{
-    let end = lo + j;
+    let end = lo + k + 1;
     let mut at = lo;
     while at < end {
-        turn(&mut *ring, at, n);
+        let i = ring[at];
+        ring[at + n] = i;
         at += 1;
     }
     at
 }
 
-fn backwards(ring: &mut [u16], lo: usize, n: usize, j: usize) -> usize
-    requires { ⌜ Backwards (now ring) lo n j ⌝ }
-    ensures { λ at. ⌜ Turned (now (ring .entry)) lo n at (now (ring .exit)) ⌝ }
+// The last edge before the first, until edge k is the last.
+fn backwards(ring: &mut [u16], lo: usize, n: usize, k: usize) -> usize
+    requires { ⌜ Backwards (now ring) lo n k ⌝ }
+    ensures { λ at. ⌜ Faces (now (ring .entry)) lo n k at (now (ring .exit)) ⌝ }
 {
-    let end = lo - j;
+    let end = lo + k + 1 - n;
     let mut at = lo;
     while end < at {
-        turn_back(&mut *ring, at, n);
+        let i = ring[at + n - 1];
         at -= 1;
+        ring[at] = i;
     }
     at
 }
 
-// Turns the ring to begin after its edge k, and says where it stands then: not at the run's start, so that an edge can be put before it.
-// Where the run has no room, it stays as it is.
+// Turns the ring to begin behind its edge k, and says where it stands then: not at the run's start, so that an edge can be put before it.
+// Where the run has no room, that is 0.
 pub fn turn_to(ring: &mut [u16], lo: usize, n: usize, k: usize) -> usize
     requires { ⌜ TurningTo (now ring) lo n k ⌝ }
-    ensures { λ at. ⌜ Turned (now (ring .entry)) lo n at (now (ring .exit)) ⌝ }
+    ensures { λ at. ⌜ Turns (now (ring .entry)) lo n k at (now (ring .exit)) ⌝ }
 {
     let up = k + 1;
     let down = n - up;
     let spare = ring.len() - lo - n;
     if down < lo {
         if (down <= up) | (spare < up) {
-            return backwards(&mut *ring, lo, n, down);
+            return backwards(&mut *ring, lo, n, k);
         }
     }
     if up <= spare {
-        return forwards(&mut *ring, lo, n, up);
+        return forwards(&mut *ring, lo, n, k);
     }
-    lo
+    0
 }

@@ -1,67 +1,77 @@
 -- `engine::seeking::halved` meets its contract: an edge of the ring.
-use mathlib.Core.Path.{sym, subst}
 use Prim.Native.Nat.{_+_, _-_, _/_, _≤_, _<_}
 use native.Mathlib.Omega.{arith}
-use Rattle.lp.specs.Range.{SmallConstraint}
-use Rattle.engine.proofs.Rows.{ring-at, ring-small}
+use Rattle.engine.proofs.Rows.{at-point, meet-small, read-small, ring-at, ring-small}
 use Rattle.engine.proofs.seeking.halved.Statement.{statement}
 use Rattle.engine.proofs.seeking.halved.Tie as tie
 
 abbrev Inv-loop : tie.InvT-loop
-Inv-loop size run ring h lo n first early from₀ to₀ from to = (from < to) × (to ≤ n)
+Inv-loop run ring w lo n v early from₀ to₀ from to = (from < to) × (to ≤ n)
 
 abbrev μ-loop : tie.MeasureT-loop
-μ-loop size run ring h lo n first early from₀ to₀ from to = to - from
+μ-loop run ring w lo n v early from₀ to₀ from to = to - from
 
 edge-requires : tie.Need-edge-requires Inv-loop μ-loop
-edge-requires c κs = ring-at (c .before .pre .ring) (c .before .args .lo) (omega arith) (omega (arith, c .before .pre .two))
+edge-requires c κs =
+    let p = c .before .pre .seeking in
+    ring-at (p .ring) (c .before .args .lo) (omega arith) (omega (arith, p .two))
 
-keeps-at-requires : tie.Need-keeps-at-requires Inv-loop μ-loop
-keeps-at-requires c κs =
+meet-requires : tie.Need-meet-requires Inv-loop μ-loop
+meet-requires c κs =
     let p = c .before .before .pre in
     record {
-      h-small = p .size-small;
-      p-small =
-          subst SmallConstraint (sym (c .edge .ensures))
-          (ring-small (p .ring) (c .before .before .args .lo) (omega arith) (omega (arith, p .two)));
-      q-small = p .h-small;
+      first = p .size-small;
+      second = read-small
+          (ring-small (p .seeking .ring) (c .before .before .args .lo) (omega arith) (omega (arith, p .seeking .two)))
+          (c .edge .ensures);
     }
 
+keeps-requires : tie.Need-keeps-requires Inv-loop μ-loop
+keeps-requires c κs =
+    let p = c .before .before .before .pre .seeking in
+    let first = ring-small (p .ring) (c .before .before .before .args .lo) (omega arith) (omega (arith, p .two)) in
+    at-point (read-small first (c .before .edge .ensures)) (p .w-small)
+
 loop-holds : tie.Need-loop-holds Inv-loop μ-loop
-loop-holds c = (omega (arith, c .before .before .before .pre .two), omega arith)
+loop-holds c = (omega (arith, c .before .before .before .before .pre .seeking .two), omega arith)
 
 add-loop : tie.Need-add-loop Inv-loop μ-loop
-add-loop c = omega (arith, c .loop .inv .0, c .loop .inv .1, c .before .before .before .before .pre .ring .fits)
+add-loop c = omega (arith, c .loop .inv .0, c .loop .inv .1, c .before .before .before .before .before .pre .seeking .ring .fits)
 
 sub-middle : tie.Need-sub-middle Inv-loop μ-loop
 sub-middle c = omega (arith, c .before .loop .inv .0)
 
 add-middle : tie.Need-add-middle Inv-loop μ-loop
-add-middle c = omega (arith, c .before .loop .inv .0, c .before .loop .inv .1, c .before .before .before .before .before .pre .ring .fits)
+add-middle c =
+    let p = c .before .before .before .before .before .before .pre .seeking in
+    omega (arith, c .before .loop .inv .0, c .before .loop .inv .1, p .ring .fits)
 
 add-edge : tie.Need-add-edge Inv-loop μ-loop
-add-edge c = omega (arith, c .before .loop .inv .0, c .before .loop .inv .1, c .before .before .before .before .before .pre .ring .fits)
+add-edge c =
+    let p = c .before .before .before .before .before .before .pre .seeking in
+    omega (arith, c .before .loop .inv .0, c .before .loop .inv .1, p .ring .fits)
 
 edge-requires-2 : tie.Need-edge-requires-2 Inv-loop μ-loop
 edge-requires-2 c κs =
+    let s = c .before .before .before .before .before .before in
     let l = c .before .loop in
-    ring-at (c .before .before .before .before .before .pre .ring)
-    (c .before .before .before .before .before .args .lo + (l .from + (l .to - l .from) / 2)) (omega arith)
-    (omega (arith, l .inv .0, l .inv .1))
+    ring-at (s .pre .seeking .ring) (s .args .lo + (l .from + (l .to - l .from) / 2)) (omega arith) (omega (arith, l .inv .0, l .inv .1))
 
 comes-before-requires : tie.Need-comes-before-requires Inv-loop μ-loop
 comes-before-requires c κs =
-    let p = c .before .before .before .before .before .before .pre in
+    let s = c .before .before .before .before .before .before .before in
+    let p = s .pre .seeking in
     let l = c .before .before .loop in
-    let lo = c .before .before .before .before .before .before .args .lo in
+    let first = ring-small (p .ring) (s .args .lo) (omega arith) (omega (arith, p .two)) in
     record {
-      size-small = p .size-small;
-      first-small = subst SmallConstraint (sym (c .before .before .before .before .edge .ensures))
-          (ring-small (p .ring) lo (omega arith) (omega (arith, p .two)));
+      v-small =
+          meet-small (s .pre .size-small) (read-small first (c .before .before .before .before .before .edge .ensures))
+          (c .before .before .before .before .meet .ensures);
       x-small =
-          subst SmallConstraint (sym (c .edge2 .ensures))
-          (ring-small (p .ring) (lo + (l .from + (l .to - l .from) / 2)) (omega arith) (omega (arith, l .inv .0, l .inv .1)));
-      h-small = p .h-small;
+          read-small
+          (ring-small (p .ring) (s .args .lo + (l .from + (l .to - l .from) / 2)) (omega arith) (omega (arith, l .inv .0, l .inv .1)))
+          (c .edge2 .ensures);
+      w-small = p .w-small;
     }
 
 loop-less : tie.Need-loop-less Inv-loop μ-loop
@@ -92,7 +102,8 @@ halved-spec =
     Inv-loop
     μ-loop
     edge-requires
-    keeps-at-requires
+    meet-requires
+    keeps-requires
     loop-holds
     add-loop
     sub-middle

@@ -1,82 +1,59 @@
--- `engine::seeking::seek` meets its contract: an edge of the ring.
+-- `engine::seeking::seek` meets its contract: a place of the constraint, or none.
+use borrow.Author.Needs.{needs}
+use mathlib.Core.Path.{_∙_, sym}
 use Prim.Native.Nat.{_+_, _-_}
 use native.Mathlib.Omega.{arith}
-use Rattle.engine.proofs.Insertions.{seek-place}
+use Rattle.engine.proofs.Places.{sought-first, sought-inner, sought-last}
+use Rattle.engine.proofs.Rows.{ring-place}
 use Rattle.engine.proofs.seeking.seek.Statement.{statement}
 use Rattle.engine.proofs.seeking.seek.Tie as tie
 
-add-at-place : tie.Need-add-at-place
-add-at-place c = omega (arith, c .before .pre .two, c .before .pre .ring .fits)
-
-at-place-requires : tie.Need-at-place-requires
-at-place-requires c κs =
-    let p = c .before .pre in
+is-between-requires : tie.Need-is-between-requires
+is-between-requires c κs =
+    let p = c .before .pre .seeking in
     let lo = c .before .args .lo in
-    seek-place p lo (lo + 1) (omega arith) (omega (arith, p .two)) (omega arith) (omega (arith, p .two))
+    ring-place (p .ring) (p .w-small) lo (lo + 1) (omega arith) (omega (arith, p .two)) (omega arith) (omega (arith, p .two))
 
 returns : tie.Need-returns
-returns c = omega (arith, c .before .before .before .pre .two)
+returns c = sought-first (c .before .before .before .pre .seeking .two) (sym (c .before .is-between .ensures) ∙ c .if1 .taken)
 
-sub-last : tie.Need-sub-last
-sub-last c = omega (arith, c .before .before .before .pre .two)
-
-add-at-place-2 : tie.Need-add-at-place-2
-add-at-place-2 c = omega (arith, c .before .before .before .pre .two, c .before .before .before .pre .ring .fits)
-
-at-place-requires-2 : tie.Need-at-place-requires-2
-at-place-requires-2 c κs =
-    let p = c .before .before .before .pre in
+is-between-requires-2 : tie.Need-is-between-requires-2
+is-between-requires-2 c κs =
+    let p = c .before .before .before .pre .seeking in
     let a = c .before .before .before .args in
-    seek-place p (a .lo + (a .n - 1)) (a .lo) (omega arith) (omega (arith, p .two)) (omega arith) (omega (arith, p .two))
+    ring-place (p .ring) (p .w-small) (a .lo + (a .n - 1)) (a .lo) (omega arith) (omega (arith, p .two)) (omega arith)
+    (omega (arith, p .two))
 
 returns-2 : tie.Need-returns-2
-returns-2 c = omega (arith, c .before .before .before .before .before .pre .two)
+returns-2 c = sought-last (omega arith) (sym (c .before .is-between2 .ensures) ∙ c .if2 .taken)
 
-halved-requires : tie.Need-halved-requires
-halved-requires c κs = c .before .before .before .before .before .pre
-
-add-p : tie.Need-add-p
-add-p c =
-    let p = c .before .before .before .before .before .before .before .pre in
-    omega (arith, p .two, p .ring .fits)
-
-add-at-place-3 : tie.Need-add-at-place-3
-add-at-place-3 c =
-    let p = c .before .before .before .before .before .before .before .pre in
-    omega (arith, c .if3 .taken, p .two, p .ring .fits)
-
-at-place-requires-3 : tie.Need-at-place-requires-3
-at-place-requires-3 c κs =
-    let p = c .before .before .before .before .before .before .before .pre in
+is-between-requires-3 : tie.Need-is-between-requires-3
+is-between-requires-3 c κs =
+    let p = c .before .before .before .before .before .before .before .pre .seeking in
     let lo = c .before .before .before .before .before .before .before .args .lo in
     let k = c .before .halved .result in
-    seek-place p (lo + k) (lo + k + 1) (omega arith) (omega (arith, c .if3 .taken, p .two)) (omega arith)
-    (omega (arith, c .if3 .taken, p .two))
+    ring-place (p .ring) (p .w-small) (lo + k) (lo + k + 1) (omega arith) (omega (arith, c .if3 .taken)) (omega arith)
+    (omega (arith, c .if3 .taken))
 
 returns-3 : tie.Need-returns-3
-returns-3 c = c .before .before .before .halved .ensures
-
-first-place-requires : tie.Need-first-place-requires
-first-place-requires c κs = c .before .before .before .before .before .before .before .pre
-
-returns-4 : tie.Need-returns-4
-returns-4 c = c .first-place .ensures
+returns-3 c =
+    sought-inner (omega (arith, c .before .before .if3 .taken)) (sym (c .before .is-between3 .ensures) ∙ c .if4 .taken)
 
 pub seek-spec : {M : Type 1} → statement M
 seek-spec =
     tie.close
     (tie.spec
-    add-at-place
-    at-place-requires
+    (λ c. search needs)
+    is-between-requires
     returns
-    sub-last
-    add-at-place-2
-    at-place-requires-2
+    (λ c. search needs)
+    (λ c. search needs)
+    is-between-requires-2
     returns-2
-    halved-requires
-    add-p
-    add-at-place-3
-    at-place-requires-3
+    (λ c κs. search needs)
+    (λ c. search needs)
+    (λ c. search needs)
+    is-between-requires-3
     returns-3
-    first-place-requires
-    returns-4)
+    (λ c κs. search needs)
+    (λ c. search needs))
