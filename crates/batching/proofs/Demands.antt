@@ -29,13 +29,14 @@ use Rattle.theory.proofs.Meaning.{outcome-order-free}
 use Rattle.planner.specs.Planning.{Answers}
 use Rattle.planner.proofs.Demands.{planned}
 use Rattle.batching.specs.declared.Batched.{Batched}
-use Rattle.batching.specs.Objectives.{objectiveAt, objectivesOf, badObjectives}
-use Rattle.batching.specs.Offers.{offerOf, offerBytes, answersFor}
+use Rattle.objectives.specs.Objectives.{objectiveAt, objectivesOf, badObjectives}
+use Rattle.offering.specs.Offers.{offerOf, offerBytes, answersFor}
 use Rattle.batching.specs.Promises.{Batch, declined, answered, batchOf, batchedOf, outputOf, Batches}
-use Rattle.batching.specs.Causes.{WrongObjectives, Declines, own, sixteen, eleven}
-use Rattle.batching.proofs.Sound.{whole-objectives}
-use Rattle.batching.proofs.Written.{length-answers, length-objectives, answer-at}
-use Rattle.batching.proofs.Wrong.{bad-wrong, sound-right}
+use Rattle.objectives.specs.Causes.{WrongObjectives}
+use Rattle.batching.specs.Causes.{Declines, own, sixteen, eleven}
+use Rattle.objectives.proofs.Sound.{whole-objectives}
+use Rattle.offering.proofs.Written.{length-answers, length-objectives, answer-at}
+use Rattle.objectives.proofs.Wrong.{bad-wrong, sound-right}
 
 -- ---- what a batch comes to, cause by cause
 

@@ -1,13 +1,13 @@
 -- The runs that a book's class has: room for its chain, its rules between the floors and the horizon, the ring and its corners.
 use Prim.Native.Nat.{ℕ, _+_, _*_, _-_, _≤_}
-use mathlib.Core.Path.{_≡_, sym, ap, subst}
-use mathlib.Core.Bool.{false}
+use mathlib.Core.Path.{_≡_, ap, _∙_}
+use mathlib.Core.Bool.{true}
 use mathlib.Core.List.{List}
 use native.Mathlib.Omega.{arith}
 use lib.ListN.{length, take}
 use lib.Seq.{length-take-le}
 use lib.IntN.{ℤ}
-use Rattle.lp.specs.Range.{SmallSystem}
+use Rattle.lp.specs.Outcome.{every}
 use Rattle.records.specs.declared.Version.the-variants.{Two}
 use Rattle.records.specs.Layout.{v2}
 use Rattle.records.specs.Header.{headerFault, countOf}
@@ -17,8 +17,11 @@ use Rattle.book.proofs.Bounds.{chain-count}
 use Rattle.book.proofs.Causes.{accepted-clear}
 use Rattle.repacker.proofs.Output.{most-rules}
 use Rattle.engine.specs.Entries.{entries}
-use Rattle.batching.specs.Objectives.{badObjectives}
-use Rattle.batching.specs.Asked.{Roomy, Laying, Answering}
+use Rattle.amounts.specs.Tests.{ruleInRange}
+use Rattle.amounts.proofs.Tests.{floors-pass, system-passes}
+use Rattle.laying.specs.Laying.{within}
+use Rattle.laying.proofs.Layouts.{is-within}
+use Rattle.batching.specs.Asked.{Roomy}
 use Rattle.batching.proofs.Books.{Ready}
 
 pub few-roomy : (s : List ℕ) (n : ℕ) →
@@ -66,22 +69,23 @@ module _ (s : List ℕ) (h : Head) (l : List ℤ) (x : Ready s h l) where
     pub ordered : (after : List ℕ) → length after ≡ length records → length (take (h .n - 0) after) ≡ h .n
     ordered after same = taken-length (h .n) after (named after same)
 
-    pub laying : {order : List ℕ} → length order ≡ h .n → length l ≡ length run → Laying (h .terms .floors) l order ring corners
-    laying {order} eo el =
-        record {
-          floors-small = x .laid .floors-small;
-          few = omega (arith, eo, few-rules);
-          room = omega (arith, eo, el, counted, chain-count v2 s (x .reads), room .rules clear);
-          rules-small = subst (λ (m : ℕ). SmallSystem (entries l 2 m)) (sym eo) (x .laid .rules-small);
-          ring-room = omega (arith, eo, counted, chain-count v2 s (x .reads), room .ring-room clear);
-          corners-room = omega (arith, eo, counted, chain-count v2 s (x .reads), room .corners-room clear);
-        }
-
-    -- what the answers ask for
-    pub answering : {order objectives out : List ℕ} →
+    -- all numbers are within their ranges, and the runs have room
+    pub in-range : (order : List ℕ) →
         length order ≡ h .n →
         length l ≡ length run →
-        badObjectives objectives ≡ false →
-        8 * length objectives ≤ length out →
-        Answering (h .terms .floors) l order ring corners objectives out
-    answering eo el sound fits = record { laying = laying eo el; sound = sound; room = fits }
+        within (h .terms .floors) l (length order) (length ring) (length corners) ≡ true
+    in-range order eo el =
+        is-within (h .terms .floors) l (length order) (length ring) (length corners)
+        (record {
+          order =
+              record {
+                few = omega (arith, eo, few-rules);
+                ring-room = omega (arith, eo, counted, chain-count v2 s (x .reads), room .ring-room clear);
+                corners-room = omega (arith, eo, counted, chain-count v2 s (x .reads), room .corners-room clear);
+                floors = floors-pass {f = h .terms .floors} (x .laid .floors-small);
+              };
+          room = omega (arith, eo, el, counted, chain-count v2 s (x .reads), room .rules clear);
+          rules =
+              ap (λ (m : ℕ). every ruleInRange (entries l 2 m)) eo
+              ∙ system-passes (entries l 2 (h .n)) (x .laid .rules-small);
+        })

@@ -9,8 +9,8 @@ use Rattle.answers.specs.Refusal.{refusal, notRefused}
 use Rattle.records.specs.Layout.{v2}
 use Rattle.book.specs.Reading.{Reading, refused, accepted, readOf, rulesOf}
 use Rattle.batching.specs.declared.Batched.{Batched}
-use Rattle.batching.specs.Objectives.{objectivesOf, badObjectives}
-use Rattle.batching.specs.Offers.{answersFor}
+use Rattle.objectives.specs.Objectives.{objectivesOf, badObjectives}
+use Rattle.offering.specs.Offers.{answersFor}
 
 -- a cause's number and a record, or the bytes of all answers
 pub data Batch : Type 0 where

@@ -1,23 +1,34 @@
 // A batch with its runs of numbers, which are local to a function for each size of book, since clearing the longest takes several times
 // what a short book takes.
 use crate::Batched;
-use crate::objectives::bad_objectives;
-use crate::offers::answer;
 use answers::Refusal;
+use offering::Answered;
+use offering::answer;
 use records::Version;
 ghost use Rattle.records.specs.Layout.{v2};
 ghost use Rattle.book.specs.Runs.{Few};
 ghost use mathlib.Core.Path.{_≡_};
-ghost use Rattle.batching.specs.Promises as promised;
-ghost use Rattle.batching.specs.Promises.{batchedOf, Batches};
-ghost use Rattle.batching.specs.Asked.{Roomy};
+ghost use Rattle.batching.specs.Promises.{Batches};
+ghost use Rattle.batching.specs.Asked.{batchedBy, Roomy};
 
-// A batch that is turned back.
-fn declined(number: u8) -> Batched
-    ensures { λ r. ⌜ r ≡ batchedOf (promised.declined number 0) ⌝ }
+// What a batch hands back for what its objectives were answered. An accepted book's numbers are all within their ranges.
+fn batched(answered: Answered) -> Batched
+    ensures { λ r. ⌜ r ≡ batchedBy answered ⌝ }
 {
-    let refusal = Refusal { number, at: 0 };
-    Batched { refusal, filled: 0 }
+    match answered {
+        Answered::Outside => Batched {
+            refusal: Refusal { number: 0, at: 0 },
+            filled: 0,
+        },
+        Answered::Declined(number) => Batched {
+            refusal: Refusal { number, at: 0 },
+            filled: 0,
+        },
+        Answered::Filled(filled) => Batched {
+            refusal: Refusal { number: 0, at: 0 },
+            filled,
+        },
+    }
 }
 
 // With the runs lent: the book's own refusals, then 16, then 11, and then the answers. The records of the chain give way to the order in
@@ -39,16 +50,9 @@ fn batch_in(
     if refusal.number != 0 {
         return Batched { refusal, filled: 0 };
     }
-    if bad_objectives(objectives) {
-        return declined(16);
-    }
-    let filled = 8 * objectives.len();
-    if out.len() < filled {
-        return declined(11);
-    }
     let terms = head.terms;
     let n = head.n;
-    answer(
+    batched(answer(
         terms.floors,
         run,
         &mut records[0..n],
@@ -56,8 +60,7 @@ fn batch_in(
         corners,
         objectives,
         out,
-    );
-    Batched { refusal, filled }
+    ))
 }
 
 // Of a book with 30 rules at most.

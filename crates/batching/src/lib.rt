@@ -2,13 +2,6 @@
 // each objective gets the outcome and the pair that a plan alone would give. It takes any bytes as a book of version 2, any as objectives,
 // and any output.
 mod classes;
-mod exact;
-mod lay;
-mod objectives;
-mod offers;
-mod order;
-mod picks;
-mod rays;
 
 use answers::Refusal;
 ghost use Rattle.batching.specs.Promises.{Batches};

@@ -1,5 +1,3 @@
--- The corners laid out (Layouts), what they come to for a book (Finishing, Books), and that a list is within its output (Within).
-pub mod Layouts
-pub mod Finishing
+-- The laws of a book's corners: what they come to (Books), and that a list that was written is within the output (Within).
 pub mod Books
 pub mod Within

@@ -1,15 +1,29 @@
 // The corners of a book with the runs that they take, which are local to a function for each size of book, since clearing the longest takes
 // several times what a short book takes.
-use crate::finish::finish;
-use crate::lay::lay;
+use laying::lay;
 use outline::Outlined;
+use outlining::list_corners;
 use records::Version;
+use region::Listed;
+ghost use mathlib.Core.Path.{_≡_};
 ghost use Rattle.records.specs.Layout.{v2};
 ghost use Rattle.book.specs.Runs.{Few};
 ghost use Rattle.outline.specs.Outline.{Outlines};
+ghost use Rattle.laying.proofs.Layouts.{countOf};
 ghost use Rattle.batching.specs.Asked.{Roomy};
 
-// With the runs lent: the book's own refusals, and then the list. The records of the chain give way to the order in which the rules enter.
+// How many points were listed.
+fn count_of(listed: Listed) -> usize
+    ensures { λ r. ⌜ r ≡ countOf listed ⌝ }
+{
+    match listed {
+        Listed::Outside => 0,
+        Listed::Corners(count) => count,
+    }
+}
+
+// With the runs lent: the book's own refusals, and then the list. The records of the chain give way to the order in which the rules enter,
+// which is always that of their angles, and the ring to the order of the corners.
 fn corners_in(
     book: &[u8],
     out: &mut [u8],
@@ -28,14 +42,15 @@ fn corners_in(
     }
     let terms = head.terms;
     let n = head.n;
-    let count = lay(
+    let listed = lay(
         terms.floors,
         run,
         &mut records[0..n],
         &mut *ring,
         &mut *keys,
+        false,
     );
-    finish(&*keys, &mut ring[0..count], out)
+    list_corners(&*keys, count_of(listed), ring, out)
 }
 
 // Of a book with 30 rules at most.

@@ -2,9 +2,6 @@
 // order of their angles, and the boundary's corners are put in order and written without repeats. It takes any bytes as a book of version
 // 2, and any output.
 mod classes;
-mod finish;
-mod lay;
-mod order;
 
 use outline::Outlined;
 ghost use Rattle.outline.specs.Outline.{Outlines};

@@ -36,13 +36,13 @@ module _ (f : Floors) (e : List ℤ) (n : ℕ) where
   pub framed-length : length (framed f e n) ≡ length e
   framed-length = put-length (laid f e) (n + 2) horizon ∙ laid-length f e
 
-  framed-x : 6 ≤ length e → entry (framed f e n) 0 ≡ floorX f
+  pub framed-x : 6 ≤ length e → entry (framed f e n) 0 ≡ floorX f
   framed-x room = put-other (laid f e) (n + 2) horizon 0 (λ c. omega arith) ∙ laid-x f e room
 
-  framed-y : 6 ≤ length e → entry (framed f e n) 1 ≡ floorY f
+  pub framed-y : 6 ≤ length e → entry (framed f e n) 1 ≡ floorY f
   framed-y room = put-other (laid f e) (n + 2) horizon 1 (λ c. omega arith) ∙ laid-y f e room
 
-  framed-horizon : 3 * (n + 3) ≤ length e → entry (framed f e n) (n + 2) ≡ horizon
+  pub framed-horizon : 3 * (n + 3) ≤ length e → entry (framed f e n) (n + 2) ≡ horizon
   framed-horizon room = put-same (laid f e) (n + 2) horizon (omega (arith, laid-length f e))
 
   framed-rule : (k : ℕ) → 2 ≤ k → k < n + 2 → entry (framed f e n) k ≡ entry e k
@@ -102,7 +102,7 @@ chosen-length : (e : List ℤ) (order : List ℕ) → length (chosen e order) �
 chosen-length e [] = refl
 chosen-length e (x ∷ order) = ap suc (chosen-length e order)
 
-chosen-framed :
+pub chosen-framed :
     (f : Floors) (e : List ℤ) (n : ℕ) (order : List ℕ) →
     every (isRule n) order ≡ true →
     chosen (framed f e n) order ≡ chosen e order
