@@ -5,6 +5,7 @@
 pub mod chains;
 mod date;
 pub mod measure;
+pub mod peers;
 pub mod regions;
 
 use chains::Chains;
