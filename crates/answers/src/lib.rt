@@ -2,6 +2,8 @@
 // planner, which fills them, and the writer of lines, which shows them.
 use lp::Certificate;
 use lp::Outcome;
+ghost use mathlib.Core.Path.{_≡_};
+ghost use Rattle.answers.specs.Saying.{saidOf};
 
 // The number of the cause that turns something back, and the record that it names (0 where it names none). Where nothing is turned back,
 // both are 0.
@@ -25,4 +27,15 @@ pub struct Plan {
 pub enum Answer {
     Refused(Refusal),
     Planned(Plan),
+}
+
+// What is said of a refusal and a plan of which one counts: the refusal, if it turns something back, and else the plan.
+pub fn said(refusal: Refusal, plan: Plan) -> Answer
+    ensures { λ r. ⌜ r ≡ saidOf refusal plan ⌝ }
+{
+    if refusal.number == 0 {
+        Answer::Planned(plan)
+    } else {
+        Answer::Refused(refusal)
+    }
 }

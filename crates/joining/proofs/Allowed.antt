@@ -14,7 +14,7 @@ use Rattle.lp.specs.declared.Constraint.{Constraint}
 use Rattle.lp.specs.declared.Floors.{Floors}
 use Rattle.lp.specs.declared.Point.{Point}
 use Rattle.lp.specs.Program.{Keeps, Feasible, slack, constraint, floorX, floorY, system}
-use Rattle.joining.specs.Joining.{greater, greaterFloors}
+use Rattle.joint_terms.specs.Terms.{greater, greaterFloors}
 
 -- ---- members of two lists in turn
 

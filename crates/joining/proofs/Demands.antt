@@ -33,8 +33,9 @@ use Rattle.plans.proofs.Ordered.{InOrder, NoneTwice}
 use Rattle.plans.proofs.Demands as list
 use Rattle.joining.specs.declared.JointAnswer.{JointAnswer}
 use Rattle.joining.specs.declared.JointAnswer.the-variants.{SiteRefused, TenantRefused, Planned}
-use Rattle.joining.specs.Joining.{joinedTerms, joinedNames, joinedRules, joinedOf, PlannedBy, JoinedBy, Joins, ruleNamed}
-use Rattle.joining.proofs.Greater.{joined-small}
+use Rattle.joining.specs.Joining.{joinedNames, joinedRules, joinedOf, PlannedBy, JoinedBy, Joins, ruleNamed}
+use Rattle.joint_terms.specs.Terms.{joinedTerms}
+use Rattle.joint_terms.proofs.Compared.{joined-small}
 use Rattle.joining.proofs.Joins.{small-append}
 use Rattle.joining.proofs.Named.{joined-named, looked, rules-many}
 use Rattle.joining.proofs.Allowed.{allowed-by-both}

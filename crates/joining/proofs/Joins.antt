@@ -32,10 +32,11 @@ use Rattle.plans.proofs.Finish.{finished}
 use Rattle.joining.specs.declared.JointAnswer.{JointAnswer}
 use Rattle.joining.specs.declared.JointAnswer.the-variants.{SiteRefused, TenantRefused, Planned}
 use Rattle.joining.specs.declared.read.Heads.{Heads}
-use Rattle.joining.specs.Joining.{joinedTerms, tenantName, joinedNames, joinedRules, joinedOf, JoinedBy, Joins}
+use Rattle.joining.specs.Joining.{tenantName, joinedNames, joinedRules, joinedOf, JoinedBy, Joins}
+use Rattle.joint_terms.specs.Terms.{joinedTerms}
 use Rattle.joining.specs.Running.{Laid, ReadsBoth, Renaming, Renamed}
 use Rattle.joining.proofs.Both.{length-rules, length-records}
-use Rattle.joining.proofs.Greater.{joined-small}
+use Rattle.joint_terms.proofs.Compared.{joined-small}
 
 -- ---- of lists
 

@@ -2,7 +2,6 @@
 pub mod Behind
 pub mod Renames
 pub mod Both
-pub mod Greater
 pub mod Joins
 pub mod Classes
 pub mod Allowed

@@ -25,7 +25,8 @@ use Rattle.witness.specs.Witness.{nobody, coded, rising}
 use Rattle.plans.specs.Planning.{Proves, Witnessed, PlannedAs}
 use Rattle.joining.specs.declared.JointAnswer.{JointAnswer}
 use Rattle.joining.specs.declared.JointAnswer.the-variants.{Planned}
-use Rattle.joining.specs.Joining.{greater, greaterFloors, joinedTerms, tenantName, Joins}
+use Rattle.joining.specs.Joining.{tenantName, Joins}
+use Rattle.joint_terms.specs.Terms.{greater, greaterFloors, joinedTerms}
 use Rattle.joining.proofs.Demands.{planned}
 
 -- the least floors that a header can hold

@@ -7,8 +7,6 @@ use mathlib.Core.Bool.{true, false, cond}
 use mathlib.Core.List.{List, _++_, map}
 use Prim.Native.Nat.{ℕ, zero, suc, _+_, _-_}
 use lib.Dec.{ltb}
-use lib.IntN.{ℤ}
-use lib.Signed.{leZ}
 use Rattle.lp.specs.declared.Constraint.{Constraint}
 use Rattle.lp.specs.declared.Floors.{Floors}
 use Rattle.lp.specs.declared.Terms.{Terms}
@@ -19,21 +17,11 @@ use Rattle.records.specs.Planned.{plannedRule}
 use Rattle.book.specs.Reading.{Reading, refused, accepted, Entry, readOf, rulesOf, recordsOf}
 use Rattle.answers.specs.Refusal.{refusal}
 use Rattle.plans.specs.Planning.{PlannedAs}
+use Rattle.joint_terms.specs.Terms.{joinedTerms}
 use Rattle.joining.specs.declared.JointAnswer.{JointAnswer}
 use Rattle.joining.specs.declared.JointAnswer.the-variants.{SiteRefused, TenantRefused, Planned}
 
 -- ---- the single list
-
--- of each floor the greater
-abbrev pub greater : ℤ → ℤ → ℤ
-greater y z = cond (leZ y z) z y
-
-abbrev pub greaterFloors : Floors → Floors → Floors
-greaterFloors f g = record { lx = greater (f .lx) (g .lx); ly = greater (f .ly) (g .ly) }
-
--- the objective is the tenant's
-abbrev pub joinedTerms : Terms → Terms → Terms
-joinedTerms t u = record { objective = u .objective; floors = greaterFloors (t .floors) (u .floors) }
 
 -- a record of the tenant's book
 abbrev pub tenantName : ℕ → ℕ

@@ -3,7 +3,6 @@
 // total: it takes any two runs of bytes and answers.
 mod read;
 mod run;
-mod terms;
 
 use answers::Plan;
 use answers::Refusal;

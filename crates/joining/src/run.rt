@@ -2,8 +2,8 @@
 use crate::JointAnswer;
 use crate::read::read_both;
 use crate::read::rename;
-use crate::terms::joined_terms;
 use engine::Solved;
+use joint_terms::joined_terms;
 ghost use Rattle.joining.specs.Joining.{Joins};
 ghost use Rattle.joining.specs.Running.{Roomy};
 

@@ -6,10 +6,10 @@ mod input;
 
 use answers::Answer;
 use answers::Refusal;
+use answers::said;
 use input::Line;
 use input::read_line;
 use session_lines::Asked;
-use session_lines::said;
 use sessions::Session;
 use sessions::Step;
 ghost use Rattle.sessions.specs.Sessions.{IsSession};

@@ -1,12 +1,9 @@
-// The lines of the session program: any bytes are read as a step with its numbers or as no step, and what a step hands back is said as an
-// answer.
+// The lines of the session program: any bytes are read as a step with its numbers or as no step.
 mod digits;
 mod numbers;
 mod steps;
 mod words;
 
-use answers::Answer;
-use answers::Plan;
 use answers::Refusal;
 use records::Rule;
 use steps::added;
@@ -15,7 +12,6 @@ use steps::typed;
 use words::begins;
 ghost use mathlib.Core.Path.{_≡_};
 ghost use Rattle.session_lines.specs.Lines.{lineIn};
-ghost use Rattle.session_lines.specs.Saying.{saidOf};
 
 // An objective and floors.
 pub struct Beginning {
@@ -53,15 +49,4 @@ pub fn read_line(text: &[u8]) -> Asked
         }
     }
     Asked::Nothing
-}
-
-// What a step says: its refusal, or the plan.
-pub fn said(refusal: Refusal, plan: Plan) -> Answer
-    ensures { λ r. ⌜ r ≡ saidOf refusal plan ⌝ }
-{
-    if refusal.number == 0 {
-        Answer::Planned(plan)
-    } else {
-        Answer::Refused(refusal)
-    }
 }

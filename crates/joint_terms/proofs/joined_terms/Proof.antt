@@ -1,8 +1,8 @@
--- `joining::terms::joined_terms` meets its contract: the tenant's objective, and of each floor the greater.
+-- `joint_terms::joined_terms` meets its contract: the tenant's objective, and of each floor the greater.
 use borrow.Author.Needs.{needs}
-use Rattle.joining.proofs.Greater.{greater-read}
-use Rattle.joining.proofs.terms.joined_terms.Statement.{statement}
-use Rattle.joining.proofs.terms.joined_terms.Tie as tie
+use Rattle.joint_terms.proofs.Compared.{greater-read}
+use Rattle.joint_terms.proofs.joined_terms.Statement.{statement}
+use Rattle.joint_terms.proofs.joined_terms.Tie as tie
 
 returns : tie.Need-returns
 returns c =

@@ -1,7 +1,7 @@
--- `joining::terms::greater` meets its contract.
-use Rattle.joining.proofs.Greater.{second-greater, first-greater}
-use Rattle.joining.proofs.terms.greater.Statement.{statement}
-use Rattle.joining.proofs.terms.greater.Tie as tie
+-- `joint_terms::greater` meets its contract.
+use Rattle.joint_terms.proofs.Compared.{second-greater, first-greater}
+use Rattle.joint_terms.proofs.greater.Statement.{statement}
+use Rattle.joint_terms.proofs.greater.Tie as tie
 
 returns : tie.Need-returns
 returns c = second-greater (c .before .fits .a) (c .before .fits .b) (c .if1 .taken)

@@ -1,10 +1,10 @@
--- `session_lines::said` meets its contract: no refusal has the number 0.
+-- `answers::said` meets its contract: no refusal has the number 0.
 use mathlib.Core.Path.{ap, sym}
 use mathlib.Core.Bool.{Bool, cond}
 use Rattle.answers.specs.declared.Answer.the-variants.{Planned, Refused}
 use borrow.Author.Tests.{eq-eqb, ne-eqb}
-use Rattle.session_lines.proofs.said.Statement.{statement}
-use Rattle.session_lines.proofs.said.Tie as tie
+use Rattle.answers.proofs.said.Statement.{statement}
+use Rattle.answers.proofs.said.Tie as tie
 
 returns : tie.Need-returns
 returns c =

@@ -9,7 +9,7 @@ use mir.Facts.{toZ-ofZ}
 use Rattle.ints.specs.Within.{Within}
 use Rattle.lp.specs.declared.Terms.{Terms}
 use Rattle.lp.specs.Range.{SmallTerms}
-use Rattle.joining.specs.Joining.{greater, joinedTerms}
+use Rattle.joint_terms.specs.Terms.{greater, joinedTerms}
 use Prim.Native.Nat.{ℕ}
 
 abbrev read : ℤ → ℤ

@@ -1,8 +1,9 @@
-// What two books are planned under: the tenant's objective, and of each floor the greater.
+// What two books are planned under: the tenant's objective, and of each floor the greater. The function that can be called from outside is
+// total.
 use lp::Floors;
 use lp::Terms;
 ghost use mathlib.Core.Path.{_≡_};
-ghost use Rattle.joining.specs.Joining.{greater as greaterOf, joinedTerms};
+ghost use Rattle.joint_terms.specs.Terms.{greater as greaterOf, joinedTerms};
 
 // The greater of two numbers.
 fn greater(a: i64, b: i64) -> i64

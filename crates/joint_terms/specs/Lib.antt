@@ -1,0 +1,2 @@
+-- What two books are planned under.
+pub mod Terms
