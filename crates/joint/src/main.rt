@@ -8,7 +8,7 @@ use libc::STDOUT_FILENO;
 // The line of two books.
 fn show(site: &[u8], tenant: &[u8]) {
     let mut line = [0u8; 256];
-    let end = joint_line::write_joint_line(joining::join(site, tenant), &mut line);
+    let end = joint_line::line_of_books(site, tenant, &mut line);
     io::write_all(STDOUT_FILENO, &line[..end]);
 }
 

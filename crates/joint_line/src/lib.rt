@@ -11,6 +11,7 @@ use report::Naming;
 use text::append_word;
 ghost use Rattle.text.specs.Append.{Fills};
 ghost use Rattle.joint_line.specs.JointLine.{refusedLine, JointWritten};
+ghost use Rattle.joint_line.specs.OfBooks.{JointLine};
 
 // The line of a book that is turned back.
 fn refused_line(tenant: bool, refusal: Refusal, out: &mut [u8]) -> usize
@@ -34,4 +35,11 @@ pub fn write_joint_line(answer: JointAnswer, out: &mut [u8]) -> usize
         JointAnswer::TenantRefused(refusal) => refused_line(true, refusal, out),
         JointAnswer::Planned(plan) => write_line_of(Naming::TwoBooks, Answer::Planned(plan), out),
     }
+}
+
+// The line of a site's and a tenant's book, in the same way.
+pub fn line_of_books(site: &[u8], tenant: &[u8], out: &mut [u8]) -> usize
+    ensures { λ r. ⌜ JointLine (now (site .entry)) (now (tenant .entry)) (now (out .entry)) (now (out .exit)) r ⌝ }
+{
+    write_joint_line(joining::join(site, tenant), out)
 }

@@ -1,4 +1,2 @@
--- Laws that the proofs of the loaded functions cite (Buffers, Counted), and what a caller can tell from what the view hands back (HandedBack).
-pub mod Buffers
+-- What the proof of the corners' function cites.
 pub mod Counted
-pub mod HandedBack

@@ -4,30 +4,21 @@
 // 2's end in 2.
 mod corners;
 mod exchange;
-pub mod joint;
+mod joint;
 mod prices;
 
-use handed::told;
 use records::Version;
-ghost use mathlib.Core.Path.{_≡_};
-ghost use Rattle.records.specs.Layout.{v1, v2, layoutOf};
+ghost use Rattle.records.specs.Layout.{v1, v2};
 ghost use Rattle.planner.specs.Panel.{Panels};
-ghost use Rattle.vishalneq.specs.Loaded.{PlanLine, StartWritten, RepackWritten};
+ghost use Rattle.one_book.specs.Loaded.{PlanLine, StartWritten, RepackWritten};
 
-// The line of a book: written at the start of a buffer of at least 256 bytes, with its length. A smaller buffer is left as it is, and 0
-// handed back.
-fn plan_line(version: Version, book: &[u8], out: &mut [u8]) -> usize
-    ensures { λ r. ⌜ PlanLine (layoutOf version) (now (book .entry)) (now (out .entry)) (now (out .exit)) r ⌝ }
-{
-    answer_line::write_line(planner::plan(version, book), out)
-}
-
-// The line of a book of version 1.
+// The line of a book of version 1: written at the start of a buffer of at least 256 bytes, with its length. A smaller buffer is left as it
+// is, and 0 handed back.
 #[no_mangle]
 pub extern "C" fn vishalneq_plan_line(book: &[u8], out: &mut [u8]) -> usize
     ensures { λ r. ⌜ PlanLine v1 (now (book .entry)) (now (out .entry)) (now (out .exit)) r ⌝ }
 {
-    plan_line(Version::One, book, out)
+    one_book::plan_line(Version::One, book, out)
 }
 
 // The line of a book of version 2.
@@ -35,7 +26,7 @@ pub extern "C" fn vishalneq_plan_line(book: &[u8], out: &mut [u8]) -> usize
 pub extern "C" fn vishalneq_plan_line2(book: &[u8], out: &mut [u8]) -> usize
     ensures { λ r. ⌜ PlanLine v2 (now (book .entry)) (now (out .entry)) (now (out .exit)) r ⌝ }
 {
-    plan_line(Version::Two, book, out)
+    one_book::plan_line(Version::Two, book, out)
 }
 
 // The lines of a version 1 book's panel: written at the start of a buffer of at least 16,384 bytes, with their length. A smaller buffer is
@@ -55,22 +46,14 @@ pub extern "C" fn vishalneq_panel_lines2(book: &[u8], out: &mut [u8]) -> usize
     planner::panel_lines(Version::Two, book, out)
 }
 
-// The start pair after a book's first `prefix` rules: X, Y and D stand at the start of a buffer of at least three numbers, zeros where no
-// pair is allowed, and the count is handed back. A refused book leaves the buffer as it is, and so does a smaller buffer; of a refused book
-// 65,536 times its number plus its record is handed back.
-fn start_after(version: Version, book: &[u8], prefix: usize, out: &mut [i64]) -> usize
-    ensures { λ r. ⌜ StartWritten (layoutOf version) (now (book .entry)) prefix (now (out .entry)) (now (out .exit)) r ⌝ }
-{
-    let seen = planner::start_after(version, book, prefix);
-    handed::put_start(seen.refusal, seen.restarts, seen.point, out)
-}
-
-// The start pair of a book of version 1.
+// The start pair after the first `prefix` rules of a book of version 1: X, Y and D stand at the start of a buffer of at least three
+// numbers, zeros where no pair is allowed, and the count is handed back. A refused book leaves the buffer as it is, and so does a smaller
+// buffer; of a refused book 65,536 times its number plus its record is handed back.
 #[no_mangle]
 pub extern "C" fn vishalneq_start_after(book: &[u8], prefix: usize, out: &mut [i64]) -> usize
     ensures { λ r. ⌜ StartWritten v1 (now (book .entry)) prefix (now (out .entry)) (now (out .exit)) r ⌝ }
 {
-    start_after(Version::One, book, prefix, out)
+    one_book::start_numbers(Version::One, book, prefix, out)
 }
 
 // The start pair of a book of version 2.
@@ -78,24 +61,16 @@ pub extern "C" fn vishalneq_start_after(book: &[u8], prefix: usize, out: &mut [i
 pub extern "C" fn vishalneq_start_after2(book: &[u8], prefix: usize, out: &mut [i64]) -> usize
     ensures { λ r. ⌜ StartWritten v2 (now (book .entry)) prefix (now (out .entry)) (now (out .exit)) r ⌝ }
 {
-    start_after(Version::Two, book, prefix, out)
+    one_book::start_numbers(Version::Two, book, prefix, out)
 }
 
-// The repacked form of a book, always version 2, at the start of a buffer, and how many bytes it has. A book that is refused, and one whose
-// repacked form has no room, leaves the buffer as it is, and 65,536 times its number plus its record is handed back.
-fn repack(version: Version, book: &[u8], out: &mut [u8]) -> usize
-    ensures { λ r. ⌜ RepackWritten (layoutOf version) (now (book .entry)) (now (out .entry)) (now (out .exit)) r ⌝ }
-{
-    let answer = repacker::repack(version, book, out);
-    told(answer.refusal, answer.filled)
-}
-
-// The repacked form of a book of version 1.
+// The repacked form of a book of version 1, always version 2, at the start of a buffer, and how many bytes it has. A book that is refused,
+// and one whose repacked form has no room, leaves the buffer as it is, and 65,536 times its number plus its record is handed back.
 #[no_mangle]
 pub extern "C" fn vishalneq_repack(book: &[u8], out: &mut [u8]) -> usize
     ensures { λ r. ⌜ RepackWritten v1 (now (book .entry)) (now (out .entry)) (now (out .exit)) r ⌝ }
 {
-    repack(Version::One, book, out)
+    one_book::repacked(Version::One, book, out)
 }
 
 // The repacked form of a book of version 2.
@@ -103,5 +78,5 @@ pub extern "C" fn vishalneq_repack(book: &[u8], out: &mut [u8]) -> usize
 pub extern "C" fn vishalneq_repack2(book: &[u8], out: &mut [u8]) -> usize
     ensures { λ r. ⌜ RepackWritten v2 (now (book .entry)) (now (out .entry)) (now (out .exit)) r ⌝ }
 {
-    repack(Version::Two, book, out)
+    one_book::repacked(Version::Two, book, out)
 }

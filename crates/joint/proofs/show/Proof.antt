@@ -8,14 +8,13 @@ use Rattle.joint.proofs.show.Tie as tie
 
 slice-aggregate-write-all : tie.Need-slice-aggregate-write-all
 slice-aggregate-write-all c =
-    let line = c .before .before .write-joint-line in
-    sym (length-take-le (line .result) (line .last .1 .0) (omega (arith, line .ensures .enough)))
+    let line = c .before .before .line-of-books in
+    sym (length-take-le (line .result) (line .last .1 .1 .0) (omega (arith, line .ensures .written .enough)))
 
 pub show-spec : {M : Type 1} → statement M
 show-spec =
     tie.close
     (tie.spec
-    (λ c κs. search needs)
     (λ c. search needs)
     (λ c κs. search needs)
     (λ c. search needs)

@@ -7,11 +7,11 @@ use Rattle.panel.proofs.main.Statement.{statement}
 use Rattle.panel.proofs.main.Tie as tie
 
 array-share-prefix-lines : tie.Need-array-share-prefix-lines
-array-share-prefix-lines c = panel-within (c .before .vishalneq-panel-lines .ensures)
+array-share-prefix-lines c = panel-within (c .before .panel-lines .ensures)
 
 slice-aggregate-write-all : tie.Need-slice-aggregate-write-all
 slice-aggregate-write-all c =
-    let panel = c .before .before .vishalneq-panel-lines in
+    let panel = c .before .before .panel-lines in
     sym (length-take-le (panel .result) _ (panel-within (panel .ensures)))
 
 pub main-spec : {M : Type 1} → statement M

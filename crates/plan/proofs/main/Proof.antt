@@ -9,7 +9,7 @@ use Rattle.plan.proofs.main.Tie as tie
 slice-aggregate-write-all : tie.Need-slice-aggregate-write-all
 slice-aggregate-write-all c =
     sym
-    (length-take-le (c .before .before .vishalneq-plan-line .result) (c .before .before .vishalneq-plan-line .last .1 .0) (omega (arith, c .before .before .vishalneq-plan-line .ensures .written .enough)))
+    (length-take-le (c .before .before .plan-line .result) (c .before .before .plan-line .last .1 .1 .0) (omega (arith, c .before .before .plan-line .ensures .written .enough)))
 
 pub main-spec : {M : Type 1} → statement M
 main-spec =

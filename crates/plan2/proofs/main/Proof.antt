@@ -8,8 +8,8 @@ use Rattle.plan2.proofs.main.Tie as tie
 
 slice-aggregate-write-all : tie.Need-slice-aggregate-write-all
 slice-aggregate-write-all c =
-    let line = c .before .before .vishalneq-plan-line2 in
-    sym (length-take-le (line .result) (line .last .1 .0) (omega (arith, line .ensures .written .enough)))
+    let line = c .before .before .plan-line in
+    sym (length-take-le (line .result) (line .last .1 .1 .0) (omega (arith, line .ensures .written .enough)))
 
 pub main-spec : {M : Type 1} → statement M
 main-spec =

@@ -1,7 +1,7 @@
--- `vishalneq::joint::vishalneq_joint` meets its contract: the line written is that of the answer to the two books, in their order.
+-- `joint_line::line_of_books` meets its contract: the line written is that of the answer to the two books, in their order.
 use borrow.Author.Needs.{needs}
-use Rattle.vishalneq.proofs.joint.vishalneq_joint.Statement.{statement}
-use Rattle.vishalneq.proofs.joint.vishalneq_joint.Tie as tie
+use Rattle.joint_line.proofs.line_of_books.Statement.{statement}
+use Rattle.joint_line.proofs.line_of_books.Tie as tie
 
 returns : tie.Need-returns
 returns c =
@@ -11,6 +11,6 @@ returns c =
       written = c .before .before .write-joint-line .ensures;
     }
 
-pub vishalneq-joint-spec : {M : Type 1} → statement M
-vishalneq-joint-spec =
+pub line-of-books-spec : {M : Type 1} → statement M
+line-of-books-spec =
     tie.close (tie.spec (λ c κs. search needs) (λ c κs. search needs) (λ c. search needs) returns)

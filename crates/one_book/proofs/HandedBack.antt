@@ -19,7 +19,7 @@ use Rattle.book.proofs.Bounds.{chain-count, count-room}
 use Rattle.repacker.proofs.RepackLaws.{declined-number, repacked-length}
 use Rattle.planner.specs.View.{unseen, viewed, viewOf}
 use Rattle.planner.proofs.Seen.{restarts-seen, restarts-within}
-use Rattle.vishalneq.specs.Loaded.{StartWritten, RepackWritten}
+use Rattle.one_book.specs.Loaded.{StartWritten, RepackWritten}
 use Rattle.handed.specs.Told.{toldOf}
 use Rattle.handed.proofs.Buffers.{told-refused}
 

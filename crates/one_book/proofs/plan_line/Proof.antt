@@ -1,7 +1,7 @@
--- `vishalneq::plan_line` meets its contract: the line written is that of the planner's answer.
+-- `one_book::plan_line` meets its contract: the line written is that of the planner's answer.
 use borrow.Author.Needs.{needs}
-use Rattle.vishalneq.proofs.plan_line.Statement.{statement}
-use Rattle.vishalneq.proofs.plan_line.Tie as tie
+use Rattle.one_book.proofs.plan_line.Statement.{statement}
+use Rattle.one_book.proofs.plan_line.Tie as tie
 
 returns : tie.Need-returns
 returns c =

@@ -9,7 +9,7 @@ use Rattle.planner.specs.declared.StartView.{StartView}
 use Rattle.planner.specs.View.{viewOf, Views}
 use Rattle.handed.specs.Told.{toldOf}
 use Rattle.handed.specs.Start.{putPoint, StartPut}
-use Rattle.vishalneq.specs.Loaded.{StartWritten}
+use Rattle.one_book.specs.Loaded.{StartWritten}
 
 module _ (L : Layout) (s : List ℕ) (k : ℕ) (v : StartView) (h : Views L s k v) where
   number-same : v .refusal .number ≡ viewOf (readOf L s) k .refusal .number
