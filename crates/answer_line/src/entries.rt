@@ -1,10 +1,10 @@
 // The entries of a witness, each with its weight, in a buffer that has room for them. Each function writes at a place and hands back the
 // place after what it wrote.
 use lp::Certificate;
+use numerals::append_decimal;
+use numerals::append_integer;
+use numerals::append_number;
 use report::Naming;
-use text::append_decimal;
-use text::append_integer;
-use text::append_number;
 use text::append_word;
 ghost use mathlib.Core.Path.{_≡_};
 ghost use lib.ListN.{length};

@@ -1,7 +1,7 @@
 // The line of a batch's answer, from its 32 bytes: `best X Y D`, `unlimited X Y D` or `impossible`. It rests on the parts of a line (crate
 // `text`). A byte that is not there reads as zero.
 use lp::Point;
-use text::append_integer;
+use numerals::append_integer;
 use text::append_word;
 ghost use mathlib.Core.Path.{_≡_};
 ghost use Prim.Native.Nat.{_+_, _*_, _≤_};

@@ -1,7 +1,7 @@
 // A corner's line: X, Y and D in decimal, one space between them, and a line feed.
 use lp::Point;
-use text::append_decimal;
-use text::append_integer;
+use numerals::append_decimal;
+use numerals::append_integer;
 use text::append_word;
 use text::lacks_room;
 ghost use Rattle.text.specs.Number.{signed};

@@ -1,7 +1,7 @@
 // The line of a book that is turned back, part by part, in a buffer that has room for it. Each function writes at a place and hands back the
 // place after what it wrote.
 use answers::Refusal;
-use text::append_number;
+use numerals::append_number;
 use text::append_word;
 ghost use Rattle.text.specs.Append.{HasRoom, Appended};
 ghost use Rattle.joint_line.specs.JointLine.{bookName, turned};

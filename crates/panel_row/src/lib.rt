@@ -1,8 +1,8 @@
 // The panel of a book: how far its best pair is from each rule, a line a rule. The planner puts line after line into its output, so
 // that a line is all that is made here.
 use lp::Amount;
-use text::append_decimal;
-use text::append_integer;
+use numerals::append_decimal;
+use numerals::append_integer;
 use text::append_word;
 ghost use Rattle.text.specs.Append.{Appends};
 ghost use Rattle.panel_row.specs.Panel.{rowLine};

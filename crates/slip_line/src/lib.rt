@@ -1,7 +1,7 @@
 // The printed line of a slip, or of the book's refusal, in a lent buffer.
+use refusal_text::append_refused;
 use slip_text::append_slip;
 use slips::Written;
-use text::append_refused;
 use text::append_word;
 ghost use Rattle.text.specs.Append.{HasRoom, Appended};
 ghost use Rattle.slip_line.specs.Line.{writtenFields, LineWritten};

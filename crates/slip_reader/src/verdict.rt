@@ -1,6 +1,6 @@
 // The line of what the checker says.
+use refusal_text::append_refused;
 use slip::Verdict;
-use text::append_refused;
 use text::append_word;
 ghost use Rattle.text.specs.Append.{HasRoom, Appended};
 ghost use Rattle.slip_reader.specs.Verdict.{verdictText, VerdictWritten};

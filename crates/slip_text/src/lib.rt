@@ -3,9 +3,9 @@
 use lp::Outcome;
 use lp::Point;
 use lp::Ray;
+use numerals::append_integer;
 use slip::Slip;
 use slip::Weights;
-use text::append_integer;
 use text::append_word;
 use text::lacks_room;
 ghost use Rattle.lp.specs.declared.Outcome.the-variants as outcome;

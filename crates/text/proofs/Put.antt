@@ -61,6 +61,10 @@ exactly {before} {after} {u} {v} {at} {next} {i} e f =
 pub none-yet : (out word : List ℕ) (at : ℕ) → Appended out at (take 0 word) 0 out at
 none-yet out word at = record { stored = refl; moved = omega arith; small = le-refl 0 }
 
+-- one byte stored is one appended
+pub one-byte : {before : List ℕ} {at b : ℕ} → Appended before at (b ∷ []) 1 (set before at b) (at + 1)
+one-byte = record { stored = refl; moved = refl; small = le-refl 1 }
+
 pub one-further : (word : List ℕ) (i : ℕ) {before mid after : List ℕ} {at next end : ℕ} →
     i < length word →
     Appended before at (take i word) i mid next →

@@ -1,9 +1,9 @@
 // The line of what a typed text reads as: `rule kind a b c`, or `refused number 0`.
 use forms::Typed;
 use forms::Written;
-use text::append_integer;
-use text::append_number;
-use text::append_refused;
+use numerals::append_integer;
+use numerals::append_number;
+use refusal_text::append_refused;
 use text::append_word;
 ghost use Rattle.text.specs.Append.{HasRoom, Appended};
 ghost use Rattle.typed_line.specs.Typed.{ruleFields, typedFields, TypedWritten};

@@ -4,9 +4,9 @@ use mathlib.Core.Path.{_≡_, refl, _∙_}
 use Prim.Native.Nat.{_+_, _-_, _≤_}
 use native.Mathlib.Omega.{arith}
 use borrow.Author.Needs.{needs}
-use lib.ListN.{length, take}
+use lib.ListN.{length, length-set, take, getD}
 use Rattle.text.specs.Append.{Appended}
-use Rattle.text.proofs.Put.{one-further, all-of, none-yet, no-room, free, appends}
+use Rattle.text.proofs.Put.{one-byte, one-further, all-of, none-yet, no-room, free, appends}
 use Rattle.text.proofs.append_word.Statement.{statement}
 use Rattle.text.proofs.append_word.Tie as tie
 
@@ -31,18 +31,14 @@ loop-holds c =
       free (start .args .out .now) (start .args .at) (length word) (room .result) (room .ensures) (c .if1 .left),
     )
 
-append-byte-requires : tie.Need-append-byte-requires Inv-loop μ-loop
-append-byte-requires c κs = record { free = omega arith }
-
 loop-again : tie.Need-loop-again Inv-loop μ-loop
 loop-again c =
-    let byte = c .before .before in
-    let test = byte .before .before .before in
+    let test = c .before in
     let turn = test .before in
     let start = turn .before .before .before .before .before in (
       omega arith,
-      one-further (start .args .word .now) (turn .loop .i) (test .loop-test .taken) (turn .loop .inv .1) (byte .append-byte .ensures),
-      byte .append-byte .kept .1 .0 ∙ turn .loop .inv .2,
+      one-further (start .args .word .now) (turn .loop .i) (test .loop-test .taken) (turn .loop .inv .1) one-byte,
+      length-set (turn .loop .out) (turn .loop .next) (getD (start .args .word .now) (turn .loop .i) 0) ∙ turn .loop .inv .2,
       turn .loop .inv .3,
     )
 
@@ -62,7 +58,8 @@ append-word-spec =
     returns
     loop-holds
     (λ c. omega arith)
-    append-byte-requires
+    (λ c. omega arith)
+    (λ c. omega arith)
     (λ c. omega arith)
     (λ c. omega arith)
     loop-again

@@ -1,11 +1,11 @@
--- `text::append_refused` meets its contract. A buffer without room is left alone; else the word and two numbers stand at the place, in
+-- `refusal_text::append_refused` meets its contract. A buffer without room is left alone; else the word and two numbers stand at the place, in
 -- turn.
 use native.Mathlib.Omega.{arith}
 use borrow.Author.Needs.{needs}
 use Rattle.text.specs.Number.{refused}
 use Rattle.text.proofs.Put.{followed, no-room, free, appends}
-use Rattle.text.proofs.append_refused.Statement.{statement}
-use Rattle.text.proofs.append_refused.Tie as tie
+use Rattle.refusal_text.proofs.append_refused.Statement.{statement}
+use Rattle.refusal_text.proofs.append_refused.Tie as tie
 
 returns : tie.Need-returns
 returns c = no-room (c .before .lacks-room .result) (c .before .lacks-room .ensures) (c .if1 .taken)

@@ -1,11 +1,11 @@
-// Bytes and digits put into a buffer that has room for them. Each function writes at a place and hands back the place after what it wrote.
+// Digits put into a buffer that has room for them. Each function writes at a place and hands back the place after what it wrote.
 ghost use mathlib.Core.List.{[], _∷_};
 ghost use lib.ListN.{length};
 ghost use Rattle.text.specs.Number.{twoDigits, decimal};
 ghost use Rattle.text.specs.Append.{HasRoom, HasRoomForTwo, Appended};
 
 // One byte.
-pub fn append_byte(b: u8, out: &mut [u8], at: usize) -> usize
+fn append_byte(b: u8, out: &mut [u8], at: usize) -> usize
     requires { ⌜ HasRoom (now out) at 1 ⌝ }
     ensures { λ r. ⌜ Appended (now (out .entry)) at (b ∷ []) 1 (now (out .exit)) r ⌝ }
 {

@@ -1,11 +1,11 @@
--- `text::append_integer` meets its contract. A buffer without room is left alone. The sign's test says which of the two spellings the
+-- `numerals::append_integer` meets its contract. A buffer without room is left alone. The sign's test says which of the two spellings the
 -- number has; a magnitude has at most 19 digits.
 use native.Mathlib.Omega.{arith}
 use borrow.Author.Needs.{needs}
 use Rattle.text.proofs.Put.{followed, roomier, spelt, no-room, free, appends}
 use Rattle.text.proofs.Integer.{digits-short, with-minus, without-sign}
-use Rattle.text.proofs.append_integer.Statement.{statement}
-use Rattle.text.proofs.append_integer.Tie as tie
+use Rattle.numerals.proofs.append_integer.Statement.{statement}
+use Rattle.numerals.proofs.append_integer.Tie as tie
 
 returns : tie.Need-returns
 returns c = no-room (c .before .lacks-room .result) (c .before .lacks-room .ensures) (c .if1 .taken)

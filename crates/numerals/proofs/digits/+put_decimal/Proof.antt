@@ -1,21 +1,21 @@
--- `text::within::put_decimal` meets its contract. The measure is the number. One digit or two are all; else the digits of the
+-- `numerals::digits::put_decimal` meets its contract. The measure is the number. One digit or two are all; else the digits of the
 -- hundredth part come first, and the last two after them.
 use mathlib.Core.Path.{sym, ap}
 use native.Mathlib.Omega.{arith}
 use borrow.Author.Needs.{needs}
 use lib.ListN.{length}
 use Rattle.text.proofs.Decimal.{decimal-single, decimal-pair, decimal-hundred, decimal-one, decimal-two-longer}
 use Rattle.text.proofs.Put.{followed, exactly}
 use Prim.Native.Nat.{ℕ, _<_}
 use borrow.Fn.Kinds.{In}
 use borrow.Fn.PlainCycle.{Measures, is, falls, and}
-use Rattle.text.proofs.within.put_decimal.Reads as put-decimal
-use Rattle.text.proofs.within.put_decimal.Kinds as put-decimal-kinds
-use Rattle.text.proofs.within.+put_decimal.Lts-put_decimal as put-decimal-lts
-use Rattle.text.proofs.within.append_byte.Reads as append-byte-reads
-use Rattle.text.proofs.within.append_two.Reads as append-two-reads
-use Rattle.text.proofs.within.+put_decimal.{statement}
-use Rattle.text.proofs.within.+put_decimal.Tie.{close}
+use Rattle.numerals.proofs.digits.put_decimal.Reads as put-decimal
+use Rattle.numerals.proofs.digits.put_decimal.Kinds as put-decimal-kinds
+use Rattle.numerals.proofs.digits.+put_decimal.Lts-put_decimal as put-decimal-lts
+use Rattle.numerals.proofs.digits.append_byte.Reads as append-byte-reads
+use Rattle.numerals.proofs.digits.append_two.Reads as append-two-reads
+use Rattle.numerals.proofs.digits.+put_decimal.{statement}
+use Rattle.numerals.proofs.digits.+put_decimal.Tie.{close}
 
 abbrev μ-put-decimal : Measures 1 put-decimal-kinds.ps ℕ
 μ-put-decimal κs a = a .0

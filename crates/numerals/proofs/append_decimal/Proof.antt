@@ -1,11 +1,11 @@
--- `text::append_decimal` meets its contract. A buffer without room is left alone; else the digits, of which there are at most 20,
+-- `numerals::append_decimal` meets its contract. A buffer without room is left alone; else the digits, of which there are at most 20,
 -- stand at the place.
 use native.Mathlib.Omega.{arith}
 use borrow.Author.Needs.{needs}
 use Rattle.text.proofs.Put.{roomier, no-room, free, appends}
 use Rattle.text.proofs.Decimal.{decimal-usize}
-use Rattle.text.proofs.append_decimal.Statement.{statement}
-use Rattle.text.proofs.append_decimal.Tie as tie
+use Rattle.numerals.proofs.append_decimal.Statement.{statement}
+use Rattle.numerals.proofs.append_decimal.Tie as tie
 
 returns : tie.Need-returns
 returns c = no-room (c .before .lacks-room .result) (c .before .lacks-room .ensures) (c .if1 .taken)

@@ -1,8 +1,8 @@
--- `text::within::append_two` meets its contract. Two digits in turn.
+-- `numerals::digits::append_two` meets its contract. Two digits in turn.
 use borrow.Author.Needs.{needs}
 use Rattle.text.proofs.Put.{followed}
-use Rattle.text.proofs.within.append_two.Statement.{statement}
-use Rattle.text.proofs.within.append_two.Tie as tie
+use Rattle.numerals.proofs.digits.append_two.Statement.{statement}
+use Rattle.numerals.proofs.digits.append_two.Tie as tie
 
 returns : tie.Need-returns
 returns c =
