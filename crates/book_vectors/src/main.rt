@@ -62,7 +62,7 @@ fn part(s: &[u8], from: usize, len: usize) -> &[u8]
 
 // A rule of the chain: its record, kind, a, b, c and label, and then a, b, c as they are planned.
 fn print_rule(version: Version, bytes: &[u8], index: u16) {
-    let rule = records::rule_at(version, bytes, index);
+    let rule = decoding::rule_at(version, bytes, index);
     let planned = rules::constraint(rule);
     io::write_all(1, b" |");
     number(index as u64);

@@ -31,7 +31,7 @@ fn panel_room(version: Version) -> usize
 fn row(version: Version, book: &[u8], index: u16, v: Point) -> Row
     ensures { λ r. ⌜ r ≡ rowFor (layoutOf version) (now (book .entry)) v index ⌝ }
 {
-    let rule = records::rule_at(version, book, index);
+    let rule = decoding::rule_at(version, book, index);
     Row {
         label: rule.label,
         slack: amounts::amount(rules::constraint(rule), v),

@@ -1,8 +1,8 @@
 // A reader of a book: it holds on to the lent book while it goes from record to record. Its functions are proved by hand, so they are
 // few, and each takes the reader apart and calls a function of the slice and the index.
+use decoding::inspect;
 use records::Decoded;
 use records::Version;
-use records::inspect;
 ghost use mathlib.Core.Path.{_≡_};
 ghost use Rattle.records.specs.Layout.{layoutOf};
 ghost use Rattle.records.specs.Record.{recordAt, decodedOf};

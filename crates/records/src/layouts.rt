@@ -3,7 +3,6 @@
 use crate::Version;
 use crate::bytes::number2;
 use crate::bytes::number4;
-use crate::bytes::window;
 use crate::fields::Fields;
 ghost use mathlib.Core.Path.{_≡_};
 ghost use Prim.Native.Nat.{_+_, _≤_};
@@ -13,7 +12,7 @@ ghost use mathlib.Core.Bool.{true};
 ghost use Rattle.records.specs.Record.{recordAt, fieldsOf, holdsRecord};
 
 // A record of version 1, whose bytes are there.
-fn fields_one(s: &[u8], at: usize) -> Fields
+pub fn fields_one(s: &[u8], at: usize) -> Fields
     requires { ⌜ at + 12 ≤ length (now s) ⌝ }
     ensures { λ r. ⌜ r ≡ fieldsOf v1 (take 12 (drop at (now (s .entry)))) ⌝ }
 {
@@ -29,7 +28,7 @@ fn fields_one(s: &[u8], at: usize) -> Fields
 }
 
 // A record of version 2, whose bytes are there.
-fn fields_two(s: &[u8], at: usize) -> Fields
+pub fn fields_two(s: &[u8], at: usize) -> Fields
     requires { ⌜ at + 14 ≤ length (now s) ⌝ }
     ensures { λ r. ⌜ r ≡ fieldsOf v2 (take 14 (drop at (now (s .entry)))) ⌝ }
 {
@@ -44,16 +43,6 @@ fn fields_two(s: &[u8], at: usize) -> Fields
     }
 }
 
-// Whether a record's bytes are all there.
-pub fn is_inside(version: Version, book: &[u8], index: u16) -> bool
-    ensures { λ r. ⌜ r ≡ holdsRecord (layoutOf version) (now (book .entry)) index ⌝ }
-{
-    match version {
-        Version::One => index as usize * 12 + 12 <= book.len(),
-        Version::Two => index as usize * 14 + 14 <= book.len(),
-    }
-}
-
 // The fields of a record whose bytes are all there.
 pub fn fields_inside(version: Version, book: &[u8], index: u16) -> Fields
     requires { ⌜ holdsRecord (layoutOf version) (now book) index ≡ true ⌝ }
@@ -62,16 +51,5 @@ pub fn fields_inside(version: Version, book: &[u8], index: u16) -> Fields
     match version {
         Version::One => fields_one(book, index as usize * 12),
         Version::Two => fields_two(book, index as usize * 14),
-    }
-}
-
-// The fields of a record that ends early or is not there, with zeros for the bytes that are missing. It is a function of its own with two
-// callers, so that the compiler leaves it out of line and the way of a record that is there stays short.
-pub fn fields_past(version: Version, book: &[u8], index: u16) -> Fields
-    ensures { λ r. ⌜ r ≡ fieldsOf (layoutOf version) (recordAt (layoutOf version) (now (book .entry)) index) ⌝ }
-{
-    match version {
-        Version::One => fields_one(&window(book, index as usize * 12), 0),
-        Version::Two => fields_two(&window(book, index as usize * 14), 0),
     }
 }

@@ -1,17 +1,11 @@
-// The records of a rule book, of either version of the format: a record's fields, a rule record and what turns it back. A function takes
-// the version and any bytes, and answers; a byte that is not there reads as zero. The definitions of the whole format stand here; what a
-// header says is crate `headings`, and what a rule is planned as crate `rules`.
+// The records of a rule book, of either version of the format: a record's fields. A function takes the version and any bytes, and answers;
+// a byte that is not there reads as zero. The definitions of the whole format stand here; what a rule record holds and what turns it back
+// is crate `decoding`, what a header says crate `headings`, and what a rule is planned as crate `rules`.
 mod bytes;
-mod decode;
 pub mod fields;
 mod layouts;
 
-use decode::rule_in;
-use fields::fields_at;
 use lp::Terms;
-ghost use mathlib.Core.Path.{_≡_};
-ghost use Rattle.records.specs.Layout.{layoutOf};
-ghost use Rattle.records.specs.Record.{recordAt, ruleOf, decodedOf};
 
 // The versions of the format: records of 12 bytes, at most 256 of them, and of 14, at most 4,096.
 pub enum Version {
@@ -42,18 +36,4 @@ pub struct Heading {
     pub terms: Terms,
     pub count: u16,
     pub link: u16,
-}
-
-// The rule of a record, whether the record is on the chain or not.
-pub fn rule_at(version: Version, book: &[u8], index: u16) -> Rule
-    ensures { λ r. ⌜ r ≡ ruleOf (layoutOf version) (recordAt (layoutOf version) (now (book .entry)) index) ⌝ }
-{
-    rule_in(fields_at(version, book, index))
-}
-
-// What the record at an index comes to.
-pub fn inspect(version: Version, book: &[u8], index: u16) -> Decoded
-    ensures { λ d. ⌜ d ≡ decodedOf (layoutOf version) (recordAt (layoutOf version) (now (book .entry)) index) ⌝ }
-{
-    decode::decode(version, book, index)
 }

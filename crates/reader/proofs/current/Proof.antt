@@ -56,10 +56,10 @@ use Rattle.records.proofs.Version as N
 use Rattle.records.proofs.Version.Laws as N′
 use Rattle.records.proofs.Decoded as S
 use Rattle.records.proofs.Decoded.Laws as S′
-use Rattle.records.proofs.inspect as decode
-use Rattle.records.proofs.inspect.Symbol as decode-def
-use Rattle.records.proofs.inspect.Symbol.{name as #records·inspect}
-use Rattle.records.proofs.inspect.Met as decode-thm
+use Rattle.decoding.proofs.inspect as decode
+use Rattle.decoding.proofs.inspect.Symbol as decode-def
+use Rattle.decoding.proofs.inspect.Symbol.{name as #decoding·inspect}
+use Rattle.decoding.proofs.inspect.Met as decode-thm
 use Rattle.reader.proofs.current.Key.{name as #reader·current}
 use Rattle.reader.proofs.current as current
 use Rattle.reader.proofs.current.Statement as stated
@@ -161,7 +161,7 @@ module _
       owned ! N.the-row (Is N.the-row) (EL.makes N.the-type N′.the-plain 𝓤 H A) ver _ is $ fjoin ! $ frame ! $ done !
 
   module _
-      (C : Calls 𝓤 H) (Λ : Loops 𝓤 H) (fm : FmC 𝓤 H (W .laws) C) (known : Triple 𝓤 (C #records·inspect) (Decode 𝓤 H A mem run)) where
+      (C : Calls 𝓤 H) (Λ : Loops 𝓤 H) (fm : FmC 𝓤 H (W .laws) C) (known : Triple 𝓤 (C #decoding·inspect) (Decode 𝓤 H A mem run)) where
     walk : Is N.the-row ver (mv ∷ []) →
         Holds (hasTy (T′.mir (named 0)) mach) × WT mach →
         ent 𝓤 (onEntry 𝓤 H A current.signature (κ, tt) (q, tt) (ver, (d, tt)) (mv ∷ [], (mach ∷ [], tt)))
@@ -200,7 +200,7 @@ module _
         move ! (3 ∷ 4 ∷ []) $ free1 ! $ free0 ! $ by ! (exits iv r u e))))))))))
 
 module _ {M : Type 1} (𝓤 : URA M) (H : Heap 𝓤) (A : Atoms 𝓤) (W : Given 𝓤 H A) (mem : Memory → SProp 𝓤) (run : Routine → Fun 𝓤) where
-  current-walks : (C : Calls 𝓤 H) (Λ : Loops 𝓤 H) → FmC 𝓤 H (W .laws) C → Triple 𝓤 (C #records·inspect) (Decode 𝓤 H A mem run)
+  current-walks : (C : Calls 𝓤 H) (Λ : Loops 𝓤 H) → FmC 𝓤 H (W .laws) C → Triple 𝓤 (C #decoding·inspect) (Decode 𝓤 H A mem run)
       → Walks 𝓤 H A current.ended stayed (WpFn 𝓤 H C Λ code.function) (current.clauses 𝓤 H A mem run)
   current-walks C Λ fm known =
       walked 𝓤 H A current.ended stayed (current.clauses 𝓤 H A mem run) (WpFn 𝓤 H C Λ code.function)
@@ -212,7 +212,7 @@ module _ {M : Type 1} (𝓤 : URA M) (H : Heap 𝓤) (A : Atoms 𝓤) (W : Given
 
 current-meets : {M : Type 1} (𝓤 : URA M) (H : Heap 𝓤) (A : Atoms 𝓤) (W : Given 𝓤 H A) (mem : Memory → SProp 𝓤) (run : Routine → Fun 𝓤)
     (𝓣 : Tables 𝓤 H)
-    → Triple 𝓤 (𝓣 .C #records·inspect) (Decode 𝓤 H A mem run)
+    → Triple 𝓤 (𝓣 .C #decoding·inspect) (Decode 𝓤 H A mem run)
     → Meets 𝓤 H A current.signature (WpFn 𝓤 H (𝓣 .C) (𝓣 .Λ) code.function) (current.spec 𝓤 H A mem run)
 current-meets 𝓤 H A W mem run 𝓣 known-decode =
     walk-meets 𝓤 H A current.ended stayed W
@@ -227,5 +227,5 @@ current-spec 𝓤 H 𝓜 𝓖 𝓡 =
     (tables 𝓤 H 𝓜 𝓡 code.env .C) (tables 𝓤 H 𝓜 𝓡 code.env .Λ) #reader·current code.function (code.unfolded 𝓤 H 𝓜 𝓡)
     (current-meets 𝓤 H (𝓖 .A) (givenOf 𝓤 H 𝓜 𝓖) (𝓜 .mem) (𝓡 .run) (tablesOf 𝓤 H 𝓜 (tables 𝓤 H 𝓜 𝓡 code.env))
     (cited 𝓤 H
-    (Decode 𝓤 H (𝓖 .A) (𝓜 .mem) (𝓡 .run)) 𝓜 𝓡 code.env #records·inspect decode-def.routine code.calls-records·inspect
+    (Decode 𝓤 H (𝓖 .A) (𝓜 .mem) (𝓡 .run)) 𝓜 𝓡 code.env #decoding·inspect decode-def.routine code.calls-decoding·inspect
     (decode-thm.met 𝓤 H 𝓜 𝓖 𝓡)))

@@ -1,11 +1,11 @@
--- `records::decode::judged` meets its contract: the check of the rule in these fields.
+-- `decoding::decode::judged` meets its contract: the check of the rule in these fields.
 use mathlib.Core.Path.{ap, _∙_}
 use lib.Dec.{eqb}
 use Rattle.records.specs.declared.Rule.{Rule}
 use Rattle.records.specs.Record.{decodedWith}
 use borrow.Author.Needs.{needs}
-use Rattle.records.proofs.decode.judged.Statement.{statement}
-use Rattle.records.proofs.decode.judged.Tie as tie
+use Rattle.decoding.proofs.decode.judged.Statement.{statement}
+use Rattle.decoding.proofs.decode.judged.Tie as tie
 
 returns : tie.Need-returns
 returns c =

@@ -1,4 +1,4 @@
--- `records::decode::beyond` meets its contract: below the range, or above it.
+-- `decoding::decode::beyond` meets its contract: below the range, or above it.
 use mathlib.Core.Path.{_≡_, ap, sym, _∙_}
 use mathlib.Core.Bool.{true, false}
 use lib.IntN.{negsuc}
@@ -7,8 +7,8 @@ use mir.Syntax.{w32}
 use mir.Val.{toZ, ofZ}
 use mir.Facts.{toZ-ofZ}
 use borrow.Author.Needs.{needs}
-use Rattle.records.proofs.decode.beyond.Statement.{statement}
-use Rattle.records.proofs.decode.beyond.Tie as tie
+use Rattle.decoding.proofs.decode.beyond.Statement.{statement}
+use Rattle.decoding.proofs.decode.beyond.Tie as tie
 
 returns : tie.Need-returns
 returns c =

@@ -1,12 +1,12 @@
--- `records::decode::bad_slope` meets its contract: the tests of a and of b, of the fields themselves.
+-- `decoding::decode::bad_slope` meets its contract: the tests of a and of b, of the fields themselves.
 use mathlib.Core.Path.{_≡_, ap, sym, _∙_}
 use mathlib.Core.Bool.{true, false}
 use mir.Syntax.{w16}
 use mir.Val.{toZ, ofZ}
 use Rattle.records.specs.Record.{isLeast}
 use borrow.Author.Needs.{needs}
-use Rattle.records.proofs.decode.bad_slope.Statement.{statement}
-use Rattle.records.proofs.decode.bad_slope.Tie as tie
+use Rattle.decoding.proofs.decode.bad_slope.Statement.{statement}
+use Rattle.decoding.proofs.decode.bad_slope.Tie as tie
 
 returns : tie.Need-returns
 returns c =

@@ -1,17 +1,12 @@
-// A rule record: its rule, and its check (the causes 8, 9 and 10).
-use crate::Decoded;
-use crate::Rule;
-use crate::Version;
-use crate::fields::Fields;
-use crate::layouts::fields_inside;
-use crate::layouts::fields_past;
-use crate::layouts::is_inside;
+// What a record's fields come to: a rule, and its check (the causes 8, 9 and 10).
+use records::Decoded;
+use records::Rule;
+use records::fields::Fields;
 use signed::least;
 use signed::signed16;
 use signed::signed32;
 ghost use mathlib.Core.Path.{_≡_};
-ghost use Rattle.records.specs.Layout.{layoutOf};
-ghost use Rattle.records.specs.Record.{recordAt, ruleWith, isBeyond, badKind, badSlope, badBound, decodedWith, decodedFrom, decodedOf};
+ghost use Rattle.records.specs.Record.{ruleWith, isBeyond, badKind, badSlope, badBound, decodedWith, decodedFrom};
 
 // A rule, from its fields as they stand.
 pub fn rule_in(f: Fields) -> Rule
@@ -78,19 +73,8 @@ fn check(clear: bool, rule: Rule, next: u16) -> Decoded
 }
 
 // What a record of these fields comes to.
-fn judged(f: Fields) -> Decoded
+pub fn judged(f: Fields) -> Decoded
     ensures { λ r. ⌜ r ≡ decodedFrom f ⌝ }
 {
     check(f.pad == 0, rule_in(f), f.link)
-}
-
-// What the record at an index comes to.
-pub fn decode(version: Version, book: &[u8], index: u16) -> Decoded
-    ensures { λ r. ⌜ r ≡ decodedOf (layoutOf version) (recordAt (layoutOf version) (now (book .entry)) index) ⌝ }
-{
-    if is_inside(version, book, index) {
-        judged(fields_inside(version, book, index))
-    } else {
-        judged(fields_past(version, book, index))
-    }
 }

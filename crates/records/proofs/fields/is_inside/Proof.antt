@@ -1,8 +1,8 @@
--- `records::layouts::is_inside` meets its contract: the record's end is compared with the book's.
+-- `records::fields::is_inside` meets its contract: the record's end is compared with the book's.
 use mathlib.Core.Path.{refl}
 use borrow.Author.Needs.{needs}
-use Rattle.records.proofs.layouts.is_inside.Statement.{statement}
-use Rattle.records.proofs.layouts.is_inside.Tie as tie
+use Rattle.records.proofs.fields.is_inside.Statement.{statement}
+use Rattle.records.proofs.fields.is_inside.Tie as tie
 
 returns : tie.Need-returns
 returns c = rw (c .enum-told .given .1) refl

@@ -1,9 +1,9 @@
--- `records::decode::check` meets its contract: each way out is one case of `decodedWith`, in the order of the table.
+-- `decoding::decode::check` meets its contract: each way out is one case of `decodedWith`, in the order of the table.
 use mathlib.Core.Path.{sym, _∙_}
 use Rattle.records.proofs.Checks.{kind-first, slope-next, bound-last, sound}
 use borrow.Author.Needs.{needs}
-use Rattle.records.proofs.decode.check.Statement.{statement}
-use Rattle.records.proofs.decode.check.Tie as tie
+use Rattle.decoding.proofs.decode.check.Statement.{statement}
+use Rattle.decoding.proofs.decode.check.Tie as tie
 
 returns : tie.Need-returns
 returns c =

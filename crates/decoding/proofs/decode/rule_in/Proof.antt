@@ -1,10 +1,10 @@
--- `records::decode::rule_in` meets its contract: a, b and c in two's complement.
+-- `decoding::decode::rule_in` meets its contract: a, b and c in two's complement.
 use mathlib.Core.Path.{_≡_, _∙_}
 use mir.Syntax.{w16, w32}
 use mir.Val.{toZ, ofZ}
 use borrow.Author.Needs.{needs}
-use Rattle.records.proofs.decode.rule_in.Statement.{statement}
-use Rattle.records.proofs.decode.rule_in.Tie as tie
+use Rattle.decoding.proofs.decode.rule_in.Statement.{statement}
+use Rattle.decoding.proofs.decode.rule_in.Tie as tie
 
 returns : tie.Need-returns
 returns c =

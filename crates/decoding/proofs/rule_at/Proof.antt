@@ -1,10 +1,10 @@
--- `records::rule_at` meets its contract: the rule of the fields that are read.
+-- `decoding::rule_at` meets its contract: the rule of the fields that are read.
 use mathlib.Core.Path.{ap, _∙_}
 use Rattle.records.specs.declared.fields.Fields.{Fields}
 use Rattle.records.specs.Record.{ruleWith}
 use borrow.Author.Needs.{needs}
-use Rattle.records.proofs.rule_at.Statement.{statement}
-use Rattle.records.proofs.rule_at.Tie as tie
+use Rattle.decoding.proofs.rule_at.Statement.{statement}
+use Rattle.decoding.proofs.rule_at.Tie as tie
 
 returns : tie.Need-returns
 returns c =

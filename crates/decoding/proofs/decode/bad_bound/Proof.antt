@@ -1,11 +1,11 @@
--- `records::decode::bad_bound` meets its contract: the test of c, of the field itself.
+-- `decoding::decode::bad_bound` meets its contract: the test of c, of the field itself.
 use mathlib.Core.Path.{_≡_, ap, _∙_}
 use mir.Syntax.{w32}
 use mir.Val.{toZ, ofZ}
 use Rattle.records.specs.Record.{isBeyond}
 use borrow.Author.Needs.{needs}
-use Rattle.records.proofs.decode.bad_bound.Statement.{statement}
-use Rattle.records.proofs.decode.bad_bound.Tie as tie
+use Rattle.decoding.proofs.decode.bad_bound.Statement.{statement}
+use Rattle.decoding.proofs.decode.bad_bound.Tie as tie
 
 returns : tie.Need-returns
 returns c =

@@ -1,12 +1,12 @@
--- `records::layouts::fields_past` meets its contract: a copy with zeros for what is missing has the same fields.
+-- `records::fields::fields_past` meets its contract: a copy with zeros for what is missing has the same fields.
 use mathlib.Core.Path.{_∙_}
 use lib.Dec.{lit≤}
 use borrow.Author.Needs.{needs}
 use Rattle.records.specs.Layout.{v1, v2}
 use Rattle.records.specs.Record.{recordAt}
 use Rattle.records.proofs.Offsets.{fields-copied}
-use Rattle.records.proofs.layouts.fields_past.Statement.{statement}
-use Rattle.records.proofs.layouts.fields_past.Tie as tie
+use Rattle.records.proofs.fields.fields_past.Statement.{statement}
+use Rattle.records.proofs.fields.fields_past.Tie as tie
 
 returns : tie.Need-returns
 unfolding recordAt
