@@ -16,7 +16,8 @@ use Rattle.records.specs.Record.{recordAt, ruleOf}
 use Rattle.records.specs.Header.{termsOf}
 use Rattle.book.specs.declared.Head.{Head}
 use Rattle.book.specs.Reading.{refused, accepted, recordsOf, entryAt, readOf}
-use Rattle.repacker.specs.Repacking.{headerBytes, nextOf, chainBytes, bookOf, Packing, declined, packed, ruleIn, packOf, rulesAt}
+use Rattle.packing.specs.Bytes.{headerBytes}
+use Rattle.repacker.specs.Repacking.{nextOf, chainBytes, bookOf, Packing, declined, packed, ruleIn, packOf, rulesAt}
 use Rattle.book.specs.Runs.{Few}
 use Rattle.book.specs.Promises.{headOf, ReadInto}
 use Rattle.repacker.specs.Promises.{repackedOf, outputOf, Repacks}

@@ -27,7 +27,8 @@ use Rattle.records.specs.Number.{number, bytesOf}
 use Rattle.records.specs.Record.{recordAt, linkOf, kindOf, padOf, aOf, bOf, labelOf, cOf, ruleOf}
 use Rattle.records.specs.Header.{objectiveOf, floorsOf, termsOf, countOf}
 use Rattle.book.specs.Reading.{Entry, entryAt, labelAt, memb, readOf, accepted}
-use Rattle.repacker.specs.Repacking.{recordBytes, headerBytes, tailOf, ruleBytes, nextOf, chainBytes, bookOf, numbered, ruleIn}
+use Rattle.packing.specs.Bytes.{recordBytes, headerBytes, tailOf, ruleBytes}
+use Rattle.repacker.specs.Repacking.{nextOf, chainBytes, bookOf, numbered, ruleIn}
 use Rattle.book.specs.Causes.{WrongLength, WrongVersion, WrongCount, WrongObjective, WrongTail, WrongKind, WrongSlope, WrongBound, short, long, uneven, other, differs, p-least, q-least, set, neither, a-least, b-least, low, high, Walked, header, visit}
 use Rattle.repacker.proofs.Packed.{length-bytesOf, length-recordBytes, length-bookOf, chain-record, next-is}
 use Rattle.book.proofs.Members.{memb-snoc, absent}

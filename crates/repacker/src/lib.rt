@@ -3,10 +3,10 @@
 mod pack;
 
 use answers::Refusal;
-use pack::header_bytes;
 use pack::next_of;
 use pack::put_rules;
 use pack::store;
+use packing::header_bytes;
 use reading::read;
 use records::Version;
 ghost use mathlib.Core.Path.{_≡_};

@@ -1,6 +1,6 @@
 // The repacked form: records of version 2, written in chain order.
+use packing::rule_bytes;
 use records::Version;
-use records::fields::fields_at;
 ghost use mathlib.Core.Path.{_≡_};
 ghost use mathlib.Core.Bool.{cond};
 ghost use Prim.Native.Nat.{_+_, _*_, _≤_};
@@ -8,63 +8,13 @@ ghost use lib.ListN.{length, take};
 ghost use lib.Seq.{paste};
 ghost use lib.Dec.{ltb};
 ghost use Rattle.records.specs.Layout.{v2, layoutOf};
-ghost use Rattle.records.specs.Record.{recordAt, ruleOf};
-ghost use Rattle.records.specs.Header.{termsOf};
-ghost use Rattle.repacker.specs.Repacking.{recordBytes, headerBytes, ruleBytes, chainBytes, rulesAt, OutputRoom};
+ghost use Rattle.repacker.specs.Repacking.{chainBytes, rulesAt, OutputRoom};
 
 // The link of record k, where n records follow the header.
 pub fn next_of(k: u16, n: u16) -> u16
     ensures { λ r. ⌜ r ≡ cond (ltb k n) (k + 1) 0 ⌝ }
 {
     if k < n { k + 1 } else { 0 }
-}
-
-// A record's bytes, from its fields.
-fn record_bytes(link: u16, kind: u8, a: u16, b: u16, label: u16, c: u32) -> [u8; 14]
-    ensures { λ r. ⌜ r ≡ recordBytes v2 link kind a b label c ⌝ }
-{
-    [
-        (link % 256) as u8,
-        (link / 256) as u8,
-        kind,
-        0,
-        (a % 256) as u8,
-        (a / 256) as u8,
-        (b % 256) as u8,
-        (b / 256) as u8,
-        (label % 256) as u8,
-        (label / 256) as u8,
-        (c % 256) as u8,
-        (c / 256 % 256) as u8,
-        (c / 65536 % 256) as u8,
-        (c / 16777216) as u8,
-    ]
-}
-
-// The header's tail, as it is written: version 2's holds the floors, and version 1's floors are zero.
-fn tail_of(version: Version, tail: u32) -> u32
-    ensures { λ r. ⌜ r ≡ cond (layoutOf version .floors) tail 0 ⌝ }
-{
-    match version {
-        Version::One => 0,
-        Version::Two => tail,
-    }
-}
-
-// The header of n rules, with the objective and the floors of a book of either version.
-pub fn header_bytes(version: Version, book: &[u8], link: u16, n: u16) -> [u8; 14]
-    ensures { λ r. ⌜ r ≡ headerBytes v2 link (termsOf (layoutOf version) (now (book .entry))) n ⌝ }
-{
-    let f = fields_at(version, book, 0);
-    record_bytes(link, 2, f.a, f.b, n, tail_of(version, f.c))
-}
-
-// The rule of a record, with another link.
-fn rule_bytes(version: Version, book: &[u8], index: u16, link: u16) -> [u8; 14]
-    ensures { λ r. ⌜ r ≡ ruleBytes v2 link (ruleOf (layoutOf version) (recordAt (layoutOf version) (now (book .entry)) index)) ⌝ }
-{
-    let f = fields_at(version, book, index);
-    record_bytes(link, f.kind, f.a, f.b, f.label, f.c)
 }
 
 // A record's bytes into the output.

@@ -1,12 +1,12 @@
--- `repacker::pack::rule_bytes` meets its contract: the fields as they stand, with another link.
+-- `packing::rule_bytes` meets its contract: the fields as they stand, with another link.
 use mir.Syntax.{w16, w32}
 use mir.Val.{Fits}
 use Rattle.records.specs.Layout.{layoutOf}
 use Rattle.records.specs.Record.{recordAt}
-use Rattle.repacker.proofs.Packed.{rule-written}
+use Rattle.packing.proofs.Written.{rule-written}
 use borrow.Author.Needs.{needs}
-use Rattle.repacker.proofs.pack.rule_bytes.Statement.{statement}
-use Rattle.repacker.proofs.pack.rule_bytes.Tie as tie
+use Rattle.packing.proofs.rule_bytes.Statement.{statement}
+use Rattle.packing.proofs.rule_bytes.Tie as tie
 
 returns : tie.Need-returns
 returns c =

@@ -1,7 +1,7 @@
--- `repacker::pack::tail_of` meets its contract: the tail is kept where it holds floors.
+-- `packing::tail_of` meets its contract: the tail is kept where it holds floors.
 use borrow.Author.Needs.{needs}
-use Rattle.repacker.proofs.pack.tail_of.Statement.{statement}
-use Rattle.repacker.proofs.pack.tail_of.Tie as tie
+use Rattle.packing.proofs.tail_of.Statement.{statement}
+use Rattle.packing.proofs.tail_of.Tie as tie
 
 returns : tie.Need-returns
 returns c = rw (c .enum-told .given .1)

@@ -1,8 +1,8 @@
--- `repacker::pack::record_bytes` meets its contract: the fourteen bytes, one by one (`fourteen`).
+-- `packing::record_bytes` meets its contract: the fourteen bytes, one by one (`fourteen`).
 use borrow.Author.Needs.{needs}
-use Rattle.repacker.proofs.Packed.{fourteen}
-use Rattle.repacker.proofs.pack.record_bytes.Statement.{statement}
-use Rattle.repacker.proofs.pack.record_bytes.Tie as tie
+use Rattle.packing.proofs.Written.{fourteen}
+use Rattle.packing.proofs.record_bytes.Statement.{statement}
+use Rattle.packing.proofs.record_bytes.Tie as tie
 
 returns : tie.Need-returns
 returns c =

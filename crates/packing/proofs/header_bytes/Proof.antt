@@ -1,11 +1,11 @@
--- `repacker::pack::header_bytes` meets its contract: p, q and the floors as they stand, and the count of the rules.
+-- `packing::header_bytes` meets its contract: p, q and the floors as they stand, and the count of the rules.
 use mir.Syntax.{w16}
 use mir.Val.{Fits}
 use Rattle.records.specs.Layout.{layoutOf}
-use Rattle.repacker.proofs.Packed.{header-written}
+use Rattle.packing.proofs.Written.{header-written}
 use borrow.Author.Needs.{needs}
-use Rattle.repacker.proofs.pack.header_bytes.Statement.{statement}
-use Rattle.repacker.proofs.pack.header_bytes.Tie as tie
+use Rattle.packing.proofs.header_bytes.Statement.{statement}
+use Rattle.packing.proofs.header_bytes.Tie as tie
 
 returns : tie.Need-returns
 returns c =
