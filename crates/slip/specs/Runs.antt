@@ -2,9 +2,7 @@
 -- one a place, and its rules, three numbers a rule. No function that is called from outside asks anything.
 use mathlib.Core.Path.{_≡_}
 use mathlib.Core.List.{List, [], _∷_}
-use mathlib.Core.Bool.{Bool, _||_}
 use Prim.Native.Nat.{ℕ, zero, suc, _+_, _*_, _≤_, _<_}
-use lib.Dec.{eqb}
 use lib.ListN.{length, getD}
 use lib.IntN.{ℤ, pos}
 use Rattle.ints.specs.Within.{Within}
@@ -89,16 +87,6 @@ entries l i (suc n) = entry l i ∷ entries l (suc i) n
 abbrev pub indices : List ℕ → ℕ → ℕ → List ℕ
 indices l i zero = []
 indices l i (suc n) = getD l i 0 ∷ indices l (suc i) n
-
--- whether one of the records from place i to place i + n is wanted
-abbrev pub someOf : List ℕ → ℕ → ℕ → ℕ → Bool
-someOf l i zero wanted = eqb (getD l i 0) wanted
-someOf l i (suc n) wanted = someOf l i n wanted || eqb (getD l (i + suc n) 0) wanted
-
--- a place up to n before which no record is wanted
-pub record Passed (l : List ℕ) (n wanted place : ℕ) : Type 0 where
-  pub inside : place ≤ n
-  pub none : (k : ℕ) → k < place → getD l k 0 ≡ wanted → ⊥
 
 pub record Room (l : List ℤ) (k : ℕ) : Type 0 where
   pub room : 3 * k + 2 < length l

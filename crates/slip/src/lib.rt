@@ -1,17 +1,9 @@
-// A slip, by which a plan is rechecked without planning: its types, and the checker. The checker knows neither the planner nor its walk; it
-// reads the book, looks up what the slip names and tests document 02's facts. Every function that can be called from outside is total.
-mod entries;
-mod exact;
-mod facts;
-mod lent;
-mod named;
+// A slip, by which a plan is rechecked without planning: the types that code and definitions share, what a slip must be to get a yes and its
+// laws (specs/, proofs/). The code is crates `finding`, which looks a record up, and `checking`, the checker.
+pub mod named;
 
 use answers::Refusal;
 use lp::Outcome;
-ghost use mathlib.Core.Path.{_≡_};
-ghost use Rattle.records.specs.Layout.{v2};
-ghost use Rattle.book.specs.Reading.{readOf};
-ghost use Rattle.slip.specs.Facts.{verdictOf};
 
 // What a slip says besides its outcome: the scale, and how many of the three entries count, each with its weight. An entry's code is 0 for
 // floor x, 1 for floor y and r + 1 for the rule in record r. All are numbers as they were handed over, in range or not.
@@ -37,19 +29,4 @@ pub enum Verdict {
     Refused(Refusal),
     Yes,
     No,
-}
-
-// What the checker says of a slip for a book of version 2, whoever wrote it: the book's own refusal, else 17 where the slip is out of
-// range, else yes exactly if the facts hold.
-pub fn check(book: &[u8], slip: Slip) -> Verdict
-    ensures { λ r. ⌜ r ≡ verdictOf (readOf v2 (now (book .entry))) slip ⌝ }
-{
-    if book.len() <= 434 {
-        return lent::check_short(book, slip);
-    }
-    if book.len() <= 3584 {
-        lent::check_middle(book, slip)
-    } else {
-        lent::check_long(book, slip)
-    }
 }

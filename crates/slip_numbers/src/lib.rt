@@ -137,7 +137,7 @@ pub fn slip_from(numbers: &[i64]) -> Slip
 pub fn check_numbers(book: &[u8], numbers: &[i64]) -> Verdict
     ensures { λ r. ⌜ r ≡ verdictOf (readOf v2 (now (book .entry))) (slipOf (now (numbers .entry))) ⌝ }
 {
-    slip::check(book, slip_from(numbers))
+    checking::check(book, slip_from(numbers))
 }
 
 // Each outcome has its number.

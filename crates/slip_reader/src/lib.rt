@@ -33,6 +33,6 @@ pub fn check_line(book: &[u8], text: &[u8]) -> Verdict
 {
     match read_slip(text) {
         Read::NoLine => slip_numbers::check_numbers(book, &[]),
-        Read::Given(s) => slip::check(book, s),
+        Read::Given(s) => checking::check(book, s),
     }
 }
