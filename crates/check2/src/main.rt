@@ -2,12 +2,12 @@
 // slip, and what the checker says goes to standard output: yes, no or the line of a refusal. It reads one byte more than a book and a line
 // may have, so that what is longer is seen to be too long and gets its refusal. A file that is missing or cannot be read gets a line on
 // standard error, and nothing is printed.
+use check_line::check_line;
 use files::Taken;
 use files::load;
 use libc::STDIN_FILENO;
 use libc::STDOUT_FILENO;
-use slip_reader::check_line;
-use slip_reader::verdict::write_verdict;
+use verdict_line::write_verdict;
 
 // What the checker says of a book and a line.
 fn answer(book: &[u8], text: &[u8]) {

@@ -30,7 +30,8 @@ use Rattle.slip.proofs.Shares.{both}
 use Rattle.slip_theory.proofs.Meaning.{yes-exactly-if}
 use Rattle.slips.specs.Writing.{Tidy, TidyFor, Planned}
 use Rattle.slips.specs.declared.Written.the-variants as written
-use Rattle.slip_reader.specs.Reading.{Slotted, Counted, Plain, WideOutcome, WideWeights, Says, Checks}
+use Rattle.slip_reader.specs.Reading.{Slotted, Counted, Plain, WideOutcome, WideWeights, Says}
+use Rattle.check_line.specs.Checks.{Checks}
 use Rattle.slip_line.specs.Line.{slipLine, writtenFields}
 
 -- ---- a code that names an entry is not below 0

@@ -1,5 +1,4 @@
--- What is read of any bytes is a slip that a line can say, if it names three entries at most; and so the reader's answer is right, and the
--- checker's.
+-- What is read of any bytes is a slip that a line can say, if it names three entries at most; and so the reader's answer is right.
 use mathlib.Core.Path.{_≡_, refl, ap, sym, _∙_, subst}
 use mathlib.Core.Bool.{Bool, true, false, cond, _&&_}
 use mathlib.Core.List.{List, []}
@@ -14,20 +13,16 @@ use mir.Val.{SFits}
 use mir.Facts.{toZ-ofZ}
 use borrow.Author.Tests.{leb-true, ltb-true, le-leb, lt-leb, ltb-false}
 use Rattle.ints.proofs.Bits.{read, low}
-use Rattle.records.specs.Layout.{v2}
-use Rattle.book.specs.Reading.{Reading, readOf}
 use Rattle.lp.specs.declared.Outcome.{Outcome}
 use Rattle.lp.specs.declared.Outcome.the-variants.{Infeasible, Unbounded, Optimal}
 use Rattle.slip.specs.declared.Weights.{Weights}
 use Rattle.slip.specs.declared.Slip.{Slip}
-use Rattle.slip.specs.declared.Verdict.{Verdict}
 use Rattle.slip.specs.Slots.{one, two, three}
-use Rattle.slip.specs.Facts.{ranges, verdictOf}
-use Rattle.slip_numbers.specs.Form.{outOfRange}
+use Rattle.slip.specs.Facts.{ranges}
 use Rattle.slip_reader.specs.Fields.{sizeFrom, greatest, signedOf, isMinus, digitsIn, integerIn, pastField, recordCode, codeIn}
 use Rattle.slip_reader.specs.Fields.{slotCode, slotWeight, pastSlot, countedOf, weightsIn, noWeights, pointIn, pastPair}
 use Rattle.slip_reader.specs.Fields.{bestIn, unlimitedIn, impossibleIn, slipIn}
-use Rattle.slip_reader.specs.Reading.{Slotted, Counted, Plain, Wide, WideWeights, WideOutcome, Stands, Says, Checks}
+use Rattle.slip_reader.specs.Reading.{Slotted, Counted, Plain, Wide, WideWeights, WideOutcome, Stands, Says}
 use Rattle.slip_reader.specs.Asked.{Judges, JudgesLine}
 use Rattle.slip_reader.proofs.Lines.{says-read, says-one}
 
@@ -278,16 +273,3 @@ module _ (l : List ℕ) (s : Slip) (parsed : s ≡ slipIn l) {r : Bool} (j : Jud
   no-line e t h =
       let same : t ≡ s = sym (says-read l t h) ∙ sym parsed in
       j .unmet e (subst Few same (plain-few (t .outcome) (t .weights) (h .plain))) (subst (λ u. Stands u l) same (h .stands))
-
--- ---- the checker
-
-module _ (book l : List ℕ) {r : Verdict} where
-  pub checks-none : ((s : Slip) → Says l s → ⊥) → r ≡ verdictOf (readOf v2 book) outOfRange → Checks book l r
-  checks-none n e = record { said = λ s h. absurd (n s h); unsaid = λ m. e }
-
-  pub checks-given : (s : Slip) → Says l s → r ≡ verdictOf (readOf v2 book) s → Checks book l r
-  checks-given s h e =
-      record {
-        said = λ t k. e ∙ ap (verdictOf (readOf v2 book)) (says-one l s t h k);
-        unsaid = λ m. absurd (m s h);
-      }

@@ -1,6 +1,6 @@
 -- Which slips a text says, by the definition of a slip's text alone (`slip_text`): the slip is one that a line can say, with nothing in its
--- unused slots, its numbers have 64 bits, and the text is its text, with or without a line feed at the end. What the reader and the checker
--- of lines promise. That a text says one slip at most is a theorem (proofs/Lines.antt).
+-- unused slots, its numbers have 64 bits, and the text is its text, with or without a line feed at the end. What the reader
+-- promises. That a text says one slip at most is a theorem (proofs/Lines.antt).
 use mathlib.Core.Path.{_≡_}
 use mathlib.Core.List.{List, _++_}
 use mathlib.Core.Bool.{Bool, true, false}
@@ -12,15 +12,11 @@ use mir.Syntax.{w64}
 use mir.Val.{SFits}
 use Rattle.lp.specs.declared.Outcome.{Outcome}
 use Rattle.lp.specs.declared.Outcome.the-variants.{Infeasible, Unbounded, Optimal}
-use Rattle.records.specs.Layout.{v2}
-use Rattle.book.specs.Reading.{readOf}
 use Rattle.text.specs.Text.{text}
 use Rattle.slip.specs.declared.Weights.{Weights}
 use Rattle.slip.specs.declared.Slip.{Slip}
-use Rattle.slip.specs.declared.Verdict.{Verdict}
 use Rattle.slip.specs.Slots.{one, two, three}
-use Rattle.slip.specs.Facts.{ranges, verdictOf}
-use Rattle.slip_numbers.specs.Form.{outOfRange}
+use Rattle.slip.specs.Facts.{ranges}
 use Rattle.slip_text.specs.Text.{slipText}
 use Rattle.slip_reader.specs.declared.Read.{Read}
 use Rattle.slip_reader.specs.declared.Read.the-variants as read
@@ -82,8 +78,3 @@ pub record Says (l : List ℕ) (s : Slip) : Type 0 where
 abbrev pub Reads : List ℕ → Read → Type 0
 Reads l (read.Given s) = Says l s
 Reads l read.NoLine = (s : Slip) → Says l s → ⊥
-
--- the promise of the checker of lines
-pub record Checks (book l : List ℕ) (r : Verdict) : Type 0 where
-  pub said : (s : Slip) → Says l s → r ≡ verdictOf (readOf v2 book) s
-  pub unsaid : ((s : Slip) → Says l s → ⊥) → r ≡ verdictOf (readOf v2 book) outOfRange

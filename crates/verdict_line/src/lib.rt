@@ -3,7 +3,7 @@ use refusal_text::append_refused;
 use slip::Verdict;
 use text::append_word;
 ghost use Rattle.text.specs.Append.{HasRoom, Appended};
-ghost use Rattle.slip_reader.specs.Verdict.{verdictText, VerdictWritten};
+ghost use Rattle.verdict_line.specs.Verdict.{verdictText, VerdictWritten};
 
 // The line but for its line feed.
 fn append_verdict(v: Verdict, out: &mut [u8]) -> usize

@@ -1,10 +1,10 @@
--- `slip_reader::verdict::write_verdict` meets its contract.
+-- `verdict_line::write_verdict` meets its contract.
 use native.Mathlib.Omega.{arith}
 use borrow.Author.Needs.{needs}
 use Rattle.text.proofs.Put.{too-small, filled, followed}
-use Rattle.slip_reader.specs.Verdict.{verdictLine, verdictRoom}
-use Rattle.slip_reader.proofs.verdict.write_verdict.Statement.{statement}
-use Rattle.slip_reader.proofs.verdict.write_verdict.Tie as tie
+use Rattle.verdict_line.specs.Verdict.{verdictLine, verdictRoom}
+use Rattle.verdict_line.proofs.write_verdict.Statement.{statement}
+use Rattle.verdict_line.proofs.write_verdict.Tie as tie
 
 returns : tie.Need-returns
 returns c = too-small (verdictLine (c .before .before .args .v)) verdictRoom (c .before .before .args .out .now) (omega arith)

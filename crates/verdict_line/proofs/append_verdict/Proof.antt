@@ -1,11 +1,11 @@
--- `slip_reader::verdict::append_verdict` meets its contract.
+-- `verdict_line::append_verdict` meets its contract.
 use native.Mathlib.Omega.{arith}
 use borrow.Author.Needs.{needs}
 use mathlib.Core.Path.{ap, sym}
 use Rattle.text.proofs.Put.{spelt, roomier}
-use Rattle.slip_reader.specs.Verdict.{verdictText}
-use Rattle.slip_reader.proofs.verdict.append_verdict.Statement.{statement}
-use Rattle.slip_reader.proofs.verdict.append_verdict.Tie as tie
+use Rattle.verdict_line.specs.Verdict.{verdictText}
+use Rattle.verdict_line.proofs.append_verdict.Statement.{statement}
+use Rattle.verdict_line.proofs.append_verdict.Tie as tie
 
 returns : tie.Need-returns
 unfolding verdictText

@@ -1,10 +1,10 @@
--- `slip_reader::check_line` meets its contract.
+-- `check_line::check_line` meets its contract.
 use borrow.Author.Needs.{needs}
 use mathlib.Core.Path.{subst}
 use Rattle.slip_reader.specs.Reading.{Reads}
-use Rattle.slip_reader.proofs.Saying.{checks-none, checks-given}
-use Rattle.slip_reader.proofs.check_line.Statement.{statement}
-use Rattle.slip_reader.proofs.check_line.Tie as tie
+use Rattle.check_line.proofs.Answers.{checks-none, checks-given}
+use Rattle.check_line.proofs.check_line.Statement.{statement}
+use Rattle.check_line.proofs.check_line.Tie as tie
 
 returns : tie.Need-returns
 returns c =

@@ -1,0 +1,2 @@
+-- The law of the checker of lines: what is answered is right (Answers).
+pub mod Answers
