@@ -7,14 +7,15 @@ use native.Mathlib.Omega.{arith}
 use lib.ListN.{length, getD, set, length-set}
 use lib.Seq.{getD-set-same, getD-set-other}
 use lib.Dec.{leb}
-use lib.IntN.{ℤ, pos, negsuc, negℤ}
-use borrow.Author.Tests.{le-leb, lt-leb, leb-true}
+use lib.IntN.{ℤ, pos}
+use borrow.Author.Tests.{leb-true}
 use Rattle.lp.specs.declared.Constraint.{Constraint}
 use Rattle.lp.specs.declared.Floors.{Floors}
-use Rattle.lp.specs.Program.{constraint, floorX, floorY}
-use Rattle.engine.specs.Entries.{entry, entries, putEntry}
+use Rattle.lp.specs.Program.{floorX, floorY}
+pub use Rattle.flooring.specs.Floors.{laid}
+use Rattle.flooring.specs.Floors.{putEntry, Lays}
+use Rattle.engine.specs.Entries.{entry, entries}
 use Rattle.amounts.specs.Tests.{floorsInRange}
-use Rattle.engine.specs.Solving.{Lays}
 use Rattle.amounts.proofs.Tests.{both}
 
 pub put-length : (l : List ℤ) (k : ℕ) (c : Constraint) → length (putEntry l k c) ≡ length l
@@ -71,64 +72,35 @@ module _ (l : List ℤ) (k : ℕ) (c : Constraint) where
 -- ---- the floors
 
 module _ (f : Floors) (l : List ℤ) where
-  abbrev pub laid : List ℤ
-  laid = putEntry (putEntry l 0 (floorX f)) 1 (floorY f)
-
-  pub laid-length : length laid ≡ length l
+  pub laid-length : length (laid f l) ≡ length l
   laid-length = put-length (putEntry l 0 (floorX f)) 1 (floorY f) ∙ put-length l 0 (floorX f)
 
-  pub laid-x : 6 ≤ length l → entry laid 0 ≡ floorX f
+  pub laid-x : 6 ≤ length l → entry (laid f l) 0 ≡ floorX f
   laid-x room = put-other (putEntry l 0 (floorX f)) 1 (floorY f) 0 (λ e. omega arith) ∙ put-same l 0 (floorX f) (omega arith)
 
-  pub laid-y : 6 ≤ length l → entry laid 1 ≡ floorY f
+  pub laid-y : 6 ≤ length l → entry (laid f l) 1 ≡ floorY f
   laid-y room = put-same (putEntry l 0 (floorX f)) 1 (floorY f) (omega (arith, put-length l 0 (floorX f)))
 
   -- the rules stay
-  pub laid-rules : (i n : ℕ) → 2 ≤ i → entries laid i n ≡ entries l i n
+  pub laid-rules : (i n : ℕ) → 2 ≤ i → entries (laid f l) i n ≡ entries l i n
   laid-rules i zero h = refl
   laid-rules i (suc n) h =
       ap₂ (λ (r : Constraint) (S : List Constraint). r ∷ S)
       (put-other (putEntry l 0 (floorX f)) 1 (floorY f) i (λ e. omega arith) ∙ put-other l 0 (floorX f) i (λ e. omega arith))
       (laid-rules (suc i) n (omega arith))
 
-  -- as the code lays them
-  pub laid-by :
-      {cx cy : ℤ} →
-      cx ≡ negℤ (f .lx) →
-      cy ≡ negℤ (f .ly) →
-      {l₁ l₂ : List ℤ} →
-      l₁ ≡ putEntry l 0 (constraint (negsuc 0) (pos 0) cx) →
-      l₂ ≡ putEntry l₁ 1 (constraint (pos 0) (negsuc 0) cy) →
-      l₂ ≡ laid
-  laid-by ex ey e₁ e₂ =
-      e₂ ∙ (λ i. putEntry ((e₁ ∙ ap (λ z. putEntry l 0 (constraint (negsuc 0) (pos 0) z)) ex) i) 1 (constraint (pos 0) (negsuc 0) (ey i)))
-
-  -- ---- the promise of laying them
-
-  pub lays : 6 ≤ length l → floorsInRange f ≡ true → {after : List ℤ} → after ≡ laid → Lays f l true after
-  lays room e a =
-      let so = ap (λ s. s && floorsInRange f) (le-leb 6 (length l) room) ∙ e in
-      record { told = sym so; run = a ∙ sym (ap (λ s. cond s laid l) so) }
-
-  lays-not : (leb 6 (length l) && floorsInRange f) ≡ false → Lays f l false l
-  lays-not so = record { told = sym so; run = sym (ap (λ s. cond s laid l) so) }
-
-  pub lays-no-room : length l < 6 → Lays f l false l
-  lays-no-room less = lays-not (ap (λ s. s && floorsInRange f) (lt-leb 6 (length l) less))
-
-  pub lays-out-of-range : 6 ≤ length l → floorsInRange f ≡ false → Lays f l false l
-  lays-out-of-range room e = lays-not (ap (λ s. s && floorsInRange f) (le-leb 6 (length l) room) ∙ e)
+  -- ---- what the promise of laying them says
 
   pub lays-length : {t : Bool} {after : List ℤ} → Lays f l t after → length after ≡ length l
   lays-length {t} h = ap length (h .run) ∙ go (leb 6 (length l) && floorsInRange f)
     where
-      go : (s : Bool) → length (cond s laid l) ≡ length l
+      go : (s : Bool) → length (cond s (laid f l) l) ≡ length l
       go true = laid-length
       go false = refl
 
   module _ {t : Bool} {after : List ℤ} (h : Lays f l t after) (so : t ≡ true) where
-    pub lays-laid : after ≡ laid
-    lays-laid = h .run ∙ ap (λ s. cond s laid l) (sym (h .told) ∙ so)
+    pub lays-laid : after ≡ laid f l
+    lays-laid = h .run ∙ ap (λ s. cond s (laid f l) l) (sym (h .told) ∙ so)
 
     pub lays-tests : (leb 6 (length l) ≡ true) × (floorsInRange f ≡ true)
     lays-tests = both (leb 6 (length l)) (floorsInRange f) (sym (h .told) ∙ so)

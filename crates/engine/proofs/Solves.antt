@@ -17,7 +17,8 @@ use Rattle.engine.specs.declared.Solved.{Solved}
 use Rattle.engine.specs.declared.Solved.the-variants.{Outside, Walked}
 use Rattle.engine.specs.Entries.{entry, entries}
 use Rattle.amounts.specs.Tests.{ruleInRange, objectiveInRange, floorsInRange}
-use Rattle.engine.specs.Solving.{solutionOf, rulesSolved, inRange, solvedOf, Lays, Solves}
+use Rattle.flooring.specs.Floors.{Lays}
+use Rattle.engine.specs.Solving.{solutionOf, rulesSolved, inRange, solvedOf, Solves}
 use Rattle.engine.specs.Sizes.{Walking}
 use Rattle.amounts.proofs.Tests.{both, objective-small, floors-small}
 use Rattle.engine.proofs.Laid.{laid-x, laid-y, laid-rules, lays-length, lays-laid, lays-tests}

@@ -18,7 +18,8 @@ use Rattle.amounts.specs.Tests.{ruleInRange, objectiveInRange, floorsInRange}
 use Rattle.amounts.proofs.Tests.{objective-passes, floors-pass, system-passes}
 use Rattle.engine.specs.declared.Solved.the-variants.{Outside, Walked}
 use Rattle.engine.specs.Entries.{entries, putEntry}
-use Rattle.engine.specs.Solving.{solutionOf, solvedOf, withFloors}
+use Rattle.flooring.specs.Floors.{withFloors}
+use Rattle.engine.specs.Solving.{solutionOf, solvedOf}
 
 pub solved :
     (t : Terms) (l : List ℤ) (n : ℕ) →

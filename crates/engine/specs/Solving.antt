@@ -13,7 +13,7 @@ use Rattle.lp.specs.declared.Floors.{Floors}
 use Rattle.lp.specs.declared.Terms.{Terms}
 use Rattle.lp.specs.declared.Point.{Point}
 use Rattle.lp.specs.declared.Certificate.{Certificate}
-use Rattle.lp.specs.Program.{point, floorX, floorY}
+use Rattle.lp.specs.Program.{point}
 use Rattle.lp.specs.Outcome.{every}
 use Rattle.lp.specs.Start.{Start, none, at}
 use Rattle.lp.specs.Document.{tie}
@@ -25,7 +25,8 @@ use Rattle.model.specs.Step.{walk, said, placeOf, startHeld}
 use Rattle.engine.specs.declared.Solution.{Solution}
 use Rattle.engine.specs.declared.Solved.{Solved}
 use Rattle.engine.specs.declared.Solved.the-variants.{Outside, Walked}
-use Rattle.engine.specs.Entries.{entries, putEntry}
+use Rattle.engine.specs.Entries.{entries}
+use Rattle.flooring.specs.Floors.{withFloors}
 use Rattle.amounts.specs.Tests.{ruleInRange, objectiveInRange, floorsInRange}
 
 -- ---- what a walk comes to
@@ -71,15 +72,6 @@ inRange t l n =
 
 abbrev pub solvedOf : Terms → List ℤ → ℕ → Solved
 solvedOf t l n = cond (inRange t l n) (Walked (solutionOf (t .objective) (walk tie (t .floors) (t .objective) (entries l 2 n)))) Outside
-
--- entries 0 and 1 are the floors, where six numbers have room and the floors are within their range; else the run is as it was
-abbrev pub withFloors : Floors → List ℤ → List ℤ
-withFloors f l = cond (leb 6 (length l) && floorsInRange f) (putEntry (putEntry l 0 (floorX f)) 1 (floorY f)) l
-
--- the promise of laying them
-pub record Lays (f : Floors) (before : List ℤ) (t : Bool) (after : List ℤ) : Type 0 where
-  pub told : t ≡ (leb 6 (length before) && floorsInRange f)
-  pub run : after ≡ withFloors f before
 
 pub record Solves (t : Terms) (n : ℕ) (before : List ℤ) (r : Solved) (after : List ℤ) : Type 0 where
   pub answer : r ≡ solvedOf t before n

@@ -7,7 +7,6 @@ mod cone;
 mod edges;
 mod entries;
 mod exact;
-mod floors;
 mod grow;
 mod insert;
 mod optimum;
@@ -20,6 +19,7 @@ mod verdict;
 mod walk;
 
 use amounts::range::up_to;
+use flooring::lay_floors;
 use lp::Certificate;
 use lp::Outcome;
 use lp::Point;
@@ -52,7 +52,7 @@ pub fn solve(terms: Terms, run: &mut [i64], n: usize) -> Solved
 {
     let objective = terms.objective;
     let floors = terms.floors;
-    if !floors::lay_floors(floors, &mut *run) {
+    if !lay_floors(floors, &mut *run) {
         return Solved::Outside;
     }
     if up_to(32767, objective.p) & up_to(32767, objective.q) {

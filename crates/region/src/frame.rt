@@ -1,21 +1,12 @@
 // The frame of the rules: the floors as the first two entries of a run, and the line at infinity as the one after the rules.
+use flooring::lay_floors;
 use lp::Constraint;
 use lp::Floors;
 ghost use mathlib.Core.Path.{_≡_};
-ghost use lib.IntN.{negℤ};
-ghost use Rattle.ints.specs.Within.{Within};
 ghost use Rattle.engine.specs.Entries.{putEntry};
 ghost use Rattle.engine.specs.Sizes.{Room};
 ghost use Rattle.region.specs.Listing.{framed};
 ghost use Rattle.region.specs.Asked.{Framing};
-
-// −z
-fn opposite(z: i64) -> i64
-    requires { ⌜ Within 1000000000 z ⌝ }
-    ensures { λ r. ⌜ r ≡ negℤ z ⌝ }
-{
-    0 - z
-}
 
 fn put_entry(run: &mut [i64], k: usize, r: Constraint)
     requires { ⌜ Room (now run) k ⌝ }
@@ -34,9 +25,6 @@ pub fn frame(floors: Floors, run: &mut [i64], n: usize)
     requires { ⌜ Framing floors (now run) n ⌝ }
     ensures { λ u. ⌜ now (run .exit) ≡ framed floors (now (run .entry)) n ⌝ }
 {
-    let c = opposite(floors.lx);
-    put_entry(&mut *run, 0, Constraint { a: -1, b: 0, c });
-    let c = opposite(floors.ly);
-    put_entry(&mut *run, 1, Constraint { a: 0, b: -1, c });
+    lay_floors(floors, &mut *run);
     put_entry(run, n + 2, Constraint { a: 0, b: 0, c: 1 });
 }

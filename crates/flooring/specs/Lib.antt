@@ -1,0 +1,2 @@
+-- What the laying of the floors promises (Floors).
+pub mod Floors
