@@ -32,14 +32,12 @@ opposite-is {z} h = within-unread (opposite-small h) tt ∙ ap (λ y. pos 0 -ℤ
 -- ---- the ways
 
 module _ (f : Floors) (l : List ℤ) where
-  -- as the code lays them
-  pub laid-by :
-      SmallFloors f →
-      set (set (set (set (set (set l 0 (negsuc 0)) 1 (pos 0)) 2 (read (pos 0 -ℤ read (f .lx)))) 3 (pos 0)) 4 (negsuc 0)) 5 (read (pos 0 -ℤ read (f .ly)))
-      ≡ laid f l
-  laid-by h =
-      ap₂ (λ (x y : ℤ). set (set (set (set (set (set l 0 (negsuc 0)) 1 (pos 0)) 2 x) 3 (pos 0)) 4 (negsuc 0)) 5 y)
-      (opposite-is (h .lx-small)) (opposite-is (h .ly-small))
+  -- six numbers, as the code puts them
+  abbrev six : ℤ → ℤ → List ℤ
+  six x y = set (set (set (set (set (set l 0 (negsuc 0)) 1 (pos 0)) 2 x) 3 (pos 0)) 4 (negsuc 0)) 5 y
+
+  pub laid-by : SmallFloors f → six (read (pos 0 -ℤ read (f .lx))) (read (pos 0 -ℤ read (f .ly))) ≡ laid f l
+  laid-by h = ap₂ six (opposite-is (h .lx-small)) (opposite-is (h .ly-small))
 
   pub lays : 6 ≤ length l → floorsInRange f ≡ true → {after : List ℤ} → after ≡ laid f l → Lays f l true after
   lays room e a =

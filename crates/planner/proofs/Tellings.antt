@@ -1,25 +1,22 @@
 -- From what a run found to what is told of a book: its answer, its view and its panel are those of its reading.
 use mathlib.Core.Path.{_≡_, refl, sym, _∙_, ap, ap₂, subst}
-use mathlib.Core.Bool.{Bool, true, false, true≢false}
+use mathlib.Core.Bool.{Bool, true, false, cond, true≢false}
 use mathlib.Core.List.{List, [], _∷_, map}
 use Prim.Native.Nat.{ℕ, zero, suc, _≤_, _<_}
 use native.Mathlib.Omega.{arith}
-use borrow.Author.Tests.{ne-eqb}
+use borrow.Author.Tests.{ne-eqb, le-leb}
 use lib.ListN.{length, getD, take}
 use lib.Seq.{take-all}
 use Rattle.lp.specs.declared.Constraint.{Constraint}
-use Rattle.lp.specs.declared.Terms.{Terms}
 use Rattle.lp.specs.declared.Point.{Point}
 use Rattle.lp.specs.declared.Amount.{Amount}
 use Rattle.lp.specs.declared.Outcome.{Outcome}
 use Rattle.lp.specs.declared.Outcome.the-variants as outcome
 use Rattle.lp.specs.Outcome as defined
-use Rattle.lp.specs.Start.{Start, none, at, startOf, restarts}
+use Rattle.lp.specs.Start.{Start, none, at, restarts}
 use Rattle.lp.specs.Range.{SmallSystem}
 use Rattle.lp.specs.Document.{tie}
-use Rattle.records.specs.declared.Version.{Version}
-use Rattle.records.specs.declared.Version.the-variants.{One, Two}
-use Rattle.records.specs.Layout.{Layout, layoutOf}
+use Rattle.records.specs.Layout.{Layout}
 use Rattle.records.specs.Record.{recordAt, ruleOf}
 use Rattle.records.specs.Planned.{plannedRule}
 use Rattle.book.specs.Reading.{Reading, refused, accepted, Entry, readOf, entryAt, rulesOf, recordsOf}
@@ -40,18 +37,18 @@ use Rattle.theory.proofs.Theorems.{walk-is-defined}
 use Rattle.theory.proofs.Starts.{WalkStarts, walk-starts}
 use Rattle.text.specs.Append.{Fills}
 use Rattle.panel_row.specs.declared.Row.{Row}
-use Rattle.report.specs.Line.{lineOf}
 use Rattle.panel_row.specs.Panel.{rowLines}
-use Rattle.plans.specs.Planning.{PlannedAs, planOf}
+use Rattle.plans.specs.Planning.{planOf}
 use Rattle.plans.proofs.Demands.{outcome-small}
 use Rattle.plans.proofs.Finish.{finished}
+use Rattle.running.specs.declared.Findings.{Findings}
+use Rattle.showing.specs.Showing.{panelRoom, rowFor, rowsFrom, within, panelFrom, Shows}
 use Rattle.planner.specs.declared.StartView.{StartView}
-use Rattle.planner.specs.declared.run.Findings.{Findings}
 use Rattle.planner.specs.Planning.{AnsweredBy, Answers}
-use Rattle.planner.specs.Panel.{rowOf, rowsFor, panelText, panelRoom}
-use Rattle.planner.specs.View.{nowhere, viewed, startView, unseen, viewOf, Views}
-use Rattle.planner.specs.Running.{noSolution, Found, RunsBy, Runs, Whole, answerOf, viewFrom, rowFor, rowsFrom, panelFrom, Showing, Shows, Tells}
-use Rattle.planner.proofs.Chains.{length-rules, length-records, rule-planned}
+use Rattle.planner.specs.Panel.{rowOf, rowsFor, panelText}
+use Rattle.planner.specs.View.{viewed, viewOf, Views}
+use Rattle.planner.specs.Running.{Found, RunsBy, Runs, Whole, answerOf, viewFrom, Tells}
+use Rattle.planner.proofs.Chains.{length-rules, length-records}
 
 -- ---- of lists
 
@@ -141,38 +138,41 @@ module _ (L : Layout) (s : List ℕ) (k : ℕ) (r : Findings) (records : List �
 
   -- ---- the panel
 
-  pub run-showing : 4 ≤ L .records → Showing L r records
-  run-showing lines = go (readOf L s) refl
+  -- the chain's records are all there
+  pub run-noted : r .n ≤ length records
+  run-noted = go (readOf L s) refl
     where
-      go : (x : Reading) → readOf L s ≡ x → Showing L r records
+      go : (x : Reading) → readOf L s ≡ x → r .n ≤ length records
       go (refused n i) e =
           let none : r .n ≡ 0 = ap (λ (y : Findings). y .n) (by-reading (refused n i) e) in
-          record { all = omega (arith, none); few = omega (arith, none); lines = lines }
+          omega (arith, none)
       go (accepted t es) e =
           let found : Found t es k r records = by-reading (accepted t es) e in
-          record {
-            all = omega (arith, found .count, found .enough);
-            few = omega (arith, found .count, chain-count L s e, count-room L s e);
-            lines = lines;
-          }
+          omega (arith, found .count, found .enough)
 
-  pub run-shows : Whole L s k → panelFrom L s r records ≡ panelText (readOf L s)
+  pub run-shows : Whole L s k → panelFrom L s (r .refusal) (r .solution .outcome) (take (r .n) records) ≡ panelText (readOf L s)
   unfolding panelText
   run-shows whole = go (readOf L s) refl
     where
-      go : (x : Reading) → readOf L s ≡ x → panelFrom L s r records ≡ panelText (readOf L s)
+      go : (x : Reading) →
+          readOf L s ≡ x →
+          panelFrom L s (r .refusal) (r .solution .outcome) (take (r .n) records) ≡ panelText (readOf L s)
       go (refused n i) e =
-          ap (λ (y : Findings). panelFrom L s y records) (by-reading (refused n i) e)
+          ap (λ (y : Findings). panelFrom L s (y .refusal) (y .solution .outcome) (take (y .n) records)) (by-reading (refused n i) e)
           ∙ rw (ne-eqb n 0 (refusal-number L s e)) (ap panelText (sym e))
       go (accepted t es) e =
-          ap₂ (λ (x : Refusal) (y : Solution). panelFrom L s (record { refusal = x; n = r .n; solution = y }) records) (found .refusal)
-          (found .solution)
-          ∙ ap₂ (λ (l : List ℕ) (q : Outcome). rowLines (rowsFrom L s l q)) noted walked
+          ap₂ (λ (x : Refusal) (y : Solution). panelFrom L s x (y .outcome) (take (r .n) records)) (found .refusal) (found .solution)
+          ∙ ap₂ (λ (l : List ℕ) (q : Outcome). rowLines (rowsFrom L s l q)) (ap (within L) noted ∙ all-within) walked
           ∙ ap rowLines (rows-same (defined.outcome tie (t .floors) (t .objective) (rulesOf es)) refl)
           ∙ ap panelText (sym e)
         where
           found : Found t es k r records
           found = by-reading (accepted t es) e
+
+          all-within : within L (recordsOf es) ≡ recordsOf es
+          all-within =
+              ap (λ (b : Bool). cond b (recordsOf es) [])
+              (le-leb (length (recordsOf es)) (L .records) (omega (arith, length-records es, chain-count L s e, count-room L s e)))
 
           all : take k (rulesOf es) ≡ rulesOf es
           all = take-all k (rulesOf es) (omega (arith, whole t es e, length-rules es))
@@ -206,7 +206,7 @@ module _ (L : Layout) (s : List ℕ) (k : ℕ) (r : Findings) (records : List �
       {v : StartView} →
       v ≡ viewFrom r →
       {panel : Bool} {before after : List ℕ} {count : ℕ} →
-      Shows L s r records before after count →
+      Shows L s (r .refusal) (r .solution .outcome) (take (r .n) records) before after count →
       Tells L s k panel before (record { answer = a; count = count; view = v }) after
   told-shown ea ev {panel} {before} {after} {count} f =
       record {
@@ -228,8 +228,3 @@ module _ (L : Layout) (s : List ℕ) (k : ℕ) (r : Findings) (records : List �
         seen = record { answer = ev ∙ run-views .answer };
         shown = λ whole asked. absurd (true≢false (sym asked ∙ not-asked));
       }
-
--- a book of either version may have four records
-pub four-records : (v : Version) → 4 ≤ layoutOf v .records
-four-records One = omega arith
-four-records Two = omega arith

@@ -1,7 +1,7 @@
 -- The panel of a book, as the bytes of its lines: for a best outcome a line for each rule, its label and its slack, in chain order; for
 -- any other outcome none; for a refused book the line of the refusal.
 use mathlib.Core.List.{List, [], map}
-use Prim.Native.Nat.{ℕ, _*_}
+use Prim.Native.Nat.{ℕ}
 use Rattle.lp.specs.declared.Point.{Point}
 use Rattle.lp.specs.declared.Outcome.{Outcome}
 use Rattle.lp.specs.declared.Outcome.the-variants as outcome
@@ -17,6 +17,7 @@ use Rattle.text.specs.Append.{Fills}
 use Rattle.panel_row.specs.declared.Row.{Row}
 use Rattle.report.specs.Line.{lineOf}
 use Rattle.panel_row.specs.Panel.{rowLines}
+use Rattle.showing.specs.Showing.{panelRoom}
 
 -- a rule of the chain, kind 2 turned round, at a pair
 abbrev pub rowOf : Point → Entry → Row
@@ -31,10 +32,6 @@ rowsFor es (outcome.Optimal v) = map (rowOf v) es
 unfoldable pub panelText : Reading → List ℕ
 panelText (refused n r) = lineOf (Refused (refusal n r))
 panelText (accepted t es) = rowLines (rowsFor es (outcome tie (t .floors) (t .objective) (rulesOf es)))
-
--- 64 bytes for each record of the greatest book, more than any panel takes
-abbrev pub panelRoom : Layout → ℕ
-panelRoom L = 64 * L .records
 
 -- the promise of the panel's lines
 abbrev pub Panels : Layout → List ℕ → List ℕ → List ℕ → ℕ → Type 0

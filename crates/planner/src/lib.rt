@@ -1,8 +1,6 @@
 // The planner on bytes: a book is read once into lent runs of numbers, its rules are planned there, and what they come to is handed back as
 // a plan, as the lines of a panel, or as the start pair after a prefix. Every function that can be called from outside is total: it takes
 // any bytes, as a book of either version, and answers.
-mod panel;
-mod run;
 mod told;
 
 use answers::Answer;

@@ -1,11 +1,11 @@
 // What is told of a book: its answer, its panel and its view, all from one run. Runs of numbers are local to a function for each size of
 // book, since clearing the longest takes several times what a short book takes, and so that a short book takes little of the stack.
 use crate::StartView;
-use crate::panel::show;
-use crate::run::Findings;
-use crate::run::run;
 use answers::Answer;
 use records::Version;
+use running::Findings;
+use running::run;
+use showing::show;
 ghost use mathlib.Core.Path.{_≡_};
 ghost use Rattle.records.specs.Layout.{layoutOf, width as widthOf};
 ghost use Rattle.planner.specs.Running.{answerOf, viewFrom, Roomy, Tells};
@@ -64,7 +64,10 @@ fn tell_in(
     let view = viewed(found);
     let mut count = 0;
     if panel {
-        count = show(version, book, found, &*records, out);
+        let refusal = found.refusal;
+        let solution = found.solution;
+        let outcome = solution.outcome;
+        count = show(version, book, refusal, outcome, &records[..found.n], out);
     }
     Told {
         answer,

@@ -7,7 +7,7 @@ use borrow.Author.Tests.{eq-eqb, ne-eqb}
 use Rattle.answers.specs.declared.Answer.{Answer}
 use Rattle.answers.specs.declared.Answer.the-variants.{Refused, Planned}
 use Rattle.plans.specs.Planning.{planOf}
-use Rattle.planner.specs.declared.run.Findings.{Findings}
+use Rattle.running.specs.declared.Findings.{Findings}
 use Rattle.planner.proofs.told.answered.Statement.{statement}
 use Rattle.planner.proofs.told.answered.Tie as tie
 

@@ -1,35 +1,25 @@
--- `planner::panel::list` meets its contract: the lines of the first n records, each after those before it.
+-- `showing::list` meets its contract: the lines of the records, each after those before it.
 use Prim.Native.Nat.{_-_}
+use lib.ListN.{length}
 use native.Mathlib.Omega.{arith}
 use Rattle.records.specs.Layout.{layoutOf}
-use Rattle.planner.specs.Running.{rowFor}
-use Rattle.planner.proofs.Rows.{Shown, shown-start, shown-all, shown-length, shown-step, shown-end}
+use Rattle.showing.specs.Showing.{rowFor}
+use Rattle.showing.proofs.Rows.{Shown, shown-start, shown-length, shown-step, shown-end}
 use borrow.Author.Needs.{needs}
-use Rattle.planner.proofs.panel.list.Statement.{statement}
-use Rattle.planner.proofs.panel.list.Tie as tie
+use Rattle.showing.proofs.list.Statement.{statement}
+use Rattle.showing.proofs.list.Tie as tie
 
 abbrev Inv-loop : tie.InvT-loop
-Inv-loop version book records n v out₀ at₀ i₀ out at i = Shown (rowFor (layoutOf version) book v) records n out₀ out at i
+Inv-loop version book records v out₀ at₀ i₀ out at i = Shown (rowFor (layoutOf version) book v) records out₀ out at i
 
 abbrev μ-loop : tie.MeasureT-loop
-μ-loop version book records n v out₀ at₀ i₀ out at i = n - i
+μ-loop version book records v out₀ at₀ i₀ out at i = length records - i
 
 loop-holds : tie.Need-loop-holds Inv-loop μ-loop
 loop-holds c =
     let start = c .before .before .before in
     shown-start (rowFor (layoutOf (start .args .version)) (start .args .book .now) (start .args .v)) (start .args .records .now)
-    (start .args .n) (start .args .out .now) (start .pre)
-
-mul-row : tie.Need-mul-row Inv-loop μ-loop
-mul-row c = omega arith
-
-shared-slice-read-row : tie.Need-shared-slice-read-row Inv-loop μ-loop
-shared-slice-read-row c = shown-all (c .before .before .loop .inv) (c .before .loop-test .taken)
-
-add-i : tie.Need-add-i Inv-loop μ-loop
-add-i c =
-    omega
-    (arith, c .before .before .before .before .before .before .loop-test .taken, shown-all (c .before .before .before .before .before .before .before .loop .inv) (c .before .before .before .before .before .before .loop-test .taken))
+    (start .args .out .now) (start .pre)
 
 loop-again : tie.Need-loop-again Inv-loop μ-loop
 loop-again c =
@@ -50,11 +40,11 @@ list-spec =
     Inv-loop
     μ-loop
     loop-holds
-    mul-row
-    shared-slice-read-row
+    (λ c. omega arith)
+    (λ c. search needs)
     (λ c κs. search needs)
     (λ c κs. search needs)
-    add-i
+    (λ c. search needs)
     (λ c. omega arith)
     loop-again
     same-length

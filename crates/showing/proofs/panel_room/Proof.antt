@@ -1,11 +1,11 @@
--- `planner::panel::panel_room` meets its contract: 64 bytes for each record of the version's greatest book.
+-- `showing::panel_room` meets its contract: 64 bytes for each record of the version's greatest book.
 use mathlib.Core.Path.{sym, ap}
 use borrow.Author.Needs.{needs}
 use Rattle.records.specs.declared.Version.{Version}
 use Rattle.records.specs.Layout.{layoutOf}
-use Rattle.planner.specs.Panel.{panelRoom}
-use Rattle.planner.proofs.panel.panel_room.Statement.{statement}
-use Rattle.planner.proofs.panel.panel_room.Tie as tie
+use Rattle.showing.specs.Showing.{panelRoom}
+use Rattle.showing.proofs.panel_room.Statement.{statement}
+use Rattle.showing.proofs.panel_room.Tie as tie
 
 returns : tie.Need-returns
 returns c = sym (ap (λ (v : Version). panelRoom (layoutOf v)) (c .enum-told .given .1))

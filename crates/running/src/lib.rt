@@ -1,5 +1,5 @@
 // One run of the planner over a book: it is read once into two lent runs, the chain's records and its rules, and the rules of a prefix
-// are planned.
+// are planned. It is total: the runs may be of any length, and where they are too short for a book, nothing of it is planned.
 use answers::Refusal;
 use engine::Solution;
 use engine::Solved;
@@ -10,7 +10,7 @@ use records::Version;
 ghost use mathlib.Core.Path.{_≡_};
 ghost use Prim.Native.Nat.{min};
 ghost use Rattle.records.specs.Layout.{layoutOf};
-ghost use Rattle.planner.specs.Running.{noSolution, Roomy, Runs};
+ghost use Rattle.running.specs.Running.{noSolution, Ran};
 
 // What a run finds: the book's refusal, or no refusal, how many rules the chain has, and what those of the prefix come to.
 pub struct Findings {
@@ -42,15 +42,15 @@ fn no_solution() -> Solution
     }
 }
 
-// A prefix of n rules: the whole chain, if there are fewer.
+// The lesser of two: a prefix of n rules is the whole chain, if there are fewer.
 fn shorter(prefix: usize, n: usize) -> usize
     ensures { λ r. ⌜ r ≡ min prefix n ⌝ }
 {
     if prefix < n { prefix } else { n }
 }
 
-// The run over a book's first `prefix` rules: the whole chain, if there are fewer. An accepted book's numbers are all in range, so that
-// the engine plans it.
+// The run over a book's first `prefix` rules: the whole chain, if there are fewer. The rules go into the run of entries after six numbers
+// for the floors, as far as there is room. An accepted book's numbers are all in range, so that the engine plans it if all have room.
 pub fn run(
     version: Version,
     book: &[u8],
@@ -58,10 +58,11 @@ pub fn run(
     records: &mut [u16],
     entries: &mut [i64],
 ) -> Findings
-    requires { ⌜ Roomy (layoutOf version) (now book) (now records) (now entries) ⌝ }
-    ensures { λ r. ⌜ Runs (layoutOf version) (now (book .entry)) prefix r (now (records .exit)) ⌝ }
+    ensures { λ r. ⌜ Ran (layoutOf version) (now (book .entry)) prefix (now (records .entry)) (now (entries .entry))
+        r (now (records .exit)) (now (entries .exit)) ⌝ }
 {
-    let head = reading::read(version, book, &mut *records, &mut entries[6..]);
+    let floors = shorter(6, entries.len());
+    let head = reading::read(version, book, &mut *records, &mut entries[floors..]);
     let refusal = head.refusal;
     let number = refusal.number;
     let n = head.n;

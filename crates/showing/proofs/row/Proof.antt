@@ -1,12 +1,12 @@
--- `planner::panel::row` meets its contract: the label and slack of the rule in a record.
+-- `showing::row` meets its contract: the label and slack of the rule in a record.
 use mathlib.Core.Path.{ap, _∙_}
 use borrow.Author.Needs.{needs}
 use Rattle.lp.specs.declared.Constraint.{Constraint}
 use Rattle.records.specs.declared.Rule.{Rule}
 use Rattle.records.specs.Planned.{plannedRule}
 use Rattle.amounts.specs.Amounts.{amountOf}
-use Rattle.planner.proofs.panel.row.Statement.{statement}
-use Rattle.planner.proofs.panel.row.Tie as tie
+use Rattle.showing.proofs.row.Statement.{statement}
+use Rattle.showing.proofs.row.Tie as tie
 
 returns : tie.Need-returns
 returns c =
