@@ -1,4 +1,4 @@
--- What turns a rule back, as the code tests it: the first of 8, 9 and 10; and a rule that has none of them is lawful.
+-- What turns an objective back, as the code tests it; and a rule that has none of the causes 8, 9 and 10 is lawful.
 use mathlib.Core.Path.{_≡_, refl, sym, _∙_, ap, ap₂, subst}
 use mathlib.Core.Bool.{Bool, true, false, not, _||_, _&&_}
 use mathlib.Core.Logic.{_⊎_, inl, inr}
@@ -8,21 +8,18 @@ use borrow.Author.Tests.{eqb-true, ltb-false}
 use lib.Dec.{T, eqb, ltb}
 use lib.IntN.{ℤ, pos, negsuc, natAbs}
 use lib.Signed.{ltZ}
-use mir.Syntax.{w16, w32}
+use mir.Syntax.{w16}
 use mir.Val.{SFits, toZ, ofZ}
 use mir.Facts.{toZ-ofZ}
 use Rattle.records.specs.declared.Rule.{Rule}
 use Rattle.records.specs.Record.{isLeast, isBeyond, badKind, badSlope, badBound, numberOf}
 use Rattle.records.proofs.Checks as records
-use Rattle.sessions.specs.Checking.{Checked}
+use Rattle.sessions.specs.Sessions.{causeOf, Lawful}
 
 -- ---- one number
 
 pub least-read : (z : ℤ) → SFits w16 z → {t : Bool} → t ≡ isLeast (toZ w16 (ofZ w16 z)) → t ≡ isLeast z
 least-read z f e = e ∙ ap isLeast (toZ-ofZ {w = w16} f)
-
-pub beyond-read : (z : ℤ) → SFits w32 z → {t : Bool} → t ≡ isBeyond (toZ w32 (ofZ w32 z)) → t ≡ isBeyond z
-beyond-read z f e = e ∙ ap isBeyond (toZ-ofZ {w = w32} f)
 
 -- sixteen bits other than −32,768
 pub within-top : (z : ℤ) → SFits w16 z → isLeast z ≡ false → natAbs z ≤ 32767
@@ -50,17 +47,6 @@ none-least p q e f = sym (ap₂ (λ b c. not (b || c)) e f)
 
 -- ---- a rule
 
-pub kind-first : (r : Rule) → badKind true r ≡ true → Checked r 8
-kind-first r k = record { answer = ap numberOf (records.kind-first true r 0 k); lawful = λ z. absurd (let w : ⊥ = omega arith in w) }
-
-pub slope-next : (r : Rule) → badKind true r ≡ false → badSlope r ≡ true → Checked r 9
-slope-next r k a =
-    record { answer = ap numberOf (records.slope-next true r 0 k a); lawful = λ z. absurd (let w : ⊥ = omega arith in w) }
-
-pub bound-last : (r : Rule) → badKind true r ≡ false → badSlope r ≡ false → badBound r ≡ true → Checked r 10
-bound-last r k a b =
-    record { answer = ap numberOf (records.bound-last true r 0 k a b); lawful = λ z. absurd (let w : ⊥ = omega arith in w) }
-
 kind-of : (k : ℕ) → not ((eqb k 1 || eqb k 2) && true) ≡ false → (k ≡ 1) ⊎ (k ≡ 2)
 kind-of k = go (eqb k 1) (eqb k 2) refl refl
   where
@@ -74,24 +60,22 @@ bound-of (pos n) e = omega (arith, ltb-false 1000000000 n (either-false (ltZ (po
 bound-of (negsuc n) e =
     omega (arith, ltb-false 999999999 n (either-false (ltZ (negsuc n) (negsuc 999999999)) (ltZ (pos 1000000000) (negsuc n)) e .0))
 
-pub no-cause : (r : Rule) →
-    SFits w16 (r .a) →
-    SFits w16 (r .b) →
-    r .label < 65536 →
-    badKind true r ≡ false →
-    badSlope r ≡ false →
-    badBound r ≡ false →
-    Checked r 0
-no-cause r fa fb fl k s b =
-    let slopes = either-false (isLeast (r .a)) (isLeast (r .b)) s in
-    record {
-      answer = ap numberOf (records.sound true r 0 k s b);
-      lawful =
-          λ z. record {
-            kind = kind-of (r .kind) k;
-            a = within-top (r .a) fa (slopes .0);
-            b = within-top (r .b) fb (slopes .1);
-            c = bound-of (r .c) b;
-            label = fl;
-          };
-    }
+pub no-cause : (r : Rule) → SFits w16 (r .a) → SFits w16 (r .b) → r .label < 65536 → causeOf r ≡ 0 → Lawful r
+no-cause r fa fb fl none = go (badKind true r) refl (badSlope r) refl (badBound r) refl
+  where
+    never : {n : ℕ} → causeOf r ≡ suc n → Lawful r
+    never e = absurd (let w : ⊥ = omega (arith, e, none) in w)
+
+    go : (k : Bool) → badKind true r ≡ k → (s : Bool) → badSlope r ≡ s → (b : Bool) → badBound r ≡ b → Lawful r
+    go true k s es b eb = never (ap numberOf (sym (records.kind-first true r 0 k)))
+    go false k true es b eb = never (ap numberOf (sym (records.slope-next true r 0 k es)))
+    go false k false es true eb = never (ap numberOf (sym (records.bound-last true r 0 k es eb)))
+    go false k false es false eb =
+        let slopes = either-false (isLeast (r .a)) (isLeast (r .b)) es in
+        record {
+          kind = kind-of (r .kind) k;
+          a = within-top (r .a) fa (slopes .0);
+          b = within-top (r .b) fb (slopes .1);
+          c = bound-of (r .c) eb;
+          label = fl;
+        }

@@ -17,26 +17,27 @@ use Rattle.sessions.specs.declared.Session.{Session}
 use Rattle.sessions.specs.declared.Step.{Step}
 use Rattle.sessions.specs.Sessions.{causeOf, labelHeld, IsSession}
 use Rattle.sessions.specs.Steps.{startOf, longerBy, shorterBy, addingCause, addingRefusal, withdrawing, starting, Leads, Starts, Adds, Withdraws}
-use Rattle.sessions.specs.Checking.{Checked, AddingChecked}
+use Rattle.sessions.specs.Checking.{AddingChecked}
+use Rattle.sessions.proofs.Checks.{no-cause}
 use Rattle.sessions.proofs.Kept.{start-session}
 
 -- ---- the cause that turns a rule back
 
-module _ (s : Session) (r : Rule) (n : ℕ) (checked : Checked r n) where
+module _ (s : Session) (r : Rule) {n : ℕ} (found : n ≡ causeOf r) where
   pub rule-turned : (n ≡ 0 → ⊥) → AddingChecked s r n
   rule-turned some =
       record {
         answer =
-            checked .answer
+            found
             ∙ sym (ap (λ b. cond b (cond (labelHeld s (r .label)) 12 0) (causeOf r))
-            (ne-eqb (causeOf r) 0 (λ e. some (checked .answer ∙ e))));
-        lawful = checked .lawful;
+            (ne-eqb (causeOf r) 0 (λ e. some (found ∙ e))));
+        lawful = λ e. absurd (some e);
         new = λ e. absurd (some e);
       }
 
   module _ (none : n ≡ 0) where
     passes : eqb (causeOf r) 0 ≡ true
-    passes = eq-eqb (causeOf r) 0 (sym (checked .answer) ∙ none)
+    passes = eq-eqb (causeOf r) 0 (sym found ∙ none)
 
     pub label-turned : {t : Bool} → t ≡ labelHeld s (r .label) → t ≡ true → AddingChecked s r 12
     label-turned e yes′ =
@@ -46,11 +47,12 @@ module _ (s : Session) (r : Rule) (n : ℕ) (checked : Checked r n) where
           new = λ z. absurd (let w : ⊥ = omega arith in w);
         }
 
-    pub none-turned : {t : Bool} → t ≡ labelHeld s (r .label) → t ≡ false → AddingChecked s r 0
-    none-turned e no′ =
+    pub none-turned : SFits w16 (r .a) → SFits w16 (r .b) → r .label < 65536 → {t : Bool} →
+        t ≡ labelHeld s (r .label) → t ≡ false → AddingChecked s r 0
+    none-turned fa fb fl e no′ =
         record {
           answer = sym (ap₂ (λ b c. cond b (cond c 12 0) (causeOf r)) passes (sym e ∙ no′));
-          lawful = λ z. checked .lawful none;
+          lawful = λ z. no-cause r fa fb fl (sym found ∙ none);
           new = λ z. sym e ∙ no′;
         }
 

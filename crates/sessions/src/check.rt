@@ -1,18 +1,14 @@
 // What turns a rule back: 8, 9 and 10 as in a book, and 12 for a label that a rule held has already.
 use crate::Session;
+use causes::decoded;
 use records::Rule;
+use rules::number_of;
+use signed::least;
 ghost use mathlib.Core.Path.{_≡_};
 ghost use mathlib.Core.Bool.{not, _||_};
-ghost use Rattle.records.specs.Record.{isLeast, isBeyond, badKind, badSlope};
+ghost use Rattle.records.specs.Record.{isLeast};
 ghost use Rattle.sessions.specs.Sessions.{IsSession, labelHeld};
-ghost use Rattle.sessions.specs.Checking.{Checked, AddingChecked};
-
-// -32,768.
-fn least(x: i16) -> bool
-    ensures { λ r. ⌜ r ≡ isLeast x ⌝ }
-{
-    x < -32767
-}
+ghost use Rattle.sessions.specs.Checking.{AddingChecked};
 
 // Cause 4.
 pub fn lawful_objective(p: i16, q: i16) -> bool
@@ -25,47 +21,6 @@ pub fn lawful_objective(p: i16, q: i16) -> bool
         return false;
     }
     true
-}
-
-// Outside the range of c.
-fn beyond(x: i32) -> bool
-    ensures { λ r. ⌜ r ≡ isBeyond x ⌝ }
-{
-    x < -1000000000 || x > 1000000000
-}
-
-// Cause 8. A rule that comes from no record has nothing else to be clear.
-fn bad_kind(clear: bool, rule: Rule) -> bool
-    ensures { λ r. ⌜ r ≡ badKind clear rule ⌝ }
-{
-    let kind = rule.kind;
-    !(((kind == 1) | (kind == 2)) & clear)
-}
-
-// Cause 9.
-fn bad_slope(rule: Rule) -> bool
-    ensures { λ r. ⌜ r ≡ badSlope rule ⌝ }
-{
-    if least(rule.a) {
-        return true;
-    }
-    least(rule.b)
-}
-
-// The first of 8, 9 and 10, or 0.
-fn cause(rule: Rule) -> u8
-    ensures { λ r. ⌜ Checked rule r ⌝ }
-{
-    if bad_kind(true, rule) {
-        return 8;
-    }
-    if bad_slope(rule) {
-        return 9;
-    }
-    if beyond(rule.c) {
-        return 10;
-    }
-    0
 }
 
 // Whether a rule held has this label.
@@ -86,12 +41,12 @@ fn label_held(session: Session, label: u16) -> bool
     false
 }
 
-// The cause that turns a rule back, or 0.
+// The cause that turns a rule back, or 0. A rule of a session comes from no record, so that no padding is set and no link follows.
 pub fn cause_of_adding(session: Session, rule: Rule) -> u8
     requires { ⌜ IsSession session ⌝ }
     ensures { λ r. ⌜ AddingChecked session rule r ⌝ }
 {
-    let number = cause(rule);
+    let number = number_of(decoded(true, rule, 0));
     if number != 0 {
         return number;
     }

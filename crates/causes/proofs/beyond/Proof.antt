@@ -1,4 +1,4 @@
--- `sessions::check::beyond` meets its contract: below the range, or above it.
+-- `causes::beyond` meets its contract: below the range, or above it.
 use mathlib.Core.Path.{_≡_, ap, sym, _∙_}
 use mathlib.Core.Bool.{true, false}
 use lib.IntN.{negsuc}
@@ -7,8 +7,8 @@ use mir.Syntax.{w32}
 use mir.Val.{toZ, ofZ}
 use mir.Facts.{toZ-ofZ}
 use borrow.Author.Needs.{needs}
-use Rattle.sessions.proofs.check.beyond.Statement.{statement}
-use Rattle.sessions.proofs.check.beyond.Tie as tie
+use Rattle.causes.proofs.beyond.Statement.{statement}
+use Rattle.causes.proofs.beyond.Tie as tie
 
 returns : tie.Need-returns
 returns c =
