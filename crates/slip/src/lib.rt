@@ -1,5 +1,5 @@
-// A slip, by which a plan is rechecked without planning: the types that code and definitions share, what a slip must be to get a yes and its
-// laws (specs/, proofs/). The code is crates `finding`, which looks a record up, and `checking`, the checker.
+// A slip, by which a plan is rechecked without planning: the types that code and definitions share, what a slip must be to get a yes, and
+// its laws (specs/, proofs/). The code is crates `finding`, which looks a record up, and `checking`, the checker.
 pub mod named;
 
 use answers::Refusal;
