@@ -1,19 +1,11 @@
-// Values of parts of a typed text: forms a·x + b·y + c whose numbers are at most 1,000,000,000 either way, or a refusal. The
-// operations on them, and the rule that two of them make. Every function that can be called from outside is total: an operand beyond
-// the limit is refused as a number beyond it would be.
+// Values of parts of a typed text: forms a·x + b·y + c whose numbers are at most 1,000,000,000 either way, or a refusal. A number's value,
+// and the operands of an operation. Crates `form_sums` and `form_products` hold the operations, whose definitions stand here. Every
+// function that can be called from outside is total: an operand beyond the limit is refused as a number beyond it would be.
 use answers::Refusal;
-use within::add_forms;
-use within::finished;
-use within::held;
-use within::limited;
-use within::multiplied;
-use within::paired;
-use within::sub_forms;
-ghost use mathlib.Core.Path.{_≡_};
-ghost use Rattle.forms.specs.Value.{held as heldOf, numeral as numeralOf, negated as negatedOf, sum as sumOf, difference as differenceOf, product as productOf, conclude as concludeOf};
+ghost use Rattle.forms.specs.Value.{numeral as numeralOf};
 ghost use Rattle.forms.specs.Small.{Valued};
 
-mod within;
+pub mod operands;
 
 // What a side comes to: a·x + b·y + c.
 pub struct Form {
@@ -60,51 +52,5 @@ pub fn numeral(n: usize) -> Value
         })
     } else {
         Value::Beyond(15)
-    }
-}
-
-pub fn negated(v: Value) -> Value
-    ensures { λ r. ⌜ Valued (negatedOf (heldOf v)) r ⌝ }
-{
-    match held(v) {
-        Value::Linear(f) => Value::Linear(sub_forms(Form { a: 0, b: 0, c: 0 }, f)),
-        Value::Beyond(n) => Value::Beyond(n),
-    }
-}
-
-pub fn sum(v: Value, w: Value) -> Value
-    ensures { λ r. ⌜ Valued (sumOf (heldOf v) (heldOf w)) r ⌝ }
-{
-    match paired(v, w) {
-        Pair::Forms(f, g) => limited(add_forms(f, g)),
-        Pair::First(n) => Value::Beyond(n),
-    }
-}
-
-pub fn difference(v: Value, w: Value) -> Value
-    ensures { λ r. ⌜ Valued (differenceOf (heldOf v) (heldOf w)) r ⌝ }
-{
-    match paired(v, w) {
-        Pair::Forms(f, g) => limited(sub_forms(f, g)),
-        Pair::First(n) => Value::Beyond(n),
-    }
-}
-
-pub fn product(v: Value, w: Value) -> Value
-    ensures { λ r. ⌜ Valued (productOf (heldOf v) (heldOf w)) r ⌝ }
-{
-    match paired(v, w) {
-        Pair::Forms(f, g) => multiplied(f, g),
-        Pair::First(n) => Value::Beyond(n),
-    }
-}
-
-// The rule of two sides, or the refusal of the left one, the right one, or the last.
-pub fn conclude(kind: usize, v: Value, w: Value) -> Typed
-    ensures { λ r. ⌜ r ≡ concludeOf kind (heldOf v) (heldOf w) ⌝ }
-{
-    match paired(v, w) {
-        Pair::Forms(f, g) => finished(kind, f, g),
-        Pair::First(n) => Typed::Refused(Refusal { number: n, at: 0 }),
     }
 }

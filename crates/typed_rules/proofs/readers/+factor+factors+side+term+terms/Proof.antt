@@ -32,9 +32,9 @@ use Rattle.typed_rules.proofs.readers.+factor+factors+side+term+terms.L
 use Rattle.typed_rules.proofs.readers.terms.Reads as terms
 use Rattle.typed_rules.proofs.readers.terms.Kinds as terms-kinds
 use Rattle.typed_rules.proofs.readers.+factor+factors+side+term+terms.Lts-terms as terms-lts
-use Rattle.forms.proofs.difference.Reads as difference-reads
-use Rattle.forms.proofs.product.Reads as product-reads
-use Rattle.forms.proofs.sum.Reads as sum-reads
+use Rattle.form_sums.proofs.difference.Reads as difference-reads
+use Rattle.form_products.proofs.product.Reads as product-reads
+use Rattle.form_sums.proofs.sum.Reads as sum-reads
 use Rattle.typed_rules.proofs.readers.closed.Reads as closed-reads
 use Rattle.typed_rules.proofs.readers.number.Reads as number-reads
 use Rattle.typed_rules.proofs.readers.opposed.Reads as opposed-reads
