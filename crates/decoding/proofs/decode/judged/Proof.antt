@@ -10,7 +10,7 @@ use Rattle.decoding.proofs.decode.judged.Tie as tie
 returns : tie.Need-returns
 returns c =
     let f = c .before .before .before .args .f in
-    c .check .ensures ∙ ap (λ (r : Rule). decodedWith (eqb (f .pad) 0) r (f .link)) (c .before .rule-in .ensures)
+    c .decoded .ensures ∙ ap (λ (r : Rule). decodedWith (eqb (f .pad) 0) r (f .link)) (c .before .rule-in .ensures)
 
 pub judged-spec : {M : Type 1} → statement M
 judged-spec = tie.close (tie.spec (λ c κs. search needs) (λ c κs. search needs) returns)
