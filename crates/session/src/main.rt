@@ -80,10 +80,10 @@ fn stepped(session: Session, text: &[u8]) -> Turn
 {
     match session_lines::read_line(text) {
         Asked::Nothing => unchanged(session),
-        Asked::Begin(b) => done(sessions::start(b.p, b.q, b.lx, b.ly)),
-        Asked::Add(rule) => done(sessions::add(session, rule)),
+        Asked::Begin(b) => done(steps::start(b.p, b.q, b.lx, b.ly)),
+        Asked::Add(rule) => done(steps::add(session, rule)),
         Asked::Turn(refusal) => turned_back(session, refusal),
-        Asked::Back => done(sessions::withdraw(session)),
+        Asked::Back => done(steps::withdraw(session)),
     }
 }
 
@@ -121,6 +121,6 @@ fn run(session: Session)
 }
 
 fn main() {
-    let first = sessions::start(0, 0, 0, 0);
+    let first = steps::start(0, 0, 0, 0);
     run(first.session);
 }

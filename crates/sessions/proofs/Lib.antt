@@ -1,4 +1,4 @@
--- The laws of sessions.
+-- The laws of sessions, and what is refused in small ones, computed (Examples).
 pub mod Labels
 pub mod Checks
 pub mod Laid
@@ -8,3 +8,4 @@ pub mod Held
 pub mod Kept
 pub mod Led
 pub mod Demands
+pub mod Examples
