@@ -12,7 +12,8 @@ use within::add_forms;
 use within::finished;
 use within::sub_forms;
 ghost use mathlib.Core.Path.{_≡_};
-ghost use Rattle.forms.specs.Value.{held as heldOf, negated as negatedOf, sum as sumOf, difference as differenceOf, conclude as concludeOf};
+ghost use Rattle.forms.specs.Value.{held as heldOf, negated as negatedOf, sum as sumOf, difference as differenceOf};
+ghost use Rattle.forms.specs.Value.{conclude as concludeOf};
 ghost use Rattle.forms.specs.Small.{Valued};
 
 mod within;

@@ -1,4 +1,5 @@
--- `numerals::append_number` meets its contract. A buffer without room is left alone; else a space and at most 20 digits stand at the place.
+-- `numerals::append_number` meets its contract. A buffer without room is left alone; else a space and at most 20 digits stand at the
+-- place.
 use native.Mathlib.Omega.{arith}
 use borrow.Author.Needs.{needs}
 use Rattle.text.specs.Number.{number}
@@ -25,4 +26,5 @@ returns-2 c =
 pub append-number-spec : {M : Type 1} → statement M
 append-number-spec =
     tie.close
-    (tie.spec (λ c κs. search needs) returns (λ c. search needs) (λ c κs. search needs) (λ c κs. search needs) (λ c. search needs) returns-2)
+    (tie.spec (λ c κs. search needs) returns (λ c. search needs) (λ c κs. search needs) (λ c κs. search needs) (λ c. search needs)
+    returns-2)

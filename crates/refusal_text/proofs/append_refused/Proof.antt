@@ -1,5 +1,5 @@
--- `refusal_text::append_refused` meets its contract. A buffer without room is left alone; else the word and two numbers stand at the place, in
--- turn.
+-- `refusal_text::append_refused` meets its contract. A buffer without room is left alone; else the word and two numbers stand at the
+-- place, in turn.
 use native.Mathlib.Omega.{arith}
 use borrow.Author.Needs.{needs}
 use Rattle.text.specs.Number.{refused}
