@@ -13,15 +13,15 @@ use Rattle.book.specs.declared.Head.{Head}
 use Rattle.book.specs.Reading.{refused, readOf, rulesOf}
 use Rattle.engine.specs.Entries.{entries}
 use Rattle.batching.specs.declared.Batched.{Batched}
-use Rattle.objectives.specs.Objectives.{objectivesOf, badObjectives}
+use Rattle.objectives.specs.Objectives.{objectivesOf, badObjectives, causeOf}
 use Rattle.offering.specs.Offers.{answersFor}
 use Rattle.batching.specs.Promises as promised
 use Rattle.batching.specs.Promises.{Batch, declined, batchOf, batchedOf, outputOf, Batches}
 use Rattle.objectives.proofs.Sound.{whole-objectives}
 use Rattle.offering.specs.declared.Answered.{Answered}
 use Rattle.offering.specs.declared.Answered.the-variants as answered
-use Rattle.offering.specs.Answering.{causeOf, Answers}
-use Rattle.offering.proofs.Answering.{cause-sixteen, cause-eleven, cause-none, none-sound, none-room}
+use Rattle.offering.specs.Answering.{Answers}
+use Rattle.objectives.proofs.Turned.{cause-sixteen, cause-eleven, cause-none, none-sound, none-room}
 use Rattle.offering.proofs.Written.{length-answers, length-objectives}
 use Rattle.batching.specs.Asked.{Roomy, batchedBy}
 use Rattle.batching.proofs.Books.{Ready}

@@ -46,3 +46,7 @@ someBad (f ∷ fs) = elim (isBad f) [ true ↦ true | false ↦ someBad fs ]
 -- cause 16
 abbrev pub badObjectives : List ℕ → Bool
 badObjectives s = badLength s || someBad (objectivesOf s)
+
+-- 16, then 11 for an output with so many bytes, or 0. An answer has 32 bytes and an objective 4
+abbrev pub causeOf : List ℕ → ℕ → ℕ
+causeOf objectives room = cond (badObjectives objectives) 16 (cond (ltb room (8 * length objectives)) 11 0)

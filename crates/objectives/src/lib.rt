@@ -1,4 +1,4 @@
-// The objectives of a batch (request 109), read from their bytes, and what turns them back: cause 16. It takes any bytes.
+// The objectives of a batch (request 109), read from their bytes, and what turns them back: the causes 16 and 11. It takes any bytes.
 use lp::Functional;
 ghost use mathlib.Core.Path.{_≡_};
 ghost use Prim.Native.Nat.{_+_, _*_, _≤_};
@@ -7,7 +7,7 @@ ghost use lib.ListN.{length};
 ghost use mir.Syntax.{w16};
 ghost use mir.Val.{toZ};
 ghost use Rattle.objectives.specs.Objectives.{halfAt, objectiveAt, objectiveIn, objectivesOf};
-ghost use Rattle.objectives.specs.Objectives.{badLength, isBad, someBad, badObjectives};
+ghost use Rattle.objectives.specs.Objectives.{badLength, isBad, someBad, badObjectives, causeOf};
 
 // Two bytes as a signed number in two's complement, the one that counts least first: half the range up and, round the end, half the range
 // down.
@@ -88,11 +88,21 @@ fn some_bad(bytes: &[u8]) -> bool
 }
 
 // Cause 16.
-pub fn bad_objectives(bytes: &[u8]) -> bool
+fn bad_objectives(bytes: &[u8]) -> bool
     ensures { λ t. ⌜ t ≡ badObjectives (now (bytes .entry)) ⌝ }
 {
     if bad_length(bytes) {
         return true;
     }
     some_bad(bytes)
+}
+
+// What turns objectives back, for an output with so many bytes: 16, then 11; 0 if nothing does.
+pub fn cause(objectives: &[u8], room: usize) -> u8
+    ensures { λ r. ⌜ r ≡ causeOf (now (objectives .entry)) room ⌝ }
+{
+    if bad_objectives(objectives) {
+        return 16;
+    }
+    if room < 8 * objectives.len() { 11 } else { 0 }
 }

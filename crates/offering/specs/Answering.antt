@@ -11,14 +11,10 @@ use Rattle.lp.specs.declared.Floors.{Floors}
 use Rattle.engine.specs.Entries.{entries}
 use Rattle.region.specs.declared.Listed.{Listed}
 use Rattle.laying.specs.Laying.{within, Lays}
-use Rattle.objectives.specs.Objectives.{objectivesOf, badObjectives}
+use Rattle.objectives.specs.Objectives.{objectivesOf, causeOf}
 use Rattle.offering.specs.declared.Answered.{Answered}
 use Rattle.offering.specs.declared.Answered.the-variants as answered
 use Rattle.offering.specs.Offers.{answersFor}
-
--- 16, then 11 for an output with so many bytes, or 0. An answer has 32 bytes and an objective 4
-abbrev pub causeOf : List ℕ → ℕ → ℕ
-causeOf objectives room = cond (badObjectives objectives) 16 (cond (ltb room (8 * length objectives)) 11 0)
 
 -- objectives that are turned back leave everything as it was
 pub record Declined

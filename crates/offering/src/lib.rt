@@ -6,26 +6,15 @@ mod picks;
 mod rays;
 
 use lp::Floors;
-use objectives::bad_objectives;
+use objectives::cause;
 use offers::offer_all;
-ghost use mathlib.Core.Path.{_≡_};
-ghost use Rattle.offering.specs.Answering.{causeOf, Answers};
+ghost use Rattle.offering.specs.Answering.{Answers};
 
 // Outside: some number is out of its range, or a run has no room. Declined: the number of the cause. Filled: so many bytes of the output.
 pub enum Answered {
     Outside,
     Declined(u8),
     Filled(usize),
-}
-
-// What turns objectives back, for an output with so many bytes: 16, then 11; 0 if nothing does.
-fn cause(objectives: &[u8], room: usize) -> u8
-    ensures { λ r. ⌜ r ≡ causeOf (now (objectives .entry)) room ⌝ }
-{
-    if bad_objectives(objectives) {
-        return 16;
-    }
-    if room < 8 * objectives.len() { 11 } else { 0 }
 }
 
 // The answers to up to 32 objectives, 32 bytes each, at the start of the output, for the rules that stand in the run from its seventh

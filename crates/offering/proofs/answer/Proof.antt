@@ -4,7 +4,8 @@ use mathlib.Core.Path.{_≡_, sym, _∙_, ap, subst}
 use Prim.Native.Nat.{ℕ}
 use lib.ListN.{length}
 use Rattle.offering.specs.declared.Answered.the-variants as answered
-use Rattle.offering.specs.Answering.{causeOf, Answers}
+use Rattle.objectives.specs.Objectives.{causeOf}
+use Rattle.offering.specs.Answering.{Answers}
 use Rattle.offering.proofs.Answering.{answers-declined, filling, answers-done}
 use Rattle.offering.proofs.answer.Statement.{statement}
 use Rattle.offering.proofs.answer.Tie as tie

@@ -1,12 +1,12 @@
--- `offering::cause` meets its contract: 16, then 11, then none.
+-- `objectives::cause` meets its contract: 16, then 11, then none.
 use native.Mathlib.Omega.{arith}
 use mathlib.Core.Path.{_≡_, sym, _∙_}
 use mathlib.Core.Bool.{false}
 use Rattle.objectives.specs.Objectives.{badObjectives}
 use Rattle.objectives.proofs.Sound.{few-objectives}
-use Rattle.offering.proofs.Answering.{cause-sixteen, cause-eleven, cause-none}
-use Rattle.offering.proofs.cause.Statement.{statement}
-use Rattle.offering.proofs.cause.Tie as tie
+use Rattle.objectives.proofs.Turned.{cause-sixteen, cause-eleven, cause-none}
+use Rattle.objectives.proofs.cause.Statement.{statement}
+use Rattle.objectives.proofs.cause.Tie as tie
 
 returns : tie.Need-returns
 returns c =
