@@ -1,12 +1,11 @@
 -- The tests of ranges, and what follows for lawful constraints: nothing leaves 64 bits.
-use mathlib.Core.Path.{_≡_, refl, sym, _∙_, ap, subst}
+use mathlib.Core.Path.{_≡_, sym, _∙_, ap, subst}
 use mathlib.Core.Bool.{Bool, true, false, cond, _&&_}
 use lib.IntN.{ℤ, pos}
-use lib.Signed.{ltZ}
 use Rattle.lp.specs.declared.Constraint.{Constraint}
 use Rattle.lp.specs.declared.Point.{Point}
 use Rattle.lp.specs.Program.{slack}
-use Rattle.lp.specs.Outcome.{det, meet, reduce}
+use Rattle.lp.specs.Outcome.{meet}
 use Rattle.lp.specs.Range.{SmallConstraint}
 use Rattle.model.proofs.Bounds.{det-small}
 use Rattle.boundary.proofs.Bounds.{meet-x-small, meet-y-small}
@@ -14,7 +13,7 @@ use Rattle.amounts.specs.Tests.{ruleInRange}
 use Rattle.amounts.specs.Sizes.{Distance}
 use Rattle.engine.specs.Sizes.{Lines}
 use Rattle.amounts.proofs.Tests.{both, rule-small, rule-passes}
-use Rattle.lines.specs.Sides.{sideOf, nowhere, cornerOf, Three}
+use Rattle.lines.specs.Sides.{sideOf, Three}
 
 module _ (m p q : Constraint) {r s t : Bool} (er : r ≡ ruleInRange m) (es : s ≡ ruleInRange p) (et : t ≡ ruleInRange q) where
   pub three : (r && s && t) ≡ true → Three m p q
@@ -56,33 +55,3 @@ distance-of {m} {p} {q} {v} e h =
 pub side-lawful : (m p q : Constraint) → SmallConstraint m → SmallConstraint p → SmallConstraint q → sideOf m p q ≡ slack m (meet p q)
 side-lawful m p q h k l =
     ap (λ b. cond b (slack m (meet p q)) (pos 0)) (λ i. rule-passes h i && rule-passes k i && rule-passes l i)
-
--- ---- the corner
-
-module _ (p q : Constraint) {s t : Bool} (es : s ≡ ruleInRange p) (et : t ≡ ruleInRange q) where
-  pub two : (s && t) ≡ true → Lines p q
-  two e = let x = both s t e in record { first = rule-small (sym es ∙ x .0); second = rule-small (sym et ∙ x .1) }
-
-  abbrev told : Bool → Bool → Point
-  told a b = cond a (cond b (reduce (meet p q)) nowhere) nowhere
-
-  both-told : {a : Bool} → (s && t) ≡ a → a ≡ (ruleInRange p && ruleInRange q)
-  both-told e = sym e ∙ (λ i. es i && et i)
-
-  pub corner-there : {v w : Point} → v ≡ meet p q → w ≡ reduce v → (s && t) ≡ true → ltZ (pos 0) (v .d) ≡ true → w ≡ cornerOf p q
-  corner-there ev ew e d =
-      ew
-      ∙ ap reduce ev
-      ∙ (λ i. told (both-told e i) ((sym d ∙ ap (λ u. ltZ (pos 0) (u .d)) ev) i))
-
-  pub corner-nowhere : {v : Point} → v ≡ meet p q → (s && t) ≡ true → ltZ (pos 0) (v .d) ≡ false → nowhere ≡ cornerOf p q
-  corner-nowhere ev e d = λ i. told (both-told e i) ((sym d ∙ ap (λ u. ltZ (pos 0) (u .d)) ev) i)
-
-  pub corner-out : (s && t) ≡ false → nowhere ≡ cornerOf p q
-  corner-out e = λ i. told (both-told e i) (ltZ (pos 0) (det p q))
-
--- lawful constraints whose lines cross the right way have their corner
-pub corner-lawful : (p q : Constraint) → SmallConstraint p → SmallConstraint q →
-    cornerOf p q ≡ cond (ltZ (pos 0) (det p q)) (reduce (meet p q)) nowhere
-corner-lawful p q h k =
-    ap (λ b. cond b (cond (ltZ (pos 0) (det p q)) (reduce (meet p q)) nowhere) nowhere) (λ i. rule-passes h i && rule-passes k i)

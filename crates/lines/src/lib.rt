@@ -1,7 +1,6 @@
-// Exact arithmetic of a region's edges: on which side of a line the corner of two others lies, and where that corner is. Every test that
-// the region's boundary needs is a sign of the first. Nothing leaves 64 bits for lawful constraints; other ones get a zero.
+// Exact arithmetic of a region's edges: on which side of a line the corner of two others lies. Nothing leaves 64 bits for lawful
+// constraints; other ones get a zero.
 use amounts::range::rule_in_range;
-use fraction::reduce;
 use lp::Constraint;
 use lp::Point;
 ghost use mathlib.Core.Path.{_≡_};
@@ -10,7 +9,7 @@ ghost use Rattle.lp.specs.Program.{slack as slackOf};
 ghost use Rattle.lp.specs.Outcome.{meet as meetOf};
 ghost use Rattle.amounts.specs.Sizes.{Distance};
 ghost use Rattle.engine.specs.Sizes.{Factors, Lines};
-ghost use Rattle.lines.specs.Sides.{sideOf, cornerOf};
+ghost use Rattle.lines.specs.Sides.{sideOf};
 
 // p·q − s·t
 fn difference(p: i64, q: i64, s: i64, t: i64) -> i64
@@ -57,17 +56,4 @@ pub fn side(m: Constraint, p: Constraint, q: Constraint) -> i64
     } else {
         0
     }
-}
-
-// The corner of p and q in lowest terms; d is 0 where they have none, or it lies the other way round.
-pub fn corner(p: Constraint, q: Constraint) -> Point
-    ensures { λ v. ⌜ v ≡ cornerOf p q ⌝ }
-{
-    if rule_in_range(p) & rule_in_range(q) {
-        let v = meet(p, q);
-        if 0 < v.d {
-            return reduce(v);
-        }
-    }
-    Point { x: 0, y: 0, d: 0 }
 }
