@@ -1,5 +1,7 @@
 // How far a point is from a constraint's line, for whatever numbers anybody hands in: those that are out of their ranges get zero over
 // zero. The tests of ranges are in `range`, below the engine and all else that asks them of a rule.
+
+#![tactic(auto)]
 mod exact;
 pub mod range;
 

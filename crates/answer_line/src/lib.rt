@@ -1,4 +1,6 @@
 // The line of an answer written into a lent buffer, as crate `report` defines it.
+
+#![tactic(auto)]
 mod entries;
 mod line;
 

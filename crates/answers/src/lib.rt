@@ -1,5 +1,8 @@
 // What is handed back of a book: the refusal, which has one shape for every part of the product, or the plan. These types stand below the
 // planner, which fills them, and the writer of lines, which shows them.
+
+#![tactic(auto)]
+
 ghost use Rattle.std.specs.Prelude.{◌≡◌};
 ghost use Rattle.answers.specs.Saying.{said_of};
 
@@ -7,7 +10,7 @@ use lp::{Certificate, Outcome};
 
 // The number of the cause that turns something back, and the record that it names (0 where it names none). Where nothing is turned back,
 // both are 0.
-#[derive(Drop)]
+#[derive(Clone, Copy)]
 pub struct Refusal {
     pub number: u8,
     pub at: u16,
@@ -16,7 +19,7 @@ pub struct Refusal {
 // What an accepted book gets: its outcome, the two counts, and, where it is impossible, the place and a witness (else both zero). A
 // witness's entries rise: 0 is floor x, 1 is floor y, and r + 1 is the rule in record r. Entries that it does not use come last, and are
 // zero with their weights.
-#[derive(Drop)]
+#[derive(Clone, Copy)]
 pub struct Plan {
     pub outcome: Outcome,
     pub moves: usize,
@@ -26,7 +29,7 @@ pub struct Plan {
 }
 
 // Refused, or planned.
-#[derive(Drop)]
+#[derive(Clone, Copy)]
 pub enum Answer {
     Refused(Refusal),
     Planned(Plan),

@@ -2,6 +2,8 @@
 // objectives of 4 bytes, and each answer goes to standard output as a line, in the objectives' order. It reads one byte more than a book
 // and objectives may have, so that what is longer is seen to be too long and gets its refusal. A file that is missing or cannot be read
 // gets a line on standard error, and nothing is printed.
+
+#![tactic(auto)]
 use answers::Answer;
 use files::{Taken, load};
 use libc::{STDIN_FILENO, STDOUT_FILENO};

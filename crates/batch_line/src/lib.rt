@@ -1,5 +1,7 @@
 // The line of a batch's answer, from its 32 bytes: `best X Y D`, `unlimited X Y D` or `impossible`. It rests on the parts of a line (crate
 // `text`). A byte that is not there reads as zero.
+
+#![tactic(auto)]
 ghost use Rattle.std.specs.Prelude.{◌≡◌, ◌+◌, ◌*◌, ◌≤◌, length, get_or, drop};
 ghost use Rattle.std.specs.Int.{w64};
 ghost use Rattle.std.proofs.Common.{to_z};

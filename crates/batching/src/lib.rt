@@ -1,6 +1,8 @@
 // Many price lists for one book (request 109): the book is read and checked a single time, the corners of its region are listed once, and
 // each objective gets the outcome and the pair that a plan alone would give. It takes any bytes as a book of version 2, any as objectives,
 // and any output.
+
+#![tactic(auto)]
 mod classes;
 
 ghost use Rattle.batching.specs.Promises.{Batches};
@@ -8,7 +10,7 @@ ghost use Rattle.batching.specs.Promises.{Batches};
 use answers::Refusal;
 
 // What a batch answers: a refusal, or how many bytes of the output were filled.
-#[derive(Drop)]
+#[derive(Clone, Copy)]
 pub struct Batched {
     pub refusal: Refusal,
     pub filled: usize,

@@ -1,12 +1,14 @@
 // A rule book as a whole: what it reads as, along its chain, and what turns it back, as definitions and laws (specs/, proofs/), with the types
 // that code and definitions share. The code is crates `judging`, one link of the chain, and `reading`, the chain.
+
+#![tactic(auto)]
 use answers::Refusal;
 use lp::Terms;
 use records::Rule;
 
 // What a book reads as, but for its chain. Turned back: the refusal, and all else zero. Accepted: the refusal is zero, and n is the number
 // of rules.
-#[derive(Drop)]
+#[derive(Clone, Copy)]
 pub struct Head {
     pub refusal: Refusal,
     pub terms: Terms,
@@ -15,7 +17,7 @@ pub struct Head {
 
 // What a link of the chain leads to: a sound rule that is new on it, with the rule's own link, or what turns the book back, with its
 // number and record.
-#[derive(Drop)]
+#[derive(Clone, Copy)]
 pub enum Judged {
     Sound(Rule, u16),
     Refused(u8, u16),

@@ -3,7 +3,7 @@ use Prim.Native.Nat.{ℕ, zero, suc, suc-le-suc}
 use mathlib.Core.Path.{◌≡◌, sym, ap, ◌∙◌}
 use mathlib.Core.Bool.{true, false}
 use native.Mathlib.Omega.{arith}
-use native.Mathlib.Nat.{le_suc, lt_of_le_of_lt}
+use native.Mathlib.Nat.{le-suc, lt_of_le_of_lt}
 use borrow.Author.Tests.{ltb-true, ltb-false}
 use lib.Dec.{T, lit<}
 use lib.IntN.{ℤ, pos, negsuc, neg_ℤ, nat_abs, ◌-ℤ◌, +ℤ_idl}
@@ -14,7 +14,7 @@ use mir.Facts.{to_z-of_z, Fits-nat_abs}
 
 negated_fits : (z : ℤ) → SFits w64 z → lt_z z (negsuc 4294967295) ≡ false → SFits w64 (neg_ℤ z)
 negated_fits (pos zero) f h = f
-negated_fits (pos (suc n)) f h = record { sfits = lt_of_le_of_lt (le_suc n) f.sfits }
+negated_fits (pos (suc n)) f h = record { sfits = lt_of_le_of_lt (le-suc n) f.sfits }
 negated_fits (negsuc n) f h = record { sfits = lt_of_le_of_lt (suc-le-suc (ltb-false 4294967295 n h)) (lit< tt) }
 
 negated-sign : (z : ℤ) → lt_z z (pos 0) ≡ true → T (non_neg (neg_ℤ z))

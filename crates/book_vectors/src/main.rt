@@ -1,6 +1,8 @@
 // Runs stored books from standard input, and writes a line for what each reads as and a line for what its repacking does.
 // A case is a name after its length, the version of the book, the book after its length, and then the length of the output: two bytes for a
 // number, low byte first.
+
+#![tactic(auto)]
 ghost use Rattle.std.specs.Prelude.{◌≡◌, ◌<◌, ◌^◌, length};
 
 use io::{print_decimal, print_hex};

@@ -192,7 +192,7 @@ module _ (fs : List Functional) (O : Upward (Up fs)) (S : List Constraint) (h : 
             elim t [ true ↦ nowhere | false ↦ end_in fs h (closed h (front h e (l ++ (k ∷ [])))) ] ≡ at (tightest_point fs S h)
         go true kept b =
             clash_ℤ v-breaks
-            (redundant D h k e here.turns v (v-keeps-all k here.first) (v-keeps-all e here.second) v-sized p.0.from_First
+            (redundant D h k e here.turns v (v-keeps-all k here.first) (v-keeps-all e here.second) v-sized p.0.from_first
             p.0.to-second (kept tt))
         go false kept b = found_in_closed (front h e (l ++ (k ∷ []))) b
 

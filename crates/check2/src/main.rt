@@ -2,6 +2,8 @@
 // slip, and what the checker says goes to standard output: yes, no or the line of a refusal. It reads one byte more than a book and a line
 // may have, so that what is longer is seen to be too long and gets its refusal. A file that is missing or cannot be read gets a line on
 // standard error, and nothing is printed.
+
+#![tactic(auto)]
 use check_line::check_line;
 use files::{Taken, load};
 use libc::{STDIN_FILENO, STDOUT_FILENO};

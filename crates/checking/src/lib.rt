@@ -1,5 +1,7 @@
 // The checker of slips. It knows neither the planner nor its walk: it reads the book, looks up what the slip names and tests document 02's
 // facts. `check` can be called from outside and is total.
+
+#![tactic(auto)]
 mod entries;
 mod exact;
 mod facts;

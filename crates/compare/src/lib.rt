@@ -1,6 +1,8 @@
 // The order of fractions and of points, exact although the cross products need more than 64 bits. A number X over D is taken apart into
 // quotient and remainder: quotients are compared first, and only where they are the same the products of remainders with denominators,
 // which are below 2^62. Each public function takes every i64 there is.
+
+#![tactic(auto)]
 ghost use Rattle.std.specs.Prelude.{◌≡◌};
 ghost use Rattle.lp.specs.Corners.{less as less_of, before as before_of};
 ghost use Rattle.compare.specs.Comparing.{is_denominator, less_in, before_in, Denominators};

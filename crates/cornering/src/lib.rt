@@ -1,6 +1,8 @@
 // All corners of a book's region (request 110): the book is read and checked a single time, its rules enter the region's boundary in the
 // order of their angles, and the boundary's corners are put in order and written without repeats. It takes any bytes as a book of version
 // 2, and any output.
+
+#![tactic(auto)]
 mod classes;
 
 ghost use Rattle.outline.specs.Outline.{Outlines};

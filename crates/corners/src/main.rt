@@ -1,6 +1,8 @@
 // The corners program: one book of version 2 from standard input, a line X Y D for each corner of its region to standard output, smaller x
 // first and then smaller y. An impossible book gets no line, a refused one its refusal's. It reads one byte more than a book may have, so
 // that longer input is seen to be too long; the output has room for the corners of every book, so that 11 is never said.
+
+#![tactic(auto)]
 use answers::Answer;
 
 // The line of one corner.

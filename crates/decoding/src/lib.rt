@@ -1,5 +1,7 @@
 // The rule records of a book, of either version of the format: a record's rule, and what turns it back. A function takes the version and
 // any bytes, and answers; a byte that is not there reads as zero.
+
+#![tactic(auto)]
 mod decode;
 
 ghost use Rattle.std.specs.Prelude.{◌≡◌};

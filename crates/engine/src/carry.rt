@@ -17,7 +17,7 @@ use amounts::range::rule_in_range;
 use lp::{Constraint, Floors, Functional};
 use model::Walk;
 
-#[derive(Drop)]
+#[derive(Clone, Copy)]
 pub struct Carried {
     pub walk: Walk,
     pub arc: Arc,

@@ -12,7 +12,7 @@ use lp::Constraint;
 
 // Where a ring stands in its run: n edges from place lo on. With n = 0 no ring is held. Cut says that the constraint that entered last is
 // the ring's first edge.
-#[derive(Drop)]
+#[derive(Clone, Copy)]
 pub struct Arc {
     pub lo: usize,
     pub n: usize,

@@ -1,6 +1,8 @@
 // The engine: a chain of rules planned, with no byte of a book in sight. Exact arithmetic on 64-bit integers, equal function by function
 // to the functional model of crate `model`. What a private function asks of its numbers is one record, and document 01's bounds answer
 // it; the function below asks nothing. The walk goes by passes over the entries, and where these get long along the region's boundary.
+
+#![tactic(auto)]
 mod between;
 mod carry;
 mod cone;
@@ -27,7 +29,7 @@ use lp::{Certificate, Outcome, Point, Terms};
 
 // What the walk along a chain of rules comes to: the outcome, the counts, the place and a certificate by index (0 and 1 are the floors, i
 // + 2 is rule i), and the start pair with how often it was worked out. What is not used is zero.
-#[derive(Drop)]
+#[derive(Clone, Copy)]
 pub struct Solution {
     pub outcome: Outcome,
     pub moves: usize,
@@ -40,7 +42,7 @@ pub struct Solution {
 }
 
 // Outside: some number is out of its range, or the run has no room.
-#[derive(Drop)]
+#[derive(Clone, Copy)]
 pub enum Solved {
     Outside,
     Walked(Solution),

@@ -15,7 +15,7 @@ use model::{Broken, Found};
 // The tightest point so far on a line that is walked, with the entry that makes it and the entry's index. At first it is the point at
 // infinity, whose d is 0: whatever meets the line breaks it. (The model's Found says the same; this has no tag, and so the loop holds it
 // in registers.)
-#[derive(Drop)]
+#[derive(Clone, Copy)]
 pub struct Held {
     pub index: usize,
     pub entry: Constraint,

@@ -1,10 +1,13 @@
 // Books that a program's arguments name. A file that is missing or cannot be read gets a line on standard error; a buffer with one byte
 // more than a book may have shows that a longer file is too long.
+
+#![tactic(auto)]
+
 ghost use Rattle.std.specs.Prelude.{length};
 ghost use Rattle.files.specs.Loading.{Held};
 
 // How many bytes a file gave, or that it could not be read.
-#[derive(Drop)]
+#[derive(Clone, Copy)]
 pub enum Taken {
     Failed,
     Bytes(usize),

@@ -1,5 +1,8 @@
 // Where a number stands in a run of records, which decides the rule that a slip's code names. The run is as long as a chain, so eight
 // records are compared at once; what is passed so is as far as sixteen bits tell, and the last few are compared one by one.
+
+#![tactic(auto)]
+
 ghost use Rattle.std.specs.Prelude.{◌≡◌, ◌+◌, ◌≤◌, length};
 ghost use Rattle.finding.specs.Place.{place_of, some_of, Passed};
 

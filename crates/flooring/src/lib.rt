@@ -1,5 +1,7 @@
 // The floors as the first two entries of a run of numbers (a, b, c each), as the engine walks it: floor x is −x ≤ −lx, and floor y is
 // −y ≤ −ly. The function is total, so that it stands below the engine and is proved apart from it.
+
+#![tactic(auto)]
 ghost use Rattle.flooring.specs.Floors.{Lays};
 
 use amounts::range::up_to;

@@ -1,5 +1,7 @@
 // Products of the values of a typed text. The function that can be called from outside is total: an operand beyond the limit is refused as
 // a number beyond it would be.
+
+#![tactic(auto)]
 ghost use Rattle.forms.specs.Value.{held as held_of, product as product_of};
 ghost use Rattle.forms.specs.Small.{Valued};
 

@@ -1,6 +1,9 @@
 // Values of parts of a typed text: forms a·x + b·y + c whose numbers are at most 1,000,000,000 either way, or a refusal. A number's value,
 // and the operands of an operation. Crates `form_sums` and `form_products` hold the operations, whose definitions stand here. Every
 // function that can be called from outside is total: an operand beyond the limit is refused as a number beyond it would be.
+
+#![tactic(auto)]
+
 ghost use Rattle.forms.specs.Value.{numeral as numeral_of};
 ghost use Rattle.forms.specs.Small.{Valued};
 
@@ -9,7 +12,7 @@ use answers::Refusal;
 pub mod operands;
 
 // What a side comes to: a·x + b·y + c.
-#[derive(Drop)]
+#[derive(Clone, Copy)]
 pub struct Form {
     pub a: i64,
     pub b: i64,
@@ -17,21 +20,21 @@ pub struct Form {
 }
 
 // The value of a part of a text: a form, or the refusal of the first number or operation concerned.
-#[derive(Drop)]
+#[derive(Clone, Copy)]
 pub enum Value {
     Linear(Form),
     Beyond(u8),
 }
 
 // The operands of an operation: two forms, or the refusal that comes first.
-#[derive(Drop)]
+#[derive(Clone, Copy)]
 pub enum Pair {
     Forms(Form, Form),
     First(u8),
 }
 
 // A rule as written, kind 2 not turned round.
-#[derive(Drop)]
+#[derive(Clone, Copy)]
 pub struct Written {
     pub kind: usize,
     pub a: i64,
@@ -40,7 +43,7 @@ pub struct Written {
 }
 
 // What a text reads as: the rule, or the refusal, which names record 0.
-#[derive(Drop)]
+#[derive(Clone, Copy)]
 pub enum Typed {
     Rule(Written),
     Refused(Refusal),

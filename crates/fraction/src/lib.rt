@@ -1,5 +1,8 @@
 // Points, rays and amounts in lowest terms: their numbers are divided by what divides them all. The greatest common divisor is worked out
 // by repeated remainders, on magnitudes. Each function takes every i64 there is.
+
+#![tactic(auto)]
+
 ghost use Rattle.std.specs.Prelude.{◌≡◌, pos};
 ghost use Rattle.std.specs.Int.Signed.{quot_z};
 ghost use Rattle.ints.specs.Gcd.{gcd};

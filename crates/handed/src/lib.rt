@@ -1,5 +1,7 @@
 // What is handed to programs in other languages, as numbers: a count or a refusal as one number, what the checker of slips says as one number,
 // and a start pair in a lent run.
+
+#![tactic(auto)]
 ghost use Rattle.std.specs.Prelude.{◌≡◌};
 ghost use Rattle.handed.specs.Told.{told_of, verdict_told};
 ghost use Rattle.handed.specs.Start.{put_point, PointRoom, StartPut};

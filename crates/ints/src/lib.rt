@@ -1,4 +1,7 @@
 // The integers: definitions in specs/, laws in proofs/, and the function of machine integers that other crates share.
+
+#![tactic(auto)]
+
 ghost use Rattle.std.specs.Prelude.{◌≡◌, nat_abs};
 
 // |z|. The least i64 has no opposite, but one more than it has.

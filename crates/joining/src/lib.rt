@@ -1,6 +1,8 @@
 // One plan of two books: a site's rules and then a tenant's, under the tenant's objective and the greater floors. Both books are of
 // version 2 and are read once, one behind the other, into the same lent runs of numbers. The function that can be called from outside is
 // total: it takes any two runs of bytes and answers.
+
+#![tactic(auto)]
 mod read;
 mod run;
 
@@ -13,7 +15,7 @@ use run::join_in;
 
 // The site's refusal; else the tenant's; else the plan of both books' rules. In its witness 0 is floor x, 1 is floor y, r + 1 is the rule
 // in the site's record r, and 4,097 + r the rule in the tenant's record r.
-#[derive(Drop)]
+#[derive(Clone, Copy)]
 pub enum JointAnswer {
     SiteRefused(Refusal),
     TenantRefused(Refusal),

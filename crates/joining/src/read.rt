@@ -5,7 +5,7 @@ use book::Head;
 use records::Version;
 
 // What the two books read as, but for their chains.
-#[derive(Drop)]
+#[derive(Clone, Copy)]
 pub struct Heads {
     pub site: Head,
     pub tenant: Head,

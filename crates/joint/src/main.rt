@@ -1,6 +1,8 @@
 // The joint program: ./joint SITE TENANT. The two files that its arguments name are read as a site's and a tenant's book of version 2, and
 // the line of their one plan goes to standard output. It reads one byte more than a book may have, so that a longer file is seen to be too
 // long and gets its refusal. A file that is missing or cannot be read gets a line on standard error, and no plan is printed.
+
+#![tactic(auto)]
 use files::{Taken, load};
 use libc::STDOUT_FILENO;
 

@@ -1,5 +1,7 @@
 // The line that shows the answer to two books joined. It is the plan's line (crate `report`), in which a witness names a book with each
 // record, or a refusal that names the book that is turned back.
+
+#![tactic(auto)]
 mod line;
 
 ghost use Rattle.text.specs.Append.{Fills};

@@ -1,5 +1,8 @@
 // What two books are planned under: the tenant's objective, and of each floor the greater. The function that can be called from outside is
 // total.
+
+#![tactic(auto)]
+
 ghost use Rattle.std.specs.Prelude.{◌≡◌};
 ghost use Rattle.joint_terms.specs.Terms.{greater as greater_of, joined_terms};
 

@@ -1,5 +1,7 @@
 // The corners of the region of rules that stand in a run of numbers. The rules enter the region's boundary in an order that is chosen for
 // speed alone; a batch and a list of corners both take them from here. It takes any numbers and any runs.
+
+#![tactic(auto)]
 mod order;
 mod room;
 

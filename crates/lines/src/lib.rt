@@ -1,5 +1,7 @@
 // Exact arithmetic of a region's edges: on which side of a line the corner of two others lies. Nothing leaves 64 bits for lawful
 // constraints; other ones get a zero.
+
+#![tactic(auto)]
 ghost use Rattle.std.specs.Prelude.{◌≡◌, ◌+ℤ◌, ◌-ℤ◌, ◌*ℤ◌};
 ghost use Rattle.lp.specs.Program.{slack as slack_of};
 ghost use Rattle.lp.specs.Outcome.{meet as meet_of};

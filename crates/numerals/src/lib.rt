@@ -1,5 +1,8 @@
 // Numbers in a lent buffer, in decimal. Each function writes at a place and hands back the place after what it wrote; a buffer with no
 // room there is left as it is, and the place handed back.
+
+#![tactic(auto)]
+
 ghost use Rattle.text.specs.Number.{decimal, number, integer};
 ghost use Rattle.text.specs.Append.{Appends};
 

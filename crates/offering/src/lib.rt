@@ -1,5 +1,7 @@
 // The answers to many objectives, from rules that stand in a run of numbers: the corners of their region are listed once, and its rays are
 // worked out once, and each objective gets the outcome and the pair that a plan alone would give. It takes any numbers, runs and bytes.
+
+#![tactic(auto)]
 mod exact;
 mod offers;
 mod picks;
@@ -12,7 +14,7 @@ use objectives::cause;
 use offers::offer_all;
 
 // Outside: some number is out of its range, or a run has no room. Declined: the number of the cause. Filled: so many bytes of the output.
-#[derive(Drop)]
+#[derive(Clone, Copy)]
 pub enum Answered {
     Outside,
     Declined(u8),

@@ -13,7 +13,7 @@ use objectives::objective;
 use region::Listed;
 
 // What an objective is answered: 1 best, 2 unlimited, 3 impossible, and the pair.
-#[derive(Drop)]
+#[derive(Clone, Copy)]
 pub struct Offer {
     pub outcome: u64,
     pub point: Point,

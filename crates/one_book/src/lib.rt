@@ -1,6 +1,8 @@
 // What is handed over of one book, of either version: the line of its plan, the start pair after a prefix of its chain, and its repacked
 // form, each in a lent buffer, with one number that says what it came to. Programs print it, and crate `vishalneq` hands it to other
 // languages. Every function is total: it takes any bytes and any buffer.
+
+#![tactic(auto)]
 ghost use Rattle.records.specs.Layout.{layout_of};
 ghost use Rattle.one_book.specs.Loaded.{PlanLine, StartWritten, RepackWritten};
 

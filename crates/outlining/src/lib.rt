@@ -1,5 +1,7 @@
 // Corners that were laid out as points in a run of numbers, made the list of request 110: in order, without repeats, as bytes. It takes
 // any numbers and any runs.
+
+#![tactic(auto)]
 ghost use Rattle.std.specs.Prelude.{◌≤◌, length};
 ghost use Rattle.outlining.specs.Finishing.{Finishes, Finished};
 

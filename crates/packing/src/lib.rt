@@ -1,5 +1,7 @@
 // The records of a repacked book, as bytes of version 2: the header and a rule of a book of either version, with another link. A function
 // takes any bytes, and answers.
+
+#![tactic(auto)]
 ghost use Rattle.std.specs.Prelude.{◌≡◌, cond};
 ghost use Rattle.records.specs.Layout.{v2, layout_of};
 ghost use Rattle.records.specs.Record.{record_at, rule_of};

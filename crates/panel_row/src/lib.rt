@@ -1,5 +1,7 @@
 // The panel of a book: how far its best pair is from each rule, a line a rule. The planner puts line after line into its output, so
 // that a line is all that is made here.
+
+#![tactic(auto)]
 ghost use Rattle.text.specs.Append.{Appends};
 ghost use Rattle.panel_row.specs.Panel.{row_line};
 
@@ -8,7 +10,7 @@ use numerals::{append_decimal, append_integer};
 use text::append_word;
 
 // A rule's label, and how far the best pair is from its line.
-#[derive(Drop)]
+#[derive(Clone, Copy)]
 pub struct Row {
     pub label: u16,
     pub slack: Amount,

@@ -1,5 +1,7 @@
 // The plan program of version 2: one book from standard input, its line to standard output. It reads one byte more than a book may have, so
 // that longer input is seen to be too long.
+
+#![tactic(auto)]
 use records::Version;
 
 fn main() {

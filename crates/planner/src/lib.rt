@@ -1,6 +1,8 @@
 // The planner on bytes: a book is read once into lent runs of numbers, its rules are planned there, and what they come to is handed back as
 // a plan, as the lines of a panel, or as the start pair after a prefix. Every function that can be called from outside is total: it takes
 // any bytes, as a book of either version, and answers.
+
+#![tactic(auto)]
 mod told;
 
 ghost use Rattle.records.specs.Layout.{layout_of};
@@ -15,7 +17,7 @@ use told::{tell, tell_few, width};
 
 // The start pair after a prefix of the chain, if a pair is allowed, and how many rules so far the start pair before them did not keep. A
 // refused book has its refusal instead. What is not used is zero.
-#[derive(Drop)]
+#[derive(Clone, Copy)]
 pub struct StartView {
     pub refusal: Refusal,
     pub held: bool,

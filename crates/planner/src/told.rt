@@ -12,7 +12,7 @@ use running::{Findings, run};
 use showing::show;
 
 // The answer; how many bytes the panel has, where one was asked for; and the view.
-#[derive(Drop)]
+#[derive(Clone, Copy)]
 pub struct Told {
     pub answer: Answer,
     pub count: usize,

@@ -1,5 +1,7 @@
 // A reader of a book: it holds on to the lent book while it goes from record to record. Its functions are proved by hand, so they are
 // few, and each takes the reader apart and calls a function of the slice and the index.
+
+#![tactic(auto)]
 ghost use Rattle.std.specs.Prelude.{◌≡◌};
 ghost use Rattle.records.specs.Layout.{layout_of};
 ghost use Rattle.records.specs.Record.{record_at, decoded_of};

@@ -1,5 +1,7 @@
 // A rule book read along its chain: its terms, its records and its rules as they are planned, or what turns it back. Every function that
 // can be called from outside is total: it takes any bytes and answers.
+
+#![tactic(auto)]
 mod put;
 mod walk;
 

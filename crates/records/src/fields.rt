@@ -8,7 +8,7 @@ use crate::bytes::window;
 use crate::layouts::{fields_inside, fields_one, fields_two};
 
 // A record's fields as they stand, as unsigned numbers.
-#[derive(Drop)]
+#[derive(Clone, Copy)]
 pub struct Fields {
     pub link: u16,
     pub kind: u8,

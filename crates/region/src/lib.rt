@@ -1,5 +1,7 @@
 // The boundary of a system's region: a ring of edges, and its corners. A rule enters the ring by walking outwards from its place, so that
 // rules in the order of their angles take a time near to their number; in any order the corners are the same.
+
+#![tactic(auto)]
 mod edges;
 mod exact;
 mod frame;
@@ -14,14 +16,14 @@ ghost use Rattle.region.specs.Listing.{Lists};
 use lp::Floors;
 
 // Where a ring stands in its run: n edges from place lo on.
-#[derive(Drop)]
+#[derive(Clone, Copy)]
 pub struct Arc {
     pub lo: usize,
     pub n: usize,
 }
 
 // Outside: some number is out of its range, a run has no room, or the order names what is no rule.
-#[derive(Drop)]
+#[derive(Clone, Copy)]
 pub enum Listed {
     Outside,
     Corners(usize),

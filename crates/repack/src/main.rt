@@ -1,6 +1,8 @@
 // The repacker of version 1 books: one book from standard input, its repacked form, which is a book of version 2, to standard output. Of a
 // book that is refused the line goes to standard error, and nothing to standard output. It reads one byte more than a book may have, so
 // that longer input is seen to be too long; the output has room for every repacked form, so that 11 is never said.
+
+#![tactic(auto)]
 use answers::Answer;
 use records::Version;
 

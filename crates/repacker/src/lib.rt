@@ -1,5 +1,7 @@
 // The repacked form of a book: its rules in chain order, always in version 2's layout. It takes any bytes, as a book of either version,
 // and any output.
+
+#![tactic(auto)]
 mod pack;
 
 ghost use Rattle.std.specs.Prelude.{◌≡◌, length};
@@ -16,7 +18,7 @@ use reading::read;
 use records::Version;
 
 // What repacking answers: a refusal, or how many bytes of the output were filled.
-#[derive(Drop)]
+#[derive(Clone, Copy)]
 pub struct Repacked {
     pub refusal: Refusal,
     pub filled: usize,

@@ -1,5 +1,7 @@
 // One run of the planner over a book: it is read once into two lent runs, the chain's records and its rules, and the rules of a prefix
 // are planned. It is total: the runs may be of any length, and where they are too short for a book, nothing of it is planned.
+
+#![tactic(auto)]
 ghost use Rattle.std.specs.Prelude.{◌≡◌, min};
 ghost use Rattle.records.specs.Layout.{layout_of};
 ghost use Rattle.running.specs.Running.{no_solution, Ran};
@@ -10,7 +12,7 @@ use lp::{Certificate, Outcome, Point};
 use records::Version;
 
 // What a run finds: the book's refusal, or no refusal, how many rules the chain has, and what those of the prefix come to.
-#[derive(Drop)]
+#[derive(Clone, Copy)]
 pub struct Findings {
     pub refusal: Refusal,
     pub n: usize,

@@ -3,7 +3,7 @@ ghost use Rattle.std.specs.Prelude.{length};
 ghost use Rattle.session.specs.Lines.{Within};
 
 // The end of the input; a line longer than the buffer; or how many bytes a line has, without its line feed.
-#[derive(Drop)]
+#[derive(Clone, Copy)]
 pub enum Line {
     Ended,
     Long,
@@ -11,7 +11,7 @@ pub enum Line {
 }
 
 // One byte of the input, or its end.
-#[derive(Drop)]
+#[derive(Clone, Copy)]
 enum Byte {
     Got(u8),
     End,

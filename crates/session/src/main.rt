@@ -2,6 +2,8 @@
 // an objective and floors; `add LABEL RULE` adds a rule that is typed as text; `rule KIND A B C LABEL` adds one by its numbers; `back`
 // withdraws the latest. A line that is none of these says so and changes nothing. Empty input ends the program; since every program ends,
 // so do a million million lines.
+
+#![tactic(auto)]
 mod input;
 
 ghost use Rattle.sessions.specs.Sessions.{IsSession};
@@ -12,7 +14,7 @@ use session_lines::Asked;
 use sessions::{Session, Step};
 
 // The session after a line, and whether the input ended.
-#[derive(Drop)]
+#[derive(Clone, Copy)]
 struct Turn {
     session: Session,
     ended: bool,

@@ -4,7 +4,7 @@ ghost use Rattle.language.specs.Parser.{first, tail, digit as digit_of};
 ghost use Rattle.session_lines.specs.Asked.{grown, Goes, Runs};
 
 // A run's number, or some number beyond the greatest, and where the run ends.
-#[derive(Drop)]
+#[derive(Clone, Copy)]
 pub struct Run {
     pub number: u64,
     pub end: usize,

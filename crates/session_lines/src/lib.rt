@@ -1,4 +1,6 @@
 // The lines of the session program: any bytes are read as a step with its numbers or as no step.
+
+#![tactic(auto)]
 mod digits;
 mod numbers;
 mod steps;
@@ -13,7 +15,7 @@ use steps::{added, started, typed};
 use words::begins;
 
 // An objective and floors.
-#[derive(Drop)]
+#[derive(Clone, Copy)]
 pub struct Beginning {
     pub p: i16,
     pub q: i16,
@@ -22,7 +24,7 @@ pub struct Beginning {
 }
 
 // What a line asks for: no step, a session anew, a rule more, none since its text is turned back, or a rule less.
-#[derive(Drop)]
+#[derive(Clone, Copy)]
 pub enum Asked {
     Nothing,
     Begin(Beginning),

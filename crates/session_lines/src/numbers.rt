@@ -6,7 +6,7 @@ ghost use Rattle.session_lines.specs.Asked.{Places, FindsFrom, Finds};
 use crate::digits::{after, byte_at, digit, digits};
 
 // A number's sign and size, or that none stands there.
-#[derive(Drop)]
+#[derive(Clone, Copy)]
 pub struct Number {
     pub there: bool,
     pub negative: bool,
@@ -14,7 +14,7 @@ pub struct Number {
 }
 
 // A number, and where the text goes on.
-#[derive(Drop)]
+#[derive(Clone, Copy)]
 pub struct Found {
     pub number: Number,
     pub next: usize,

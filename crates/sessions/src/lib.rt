@@ -1,5 +1,7 @@
 // A session, in which rules are tried and taken back: its types, what each step does to it and the laws of that (specs/, proofs/). Its state
 // goes by value, an array of 64 rules, a count, and the objective with the floors. The code is crate `steps`.
+
+#![tactic(auto)]
 use answers::{Plan, Refusal};
 use lp::Terms;
 use records::Rule;
@@ -13,7 +15,7 @@ pub struct Session {
 }
 
 // What a step hands back: the session, the refusal, which is zero where nothing is turned back, and the plan of the session's rules.
-#[derive(Drop)]
+#[derive(Clone, Copy)]
 pub struct Step {
     pub session: Session,
     pub refusal: Refusal,

@@ -1,5 +1,7 @@
 // The panel of a book: the slack of its best pair against each rule of the chain, a line a rule, each written straight into the lent
 // output. What is shown is lent in the chain's records, so that this stands beside the walk and knows nothing of it.
+
+#![tactic(auto)]
 ghost use Rattle.std.specs.Prelude.{◌≡◌, map, ◌*◌, length};
 ghost use Rattle.records.specs.Layout.{layout_of};
 ghost use Rattle.text.specs.Append.{Appended};

@@ -6,7 +6,7 @@ use native.Mathlib.Omega.{arith}
 use borrow.Author.Tests.{lt-ltb, le-ltb}
 use lib.Dec.{lit<, lit≤}
 use native.Mathlib.Decide.{dec_lt}
-use native.Mathlib.Nat.{mod-lt, mod-eq_of_lt, mod-eq-sub-mod, lt_of_lt_of_le, lt_of_le_of_lt, le_trans, le_suc}
+use native.Mathlib.Nat.{mod-lt, mod-eq_of_lt, mod-eq-sub-mod, lt_of_lt_of_le, lt_of_le_of_lt, le_trans, le-suc}
 use lib.IntN.{ℤ, pos, negsuc, neg_ℤ, ◌-ℤ◌, +ℤ_idl}
 use mir.Syntax.{Width, w64}
 use mir.Val.{to_z, of_z, SFits, bits, hbits, Fits}
@@ -68,7 +68,7 @@ module _ (w : Width) (z : ℤ) (f : SFits w z) (k : 2 ^ hbits w ≤ 2 ^ 31) wher
 
   opposite-fits : (z : ℤ) → SFits w z → SFits w64 (neg_ℤ z)
   opposite-fits (pos zero) g = record { sfits = lit< tt }
-  opposite-fits (pos (suc n)) g = record { sfits = lt_of_le_of_lt (le_suc n) (lt_of_lt_of_le g.sfits (le_trans k (lit≤ tt))) }
+  opposite-fits (pos (suc n)) g = record { sfits = lt_of_le_of_lt (le-suc n) (lt_of_lt_of_le g.sfits (le_trans k (lit≤ tt))) }
   opposite-fits (negsuc n) g = record { sfits = lt_of_le_of_lt (le_trans g.sfits k) (lit< tt) }
 
   pub turns : SFits w64 (pos 0 -ℤ to_z w64 (of_z w64 (to_z w (of_z w z))))

@@ -1,5 +1,8 @@
 // Signed numbers of a book's fields: two's complement of sixteen and of thirty-two bits, and the one number of sixteen bits that is against
 // the format.
+
+#![tactic(auto)]
+
 ghost use Rattle.std.specs.Prelude.{◌≡◌, negsuc};
 ghost use Rattle.std.specs.Int.Signed.{lt_z};
 ghost use Rattle.std.specs.Int.{w16, w32};

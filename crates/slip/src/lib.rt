@@ -1,5 +1,7 @@
 // A slip, by which a plan is rechecked without planning: the types that code and definitions share, what a slip must be to get a yes, and
 // its laws (specs/, proofs/). The code is crates `finding`, which looks a record up, and `checking`, the checker.
+
+#![tactic(auto)]
 pub mod named;
 
 use answers::Refusal;
@@ -7,7 +9,7 @@ use lp::Outcome;
 
 // What a slip says besides its outcome: the scale, and how many of the three entries count, each with its weight. An entry's code is 0 for
 // floor x, 1 for floor y and r + 1 for the rule in record r. All are numbers as they were handed over, in range or not.
-#[derive(Drop)]
+#[derive(Clone, Copy)]
 pub struct Weights {
     pub scale: i64,
     pub count: i64,
@@ -20,14 +22,14 @@ pub struct Weights {
 }
 
 // A slip: the plan's three outcomes by value, and the weights beside them.
-#[derive(Drop)]
+#[derive(Clone, Copy)]
 pub struct Slip {
     pub outcome: Outcome,
     pub weights: Weights,
 }
 
 // What the checker says of a slip.
-#[derive(Drop)]
+#[derive(Clone, Copy)]
 pub enum Verdict {
     Refused(Refusal),
     Yes,

@@ -2,7 +2,7 @@
 use lp::Constraint;
 
 // What a code names: the constraint of a floor or of a rule of the chain, or nothing.
-#[derive(Drop)]
+#[derive(Clone, Copy)]
 pub enum Named {
     Nowhere,
     At(Constraint),
@@ -10,7 +10,7 @@ pub enum Named {
 
 // A slot looked up: whether it is in range, and the rule and the weight that it adds. One that does not count, or is out of range, adds
 // nothing.
-#[derive(Drop)]
+#[derive(Clone, Copy)]
 pub struct Slot {
     pub sound: bool,
     pub rule: Constraint,
@@ -18,7 +18,7 @@ pub struct Slot {
 }
 
 // The three slots of a slip.
-#[derive(Drop)]
+#[derive(Clone, Copy)]
 pub struct Slots {
     pub first: Slot,
     pub second: Slot,

@@ -1,5 +1,7 @@
 // The slip program: one book of version 2 from standard input, the line of its plan's slip to standard output, or that of its refusal. It
 // reads one byte more than a book may have, so that longer input is seen to be too long.
+
+#![tactic(auto)]
 fn main() {
     let mut input = [0u8; 57345];
     let n = io::read_full(0, &mut input);

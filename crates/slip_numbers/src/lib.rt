@@ -1,4 +1,6 @@
 // A slip as a run of 14 numbers, for programs in other languages: both ways, and checked as it is handed over.
+
+#![tactic(auto)]
 ghost use Rattle.std.specs.Prelude.{◌≡◌};
 ghost use Rattle.records.specs.Layout.{v2};
 ghost use Rattle.book.specs.Reading.{read_of};
@@ -11,7 +13,7 @@ use lp::{Outcome, Point, Ray};
 use slip::{Slip, Verdict, Weights};
 
 // The first two numbers.
-#[derive(Drop)]
+#[derive(Clone, Copy)]
 pub struct Opening {
     pub outcome: i64,
     pub count: i64,

@@ -5,14 +5,14 @@ ghost use Rattle.slip_reader.specs.Fields.{ends as ends_of, grown, found_of, rec
 ghost use Rattle.slip_reader.specs.Asked.{Goes, Runs, Finds, FindsCode};
 
 // A number's size, and where its field ends.
-#[derive(Drop)]
+#[derive(Clone, Copy)]
 pub struct Run {
     pub size: u64,
     pub end: usize,
 }
 
 // A field's number, and where the field ends.
-#[derive(Drop)]
+#[derive(Clone, Copy)]
 pub struct Found {
     pub value: i64,
     pub next: usize,

@@ -1,5 +1,7 @@
 // A slip read back from its line. The reader takes any bytes for a line and makes a slip of them; then the slip is written
 // again, and only bytes that are its text, with or without a line feed, were a line.
+
+#![tactic(auto)]
 mod again;
 mod fields;
 mod parts;
@@ -9,7 +11,7 @@ ghost use Rattle.slip_reader.specs.Reading.{Reads};
 use slip::Slip;
 
 // No line of a slip, or the slip that it says.
-#[derive(Drop)]
+#[derive(Clone, Copy)]
 pub enum Read {
     NoLine,
     Given(Slip),

@@ -8,7 +8,7 @@ use lp::{Outcome, Point, Ray};
 use slip::{Slip, Weights};
 
 // An entry and its weight, and where they end.
-#[derive(Drop)]
+#[derive(Clone, Copy)]
 pub struct Slot {
     pub code: i64,
     pub weight: i64,
@@ -16,7 +16,7 @@ pub struct Slot {
 }
 
 // X, Y and D, and where they end.
-#[derive(Drop)]
+#[derive(Clone, Copy)]
 pub struct Pair {
     pub point: Point,
     pub next: usize,

@@ -1,5 +1,7 @@
 // The text of a slip, part by part, in a lent buffer: what the slip program prints but for its line feed. Each private function writes at
 // a place and hands back the place after what it wrote.
+
+#![tactic(auto)]
 ghost use Rattle.lp.specs.declared.Outcome.TheVariants as outcome;
 ghost use Rattle.text.specs.Append.{HasRoom, Appended, Appends};
 ghost use Rattle.slip_text.specs.Text.{code_text, slot_text, entries_text, pair_text, ray_text, fields_of, slip_text};

@@ -1,5 +1,7 @@
 // The slip of a book's plan, for partners to recheck: its outcome with its pair and direction, and the entries, weights and scale that
 // prove it. Every function that can be called from outside is total.
+
+#![tactic(auto)]
 mod exact;
 mod lent;
 mod pass;
@@ -15,7 +17,7 @@ use slip::Slip;
 use weights::{conflict_weights, no_weights};
 
 // The book's refusal, or the slip of its plan.
-#[derive(Drop)]
+#[derive(Clone, Copy)]
 pub enum Written {
     Refused(Refusal),
     Given(Slip),

@@ -9,13 +9,13 @@ use crate::exact::{det, dot, opposite, tight};
 use lp::{Constraint, Floors, Functional, Point};
 
 // An entry, by its code and its rule.
-#[derive(Drop)]
+#[derive(Clone, Copy)]
 pub struct Side {
     pub code: i64,
     pub rule: Constraint,
 }
 
-#[derive(Drop)]
+#[derive(Clone, Copy)]
 pub struct Held {
     pub left: Side,
     pub right: Side,

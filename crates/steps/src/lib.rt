@@ -1,6 +1,8 @@
 // The steps of a session: a start, a rule added, the latest rule withdrawn. Each hands back the next state with the plan of the rules that
 // are held, worked out anew, since 64 rules take a few microseconds. A step takes a session only as a start or an earlier step handed it
 // back, which is what `IsSession` says.
+
+#![tactic(auto)]
 mod check;
 mod plan;
 mod state;

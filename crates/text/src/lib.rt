@@ -1,6 +1,9 @@
 // Words in a lent buffer. Each function writes at a place and hands back the place after what it wrote; a buffer with no room there is
 // left as it is, and the place handed back. Crate `numerals` puts numbers so, and other crates make lines of these parts. The definitions
 // of all parts of a line stand here.
+
+#![tactic(auto)]
+
 ghost use Rattle.std.specs.Prelude.{◌≡◌, ◌+◌, ltb, length};
 ghost use Rattle.text.specs.Append.{Appends};
 

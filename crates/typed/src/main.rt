@@ -1,5 +1,7 @@
 // The typed program: one text from standard input, its line to standard output. It reads so many bytes that longer input is seen to be
 // too long, with a line feed at the end or without.
+
+#![tactic(auto)]
 fn main() {
     let mut input = [0u8; 122];
     let n = io::read_full(0, &mut input);

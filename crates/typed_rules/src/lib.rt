@@ -1,5 +1,7 @@
 // A rule typed as text, read by the language of document 02, #103. Every function that can be called from outside is total: it takes
 // any bytes and answers.
+
+#![tactic(auto)]
 mod readers;
 mod tokens;
 
@@ -11,7 +13,7 @@ use forms::{Typed, Value};
 use readers::read_text;
 
 // The first byte that is no space, or 0 at the end; where it stands, and where the text goes on after it.
-#[derive(Drop)]
+#[derive(Clone, Copy)]
 pub struct Lexed {
     pub byte: u8,
     pub start: usize,
@@ -19,14 +21,14 @@ pub struct Lexed {
 }
 
 // A run of digits: its number, or some number beyond the limit, and where it ends.
-#[derive(Drop)]
+#[derive(Clone, Copy)]
 pub struct Digits {
     pub number: usize,
     pub end: usize,
 }
 
 // What a reader found: a value and where the text goes on, or nothing of the language.
-#[derive(Drop)]
+#[derive(Clone, Copy)]
 pub enum Step {
     Got(Value, usize),
     Fail,

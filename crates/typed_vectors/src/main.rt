@@ -1,4 +1,6 @@
 // Runs typed texts from standard input, one to a line, and writes the line of each.
+
+#![tactic(auto)]
 ghost use Rattle.std.specs.Prelude.{◌≤◌, length};
 
 // Where the line that begins at a place ends: at its line feed, or at the end.

@@ -2,6 +2,8 @@
 // other languages, as a static library. Each function writes to a lent buffer and hands back a count; it only calls what the other crates
 // promise. A version of the format has its own functions, which refuse the other version's books by their own table; the names of version
 // 2's end in 2.
+
+#![tactic(auto)]
 mod corners;
 mod exchange;
 mod joint;

@@ -1,0 +1,19 @@
+-- `records::layouts::fields_one` meets its contract: each field is read at its offset (`fields_read`).
+use native.Mathlib.Omega.{arith}
+use mathlib.Core.Path.{sym}
+use Rattle.records.specs.Layout.{v1}
+use Rattle.records.proofs.Numbers.{one_byte, number-none}
+use Rattle.records.proofs.Offsets.{fields_read}
+use borrow.Author.Rules.{rules}
+use Rattle.records.proofs.layouts.fields_one.Goals as goal
+
+pub overflow_cast-result : goal.overflow_cast-result
+overflow_cast-result c = omega (arith, c.type_inv.s c.args.at)
+
+pub returns : goal.returns
+returns c =
+    let s = c.args.s.now in
+    let at = c.args.at in
+    fields_read v1 s at (one_byte s at) (one_byte s _) (sym (number-none _))
+    c.number2.ensures c.number2-2.ensures c.number2-3.ensures
+    c.number4.ensures
