@@ -2,6 +2,7 @@
 // zero. The tests of ranges are in `range`, below the engine and all else that asks them of a rule.
 
 #![tactic(auto)]
+
 mod exact;
 pub mod range;
 

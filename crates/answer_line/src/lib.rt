@@ -1,6 +1,7 @@
 // The line of an answer written into a lent buffer, as crate `report` defines it.
 
 #![tactic(auto)]
+
 mod entries;
 mod line;
 

@@ -2,6 +2,7 @@
 // that code and definitions share. The code is crates `judging`, one link of the chain, and `reading`, the chain.
 
 #![tactic(auto)]
+
 use answers::Refusal;
 use lp::Terms;
 use records::Rule;

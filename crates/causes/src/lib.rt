@@ -1,6 +1,7 @@
 // What turns a rule back by its own numbers, wherever it comes from: the causes 8, 9 and 10 of document 01, in their order.
 
 #![tactic(auto)]
+
 ghost use Rattle.std.specs.Prelude.{◌≡◌};
 ghost use Rattle.records.specs.Record.{is_beyond, bad_kind, bad_slope, bad_bound, decoded_with};
 

@@ -2,6 +2,7 @@
 // Y and D; an answer 32, its outcome as a number and a pair. What has no room leaves the output as it was.
 
 #![tactic(auto)]
+
 ghost use Rattle.std.specs.Prelude.{◌≡◌, ◌+◌, ◌≤◌, length};
 ghost use Rattle.std.proofs.Math.Seq.{paste};
 ghost use Rattle.std.specs.Int.{w64};

@@ -3,6 +3,7 @@
 // which are below 2^62. Each public function takes every i64 there is.
 
 #![tactic(auto)]
+
 ghost use Rattle.std.specs.Prelude.{◌≡◌};
 ghost use Rattle.lp.specs.Corners.{less as less_of, before as before_of};
 ghost use Rattle.compare.specs.Comparing.{is_denominator, less_in, before_in, Denominators};

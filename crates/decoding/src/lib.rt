@@ -2,6 +2,7 @@
 // any bytes, and answers; a byte that is not there reads as zero.
 
 #![tactic(auto)]
+
 mod decode;
 
 ghost use Rattle.std.specs.Prelude.{◌≡◌};

@@ -3,6 +3,7 @@
 // it; the function below asks nothing. The walk goes by passes over the entries, and where these get long along the region's boundary.
 
 #![tactic(auto)]
+
 mod between;
 mod carry;
 mod cone;

@@ -2,6 +2,7 @@
 // −y ≤ −ly. The function is total, so that it stands below the engine and is proved apart from it.
 
 #![tactic(auto)]
+
 ghost use Rattle.flooring.specs.Floors.{Lays};
 
 use amounts::range::up_to;

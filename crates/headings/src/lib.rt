@@ -1,6 +1,7 @@
 // What a book's header says: the terms that its chain is planned under, the count, the first link, and the first of the causes 1 to 5.
 
 #![tactic(auto)]
+
 mod header;
 
 ghost use Rattle.std.specs.Prelude.{◌≡◌};

@@ -1,6 +1,7 @@
 // One link of a book's chain judged: a sound rule that is new on the chain, or what turns the book back.
 
 #![tactic(auto)]
+
 mod again;
 mod tables;
 

@@ -2,6 +2,7 @@
 // takes any bytes, and answers.
 
 #![tactic(auto)]
+
 ghost use Rattle.std.specs.Prelude.{◌≡◌, cond};
 ghost use Rattle.records.specs.Layout.{v2, layout_of};
 ghost use Rattle.records.specs.Record.{record_at, rule_of};

@@ -2,6 +2,7 @@
 // that a line is all that is made here.
 
 #![tactic(auto)]
+
 ghost use Rattle.text.specs.Append.{Appends};
 ghost use Rattle.panel_row.specs.Panel.{row_line};
 

@@ -2,6 +2,7 @@
 // few, and each takes the reader apart and calls a function of the slice and the index.
 
 #![tactic(auto)]
+
 ghost use Rattle.std.specs.Prelude.{◌≡◌};
 ghost use Rattle.records.specs.Layout.{layout_of};
 ghost use Rattle.records.specs.Record.{record_at, decoded_of};

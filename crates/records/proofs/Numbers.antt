@@ -6,7 +6,7 @@ use native.Mathlib.Omega.{arith}
 use native.Mathlib.Numerals.{add-one, add-two, add-three}
 use lib.ListN.{get_or, drop, take}
 use lib.Seq.{drop-drop}
-use native.Mathlib.Nat.{le_suc, not-suc-le-zero, le_of_suc-le-suc}
+use native.Mathlib.Nat.{le-suc, not-suc-le-zero, le_of_suc-le-suc}
 use Rattle.records.specs.Number.{number}
 
 -- ---- reading

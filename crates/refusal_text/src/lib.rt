@@ -1,6 +1,7 @@
 // What every program prints of something turned back, in a lent buffer: a word and two numbers.
 
 #![tactic(auto)]
+
 ghost use Rattle.text.specs.Number.{refused};
 ghost use Rattle.text.specs.Append.{Appends};
 

@@ -1,6 +1,7 @@
 // What a rule record's rule stands for: the constraint that it is planned as, and the number of what turns a record back.
 
 #![tactic(auto)]
+
 ghost use Rattle.std.specs.Prelude.{◌≡◌};
 ghost use Rattle.records.specs.Record.{number_of};
 ghost use Rattle.records.specs.Planned.{planned_rule};

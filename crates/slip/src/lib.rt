@@ -2,6 +2,7 @@
 // its laws (specs/, proofs/). The code is crates `finding`, which looks a record up, and `checking`, the checker.
 
 #![tactic(auto)]
+
 pub mod named;
 
 use answers::Refusal;

@@ -14,7 +14,7 @@ put_decimal-requires c =
     let test = c in
     let room = test.lacks_room in
     let start = test in
-    let enough = free start.args.out-1.now start.args.at 20 room.result room.ensures test.if-lacks_room.false in
+    let enough = free start.args.out.now start.args.at 20 room.result room.ensures test.if-lacks_room.false in
     record { free = omega (arith, decimal-usize start.args.n start.ranges.n) }
 
 pub returns : goal.returns
@@ -24,5 +24,5 @@ returns c =
     let room = test.lacks_room in
     let start = test in
     appends
-    (free start.args.out-1.now start.args.at 20 room.result room.ensures test.if-lacks_room.false)
+    (free start.args.out.now start.args.at 20 room.result room.ensures test.if-lacks_room.false)
     (roomier (decimal-usize start.args.n start.ranges.n) digits.put_decimal.ensures)

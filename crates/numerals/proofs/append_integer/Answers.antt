@@ -16,7 +16,7 @@ put_decimal-requires c =
     let test = counted in
     let room = test.lacks_room in
     let start = test in
-    let enough = free start.args.out-1.now start.args.at 21 room.result room.ensures test.if-lacks_room.false in
+    let enough = free start.args.out.now start.args.at 21 room.result room.ensures test.if-lacks_room.false in
     let stored = sign.append_word-next.ensures.fits (omega arith) in
     let short = digits-short start.args.z counted.magnitude-digits.result start.ranges.z counted.magnitude-digits.ensures in
     record { free = omega arith }
@@ -28,7 +28,7 @@ put_decimal-requires-else-z-lt0 c =
     let test = counted in
     let room = test.lacks_room in
     let start = test in
-    let enough = free start.args.out-1.now start.args.at 21 room.result room.ensures test.if-lacks_room.false in
+    let enough = free start.args.out.now start.args.at 21 room.result room.ensures test.if-lacks_room.false in
     let stored = space.append_word-next-else-z-lt0.ensures.fits (omega arith) in
     let short = digits-short start.args.z counted.magnitude-digits.result start.ranges.z counted.magnitude-digits.ensures in
     record { free = omega arith }
@@ -42,7 +42,7 @@ returns-then-z-lt0 c =
     let test = counted in
     let room = test.lacks_room in
     let start = test in
-    let enough = free start.args.out-1.now start.args.at 21 room.result room.ensures test.if-lacks_room.false in
+    let enough = free start.args.out.now start.args.at 21 room.result room.ensures test.if-lacks_room.false in
     let short = digits-short start.args.z counted.magnitude-digits.result start.ranges.z counted.magnitude-digits.ensures in
     appends enough
     (spelt
@@ -58,7 +58,7 @@ returns-else-z-lt0 c =
     let test = counted in
     let room = test.lacks_room in
     let start = test in
-    let enough = free start.args.out-1.now start.args.at 21 room.result room.ensures test.if-lacks_room.false in
+    let enough = free start.args.out.now start.args.at 21 room.result room.ensures test.if-lacks_room.false in
     let short = digits-short start.args.z counted.magnitude-digits.result start.ranges.z counted.magnitude-digits.ensures in
     appends enough
     (spelt

@@ -8,11 +8,13 @@ use Rattle.records.proofs.Offsets.{fields_copied}
 use Rattle.records.proofs.fields.fields_past.Goals as goal
 
 pub returns-in-One : goal.returns-in-One
+unfolding record_at
 returns-in-One c =
-    rw c.enum_told-1.given.1
+    rw c.in-One.is
     (c.fields_one.ensures ∙ fields_copied v1 c.window.ensures (lit≤ tt))
 
 pub returns-in-Two : goal.returns-in-Two
+unfolding record_at
 returns-in-Two c =
-    rw c.enum_told-in-Two-1.given.1
+    rw c.in-Two.is
     (c.fields_two.ensures ∙ fields_copied v2 c.window-in-Two.ensures (lit≤ tt))

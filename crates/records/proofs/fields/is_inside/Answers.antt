@@ -4,7 +4,7 @@ use borrow.Author.Rules.{rules}
 use Rattle.records.proofs.fields.is_inside.Goals as goal
 
 pub returns-in-One : goal.returns-in-One
-returns-in-One c = rw c.enum_told-1.given.1 refl
+returns-in-One c = rw c.in-One.is refl
 
 pub returns-in-Two : goal.returns-in-Two
-returns-in-Two c = rw c.enum_told-in-Two-1.given.1 refl
+returns-in-Two c = rw c.in-Two.is refl

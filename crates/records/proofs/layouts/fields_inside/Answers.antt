@@ -13,17 +13,19 @@ fields_one-requires c =
     let start = c in
     let s = start.args.book.now in
     let i = start.args.index in
-    leb-true _ _ (subst (λ (v : Version). holds_record (layout_of v) s i ≡ true) c.enum_told-1.given.1 start.requires)
+    leb-true _ _ (subst (λ (v : Version). holds_record (layout_of v) s i ≡ true) c.in-One.is start.requires)
 
 pub fields_two-requires : goal.fields_two-requires
 fields_two-requires c =
     let start = c in
     let s = start.args.book.now in
     let i = start.args.index in
-    leb-true _ _ (subst (λ (v : Version). holds_record (layout_of v) s i ≡ true) c.enum_told-in-Two-1.given.1 start.requires)
+    leb-true _ _ (subst (λ (v : Version). holds_record (layout_of v) s i ≡ true) c.in-Two.is start.requires)
 
 pub returns-in-One : goal.returns-in-One
-returns-in-One c = rw c.enum_told-1.given.1 c.fields_one.ensures
+unfolding record_at
+returns-in-One c = rw c.in-One.is c.fields_one.ensures
 
 pub returns-in-Two : goal.returns-in-Two
-returns-in-Two c = rw c.enum_told-in-Two-1.given.1 c.fields_two.ensures
+unfolding record_at
+returns-in-Two c = rw c.in-Two.is c.fields_two.ensures

@@ -1,0 +1,23 @@
+-- `answer_line::line::append_fields` meets its contract. Each arm of the match is given the answer that it is for.
+use mathlib.Core.Path.{ap, sym}
+use native.Mathlib.Omega.{arith}
+use borrow.Author.Rules.{rules}
+use Rattle.report.specs.Line.{answer_fields}
+use Rattle.text.proofs.Put.{spelt, roomier}
+use Rattle.answer_line.proofs.line.append_fields.Goals as goal
+
+pub returns-in-Refused : goal.returns-in-Refused
+unfolding answer_fields
+returns-in-Refused c =
+    let line = c in
+    let told = line in
+    let start = told in
+    spelt (ap (answer_fields start.args.naming) (sym told.in-Refused.is)) (roomier (omega arith) (line.append_refused.ensures.fits (omega arith)))
+
+pub returns-in-Planned : goal.returns-in-Planned
+unfolding answer_fields
+returns-in-Planned c =
+    let line = c in
+    let told = line in
+    let start = told in
+    spelt (ap (answer_fields start.args.naming) (sym told.in-Planned.is)) line.append_plan.ensures

@@ -1,0 +1,10 @@
+-- `engine::exact::keeps` meets its contract.
+use mathlib.Core.Path.{◌∙◌, ap}
+use lib.IntN.{pos}
+use lib.Signed.{le_z}
+use Rattle.fraction.proofs.Quotients.{unread}
+use borrow.Author.Rules.{rules}
+use Rattle.engine.proofs.exact.keeps.Goals as goal
+
+pub returns : goal.returns
+returns c = ap (le_z (pos 0)) (unread c.slack.type_inv ∙ c.slack.ensures)

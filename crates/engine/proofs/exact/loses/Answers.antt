@@ -1,0 +1,13 @@
+-- `engine::exact::loses` meets its contract.
+use mathlib.Core.Path.{ap}
+use lib.IntN.{ℤ, pos}
+use lib.Signed.{lt_z}
+use Rattle.engine.proofs.Sizes.{factors-read, along-factors, sum-read}
+use Rattle.engine.proofs.exact.loses.Goals as goal
+
+pub sum-requires : goal.sum-requires
+sum-requires c = factors-read (along-factors c.requires)
+
+pub returns : goal.returns
+returns c =
+    ap (λ (z : ℤ). lt_z z (pos 0)) (sum-read (along-factors c.requires) c.sum.type_inv c.sum.ensures)

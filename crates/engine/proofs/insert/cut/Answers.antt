@@ -1,0 +1,15 @@
+-- `engine::insert::cut` meets its contract: both ends are cut, and the new edge is put before what is left.
+use borrow.Author.Rules.{rules}
+use Rattle.engine.proofs.Drops.{cut-none, cut-cutting, cut-put}
+use Rattle.engine.proofs.insert.cut.Goals as goal
+
+pub returns-then-n-lt2 : goal.returns-then-n-lt2
+returns-then-n-lt2 c = cut-none c.requires c.front-dropped.ensures c.if-n-lt2.true
+
+pub back-left-requires : goal.back-left-requires
+back-left-requires c = cut-cutting c.requires c.front-dropped.ensures c.if-n-lt2.false
+
+pub returns : goal.returns
+returns c =
+    cut-put c.requires c.front-dropped.ensures
+    c.if-n-lt2.false c.back-left.ensures

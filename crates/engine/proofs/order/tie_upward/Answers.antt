@@ -1,0 +1,26 @@
+-- `engine::order::tie_upward` meets its contract: upward by the tie alone.
+use borrow.Author.Rules.{rules}
+use mathlib.Core.Path.{sym, ◌∙◌}
+use mathlib.Core.List.{[], ◌∷◌}
+use Rattle.engine.proofs.Steps.{above-gains, above-loses, above-level, above-last}
+use Rattle.engine.proofs.order.tie_upward.Goals as goal
+
+pub returns-then-gains : goal.returns-then-gains
+returns-then-gains c =
+    let s = c in
+    above-gains s.args.goal.first (s.args.goal.second ∷ []) s.args.d (sym c.gains.ensures ∙ c.if-gains.true)
+
+pub returns-then-loses : goal.returns-then-loses
+returns-then-loses c =
+    let s = c in
+    above-loses s.args.goal.first (s.args.goal.second ∷ []) s.args.d
+    (sym c.gains.ensures ∙ c.if-gains.false) (sym c.loses.ensures ∙ c.if-loses.true)
+
+pub returns : goal.returns
+returns c =
+    let a = c.args in
+    c.gains-2.ensures
+    ∙ above-last a.goal.second a.d
+    ∙ above-level a.goal.first (a.goal.second ∷ []) a.d
+    (sym c.gains.ensures ∙ c.if-gains.false)
+    (sym c.loses.ensures ∙ c.if-loses.false)

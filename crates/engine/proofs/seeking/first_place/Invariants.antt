@@ -1,0 +1,13 @@
+-- `engine::seeking::first_place` meets its contract: a place of the constraint, or none.
+use mathlib.Core.Path.{◌∙◌, sym}
+use Prim.Native.Nat.{◌+◌, ◌-◌, ◌<◌}
+use native.Mathlib.Omega.{arith}
+use Rattle.engine.proofs.Places.{sought-inner, sought-none}
+use Rattle.engine.proofs.Rows.{ring-place}
+use Rattle.engine.proofs.seeking.first_place.Given as goal
+
+abbrev pub invariant-loop-k : goal.invariant-loop-k
+invariant-loop-k l = l.k < l.n
+
+abbrev pub decreases-loop-k : goal.decreases-loop-k
+decreases-loop-k l = l.n - l.k

@@ -1,0 +1,11 @@
+-- `engine::seeking::halved` meets its contract: an edge of the ring.
+use Prim.Native.Nat.{◌+◌, ◌-◌, ◌/◌, ◌≤◌, ◌<◌}
+use native.Mathlib.Omega.{arith}
+use Rattle.engine.proofs.Rows.{at-point, meet-small, read_small, ring-at, ring-small}
+use Rattle.engine.proofs.seeking.halved.Given as goal
+
+abbrev pub invariant-loop-from : goal.invariant-loop-from
+invariant-loop-from l = (l.from < l.to) × (l.to ≤ l.n)
+
+abbrev pub decreases-loop-from : goal.decreases-loop-from
+decreases-loop-from l = l.to - l.from

@@ -1,0 +1,18 @@
+-- `engine::start::line_weight` meets its contract: the weight of the rule whose line is walked as it stands or turned round.
+use borrow.Author.Rules.{rules}
+use mathlib.Core.Path.{sym, ◌∙◌, ap}
+use Rattle.model.specs.Step.{line_weight}
+use Rattle.fraction.proofs.Quotients.{unread}
+use Rattle.engine.proofs.start.line_weight.Goals as goal
+
+pub returns-then-side : goal.returns-then-side
+returns-then-side c =
+    unread c.det.type_inv
+    ∙ c.det.ensures
+    ∙ ap (λ s. line_weight s c.args.k c.args.m) (sym c.if-side.true)
+
+pub returns-else-side : goal.returns-else-side
+returns-else-side c =
+    unread c.det-else-side.type_inv
+    ∙ c.det-else-side.ensures
+    ∙ ap (λ s. line_weight s c.args.k c.args.m) (sym c.if-side.false)

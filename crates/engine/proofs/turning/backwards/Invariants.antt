@@ -1,0 +1,11 @@
+-- `engine::turning::backwards` meets its contract: the ring is turned until edge k is its last.
+use borrow.Author.Rules.{rules}
+use native.Mathlib.Omega.{arith}
+use Rattle.engine.proofs.Turns.{Backed, backed_start, backed_room, backed_step, backed_end}
+use Rattle.engine.proofs.turning.backwards.Given as goal
+
+abbrev pub invariant-loop-at : goal.invariant-loop-at
+invariant-loop-at l = Backed l.initial.ring l.lo l.n l.k l.at l.ring
+
+abbrev pub decreases-loop-at : goal.decreases-loop-at
+decreases-loop-at l = l.at

@@ -1,0 +1,86 @@
+-- `judging::judge` meets its contract: each way out is one case of `judged`.
+use native.Mathlib.Omega.{arith}
+use Prim.Native.Nat.{ℕ}
+use mathlib.Core.Path.{◌≡◌, refl, sym, ap, ◌∙◌}
+use mathlib.Core.List.{[], ◌∷◌}
+use types.Run.{OneOf, miss}
+use denote.Enum.Declared.{tag_of}
+use Rattle.records.specs.contracts.Decoded.{the_type}
+use Rattle.records.specs.declared.Rule.{Rule}
+use Rattle.records.specs.declared.Decoded.{Decoded}
+use Rattle.records.specs.declared.Decoded.TheVariants as decoded
+use Rattle.records.specs.Layout.{layout_of}
+use Rattle.records.specs.Record.{number_of}
+use Rattle.records.proofs.Checks.{sound-holds}
+use Rattle.book.specs.declared.Judged.TheVariants.{Sound, Refused}
+use Rattle.book.specs.Tables.{is_noted}
+use Rattle.book.proofs.Leading.{judged-over, judged-fault, judged-met, judged-sound, again_kept}
+use borrow.Author.Rules.{rules}
+use Rattle.judging.proofs.judge.Goals as goal
+
+-- what is not sound has a number of its own
+fault : (d : Decoded) → OneOf (1 ∷ 2 ∷ 3 ∷ []) (tag_of the_type d) → number_of d ≡ 0 → ⊥
+fault (decoded.Sound r i) h e = miss (1 ∷ 2 ∷ 3 ∷ []) 0 tt h
+fault decoded.Kind h e = omega arith
+fault decoded.Slope h e = omega arith
+fault decoded.Bound h e = omega arith
+
+pub returns-then-link-count : goal.returns-then-link-count
+returns-then-link-count c =
+    let a = c.args in
+    record {
+      answer = judged-over (layout_of a.version) a.book.now a.labels.now a.count a.n a.at a.link c.if-link-count.true;
+      met = refl;
+    }
+
+pub returns-in_default : goal.returns-in_default
+returns-in_default c =
+    let a = c.args in
+    let d = c.visit-decoded in
+    let f = fault d.result c.in_default.keys2 in
+    record {
+      answer =
+          ap (λ (k : ℕ). Refused k a.link) (c.number_of.ensures ∙ ap number_of d.ensures)
+          ∙ judged-fault (layout_of a.version) a.book.now a.labels.now a.count a.n a.at a.link
+          c.if-link-count.false (rw d.ensures at f);
+      met = refl;
+    }
+
+pub returns-then-noted : goal.returns-then-noted
+returns-then-noted c =
+    let a = c.args in
+    let d = c.visit-decoded in
+    let e = c.in-Sound.is in
+    let held = sound-holds (layout_of a.version) _ _ _ (sym d.ensures ∙ e) in
+    let label = ap (λ (r : Rule). r.label) held.0 in
+    record {
+      answer =
+          judged-met (layout_of a.version) a.book.now a.labels.now a.count a.n a.at a.link
+          c.if-link-count.false
+          (ap number_of (sym d.ensures ∙ e))
+          (ap (is_noted a.labels.now) (sym label) ∙ sym c.noted.ensures ∙ c.if-noted.true)
+          c.again.ensures;
+      met = again_kept (layout_of a.version) a.book.now a.n a.at a.link a.labels.now c.again.ensures;
+    }
+
+pub note-requires : goal.note-requires
+note-requires c = sym c.noted.ensures ∙ c.if-noted.false
+
+pub returns : goal.returns
+returns c =
+    let a = c.args in
+    let d = c.visit-decoded in
+    let e = c.in-Sound.is in
+    let held = sound-holds (layout_of a.version) _ _ _ (sym d.ensures ∙ e) in
+    let label = ap (λ (r : Rule). r.label) held.0 in
+    record {
+      answer =
+          (λ j. Sound (held.0 j) (held.1 j))
+          ∙ judged-sound (layout_of a.version) a.book.now a.labels.now a.count a.n a.at a.link
+          c.if-link-count.false
+          (ap number_of (sym d.ensures ∙ e))
+          (ap (is_noted a.labels.now) (sym label)
+          ∙ sym c.noted.ensures
+          ∙ c.if-noted.false);
+      met = c.note.ensures;
+    }
