@@ -1,6 +1,7 @@
 // The objectives of a batch (request 109), read from their bytes, and what turns them back: the causes 16 and 11. It takes any bytes.
 
 #![tactic(auto)]
+
 ghost use Rattle.std.specs.Prelude.{◌≡◌, ◌+◌, ◌*◌, ◌≤◌, false, length};
 ghost use Rattle.std.specs.Int.{w16};
 ghost use Rattle.std.proofs.Common.{to_z};

@@ -2,6 +2,7 @@
 // can be called from outside is total: it takes any bytes and answers.
 
 #![tactic(auto)]
+
 mod put;
 mod walk;
 

@@ -2,6 +2,7 @@
 // a place and hands back the place after what it wrote.
 
 #![tactic(auto)]
+
 ghost use Rattle.lp.specs.declared.Outcome.TheVariants as outcome;
 ghost use Rattle.text.specs.Append.{HasRoom, Appended, Appends};
 ghost use Rattle.slip_text.specs.Text.{code_text, slot_text, entries_text, pair_text, ray_text, fields_of, slip_text};

@@ -19,8 +19,8 @@ use borrow.Author.Rules.{rules}
 use Rattle.judging.proofs.judge.Goals as goal
 
 -- what is not sound has a number of its own
-fault : (d : Decoded) → OneOf (1 ∷ 2 ∷ 3 ∷ []) (tag_of the_type d) → number_of d ≡ 0 → ⊥
-fault (decoded.Sound r i) h e = miss (1 ∷ 2 ∷ 3 ∷ []) 0 tt h
+fault : (d : Decoded) → ((r : Rule) (i : ℕ) → d ≡ decoded.Sound r i → ⊥) → number_of d ≡ 0 → ⊥
+fault (decoded.Sound r i) h e = absurd (h r i refl)
 fault decoded.Kind h e = omega arith
 fault decoded.Slope h e = omega arith
 fault decoded.Bound h e = omega arith
@@ -37,7 +37,7 @@ pub returns-in_default : goal.returns-in_default
 returns-in_default c =
     let a = c.args in
     let d = c.visit-decoded in
-    let f = fault d.result c.in_default.keys2 in
+    let f = fault d.result c.in_default.not-Sound in
     record {
       answer =
           ap (λ (k : ℕ). Refused k a.link) (c.number_of.ensures ∙ ap number_of d.ensures)

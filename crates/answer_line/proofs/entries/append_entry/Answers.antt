@@ -26,5 +26,5 @@ returns-else-code-eq1 c =
     let first-test = second-test in
     let start = first-test in
     spelt
-    (entry-rule start.args.naming start.args.code first-test.if1.false second-test.if2.false)
+    (entry-rule start.args.naming start.args.code first-test.if-code-eq0.false second-test.if-code-eq1.false)
     rule.append_rule.ensures

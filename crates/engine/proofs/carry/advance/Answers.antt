@@ -51,7 +51,7 @@ pub step_at-walk-requires : goal.step_at-walk-requires
 step_at-walk-requires c =
     advance-stepping c.requires
     c.insert-arc.ensures
-    c.if-arc.true c.goal.ensures c.edge-k.ensures
+    c.if-arc.true c.tie.ensures c.edge-k.ensures
     c.edge-e.ensures
 
 pub shape_of-ring-then-arc : goal.shape_of-ring-then-arc
@@ -63,7 +63,7 @@ returns-then-arc c =
     advance-done c.requires
     c.insert-arc.ensures
     (c.step_at-walk.ensures ∙ ap (λ t. step t a.objective (entries a.run.now 0 a.i) a.i a.h a.walk)
-    c.goal.ensures)
+    c.tie.ensures)
 
 pub step_at-walk-requires-2 : goal.step_at-walk-requires-2
 step_at-walk-requires-2 c = advance-plain c.requires c.tie-2.ensures

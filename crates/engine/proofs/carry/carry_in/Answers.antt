@@ -52,7 +52,7 @@ loop-i-preserved c =
           c.loop-i-test.true
           c.entry-h.ensures
           c.rule_in_range.ensures
-          c.if-rule_in_range.true refl u.walk-1,
+          c.if-rule_in_range.true refl u.walk,
       u.holding,
       u.same ∙ c.loop-i.invariant.2,
     )

@@ -29,7 +29,6 @@ returns-then-broken c =
 pub returns-else-broken : goal.returns-else-broken
 returns-else-broken c =
     let s = c in
-    let e = c.best-1.given in
     let h = c.struct_told-1.given in
-    rw (e.1, asked-keeps s.args.h s.requires.asked e.1, c.if-broken.false)
-    (ap At (same_point e.0.0 h.0.1 h.1.0.1 h.1.1.0.1))
+    rw (c.in-At.is, asked-keeps s.args.h s.requires.asked c.in-At.is, c.if-broken.false)
+    (ap At (same_point c.in-At.v h.0.1 h.1.0.1 h.1.1.0.1))

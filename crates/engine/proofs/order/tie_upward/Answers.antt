@@ -8,19 +8,19 @@ use Rattle.engine.proofs.order.tie_upward.Goals as goal
 pub returns-then-gains : goal.returns-then-gains
 returns-then-gains c =
     let s = c in
-    above-gains s.args.goal.first (s.args.goal.second ∷ []) s.args.d (sym c.gains.ensures ∙ c.if-gains.true)
+    above-gains s.args.tie.first (s.args.tie.second ∷ []) s.args.d (sym c.gains.ensures ∙ c.if-gains.true)
 
 pub returns-then-loses : goal.returns-then-loses
 returns-then-loses c =
     let s = c in
-    above-loses s.args.goal.first (s.args.goal.second ∷ []) s.args.d
+    above-loses s.args.tie.first (s.args.tie.second ∷ []) s.args.d
     (sym c.gains.ensures ∙ c.if-gains.false) (sym c.loses.ensures ∙ c.if-loses.true)
 
 pub returns : goal.returns
 returns c =
     let a = c.args in
     c.gains-2.ensures
-    ∙ above-last a.goal.second a.d
-    ∙ above-level a.goal.first (a.goal.second ∷ []) a.d
+    ∙ above-last a.tie.second a.d
+    ∙ above-level a.tie.first (a.tie.second ∷ []) a.d
     (sym c.gains.ensures ∙ c.if-gains.false)
     (sym c.loses.ensures ∙ c.if-loses.false)

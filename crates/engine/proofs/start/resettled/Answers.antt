@@ -11,12 +11,11 @@ first_broken-requires c =
 
 pub conflict-requires : goal.conflict-requires
 conflict-requires c =
-    let f = c.found-1.given in
     record {
       h-small = c.requires.h-small;
-      k-small = (found-parts c.requires.found-small f.1).0;
+      k-small = (found-parts c.requires.found-small c.in-At.is).0;
       m-small =
-          broken-small c.requires.entries f.0.1.1.0
+          broken-small c.requires.entries c.in-At.p
           c.first_broken.ensures c.in-At-first_broken.is;
     }
 

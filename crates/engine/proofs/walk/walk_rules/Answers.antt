@@ -25,7 +25,7 @@ step-walk-requires c =
     stepping c.requires
     c.loop-i.invariant c.loop-i-test.true
     c.entry-h.ensures c.rule_in_range.ensures c.if-rule_in_range.true
-    c.goal.ensures
+    c.tie.ensures
 
 pub overflow_sub-end : goal.overflow_sub-end
 overflow_sub-end c = omega (arith, c.loop-i-test.true)
@@ -41,7 +41,7 @@ carry_on-requires c =
     (walked_step s.requires t.loop-i.invariant
     t.loop-i-test.true
     t.entry-h.ensures t.rule_in_range.ensures t.if-rule_in_range.true
-    t.goal.ensures t.step-walk.ensures)
+    t.tie.ensures t.step-walk.ensures)
     t.begin-walk.ensures (leb-true s.args.n 8190 pays.1)
 
 pub returns-then-pays : goal.returns-then-pays
@@ -55,7 +55,7 @@ loop-i-preserved-else-pays c =
     walked_step s.requires t.loop-i.invariant
     t.loop-i-test.true t.entry-h.ensures
     t.rule_in_range.ensures t.if-rule_in_range.true
-    t.goal.ensures t.step-walk.ensures
+    t.tie.ensures t.step-walk.ensures
 
 pub loop-i-preserved : goal.loop-i-preserved
 loop-i-preserved c =
@@ -64,7 +64,7 @@ loop-i-preserved c =
     walked_step s.requires t.loop-i.invariant
     t.loop-i-test.true t.entry-h.ensures
     t.rule_in_range.ensures t.if-rule_in_range.true
-    t.goal.ensures t.step-walk.ensures
+    t.tie.ensures t.step-walk.ensures
 
 pub returns-else-rule_in_range : goal.returns-else-rule_in_range
 returns-else-rule_in_range c =

@@ -69,8 +69,7 @@ returns-then-bad_tail c =
     let start =
     c in
     set-tail start.args.version start.args.book.now start.args.f start.requires
-    (length-good
-    c)
+    ((sym c.bad_length.ensures ∙ c.if-bad_length.false))
     ((c.if-f-version_number.false ∙ c.version_number.ensures))
     c.if-f-ne0.false
     ((c.if-f-after_header.false ∙ c.after_header.ensures))
@@ -83,8 +82,7 @@ returns c =
     let start =
     c in
     no_fault start.args.version start.args.book.now start.args.f start.requires
-    (length-good
-    c)
+    ((sym c.bad_length.ensures ∙ c.if-bad_length.false))
     ((c.if-f-version_number.false ∙ c.version_number.ensures))
     c.if-f-ne0.false
     ((c.if-f-after_header.false ∙ c.after_header.ensures))
