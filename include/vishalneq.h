@@ -1,4 +1,4 @@
-/* What a controller loads: the functions of libvishalneq.a, which `rt staticlib vishalneq` leaves under target/staticlib.
+/* What a controller loads: the functions of libvishalneq.a, which tools/library leaves under target/staticlib.
  *
  * Each takes any bytes as a book and returns. A pointer is lent for the call, with the number of elements that it points to; it is not
  * null, even where that number is 0, and the buffer does not overlap the book. Nothing else is read or written, and nothing is kept

@@ -1,4 +1,4 @@
-//! Links the static library, which `rt staticlib vishalneq` leaves under the repository's target folder.
+//! Links the static library, which tools/library leaves under the repository's target folder.
 
 use std::{env, path::Path};
 
