@@ -1,6 +1,7 @@
 // Points put in order without repeats, by their indices: the indices are sorted, and of points that are the same the first is kept.
 
 #![tactic(auto)]
+
 ghost use Rattle.std.specs.Prelude.{◌≡◌, ◌≤◌, length};
 ghost use Rattle.sorting.specs.Keys.{comes_at};
 ghost use Rattle.arranging.specs.Arranging.{indices, kept_run, Kept, Stepped, Stepping, Arranged};

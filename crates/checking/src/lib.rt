@@ -2,6 +2,7 @@
 // facts. `check` can be called from outside and is total.
 
 #![tactic(auto)]
+
 mod entries;
 mod exact;
 mod facts;

@@ -2,6 +2,7 @@
 // a number beyond it would be.
 
 #![tactic(auto)]
+
 ghost use Rattle.forms.specs.Value.{held as held_of, product as product_of};
 ghost use Rattle.forms.specs.Small.{Valued};
 

@@ -2,6 +2,7 @@
 // total: an operand beyond the limit is refused as a number beyond it would be.
 
 #![tactic(auto)]
+
 ghost use Rattle.std.specs.Prelude.{◌≡◌};
 ghost use Rattle.forms.specs.Value.{held as held_of, negated as negated_of, sum as sum_of, difference as difference_of};
 ghost use Rattle.forms.specs.Value.{conclude as conclude_of};

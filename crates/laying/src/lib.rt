@@ -2,6 +2,7 @@
 // speed alone; a batch and a list of corners both take them from here. It takes any numbers and any runs.
 
 #![tactic(auto)]
+
 mod order;
 mod room;
 

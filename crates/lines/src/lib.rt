@@ -2,6 +2,7 @@
 // constraints; other ones get a zero.
 
 #![tactic(auto)]
+
 ghost use Rattle.std.specs.Prelude.{◌≡◌, ◌+ℤ◌, ◌-ℤ◌, ◌*ℤ◌};
 ghost use Rattle.lp.specs.Program.{slack as slack_of};
 ghost use Rattle.lp.specs.Outcome.{meet as meet_of};

@@ -1,6 +1,7 @@
 // Points as bytes of a lent output, one after the other, by their indices. Nothing is written unless all of it has room.
 
 #![tactic(auto)]
+
 ghost use Rattle.std.specs.Prelude.{◌≡◌};
 ghost use Rattle.listing.specs.Listing.{Lists, Listing, written};
 

@@ -1,6 +1,7 @@
 // What a list of rules is planned as, with a name for each rule: what single books, joined books and sessions share. It knows no bytes.
 
 #![tactic(auto)]
+
 ghost use Rattle.std.specs.Prelude.{◌≡◌};
 ghost use Rattle.plans.specs.Planning.{plan_of};
 

@@ -2,6 +2,7 @@
 // rules in the order of their angles take a time near to their number; in any order the corners are the same.
 
 #![tactic(auto)]
+
 mod edges;
 mod exact;
 mod frame;

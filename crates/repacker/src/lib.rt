@@ -2,6 +2,7 @@
 // and any output.
 
 #![tactic(auto)]
+
 mod pack;
 
 ghost use Rattle.std.specs.Prelude.{◌≡◌, length};

@@ -2,6 +2,7 @@
 // are planned. It is total: the runs may be of any length, and where they are too short for a book, nothing of it is planned.
 
 #![tactic(auto)]
+
 ghost use Rattle.std.specs.Prelude.{◌≡◌, min};
 ghost use Rattle.records.specs.Layout.{layout_of};
 ghost use Rattle.running.specs.Running.{no_solution, Ran};

@@ -2,6 +2,7 @@
 // output. What is shown is lent in the chain's records, so that this stands beside the walk and knows nothing of it.
 
 #![tactic(auto)]
+
 ghost use Rattle.std.specs.Prelude.{◌≡◌, map, ◌*◌, length};
 ghost use Rattle.records.specs.Layout.{layout_of};
 ghost use Rattle.text.specs.Append.{Appended};

@@ -1,6 +1,7 @@
 // A slip as a run of 14 numbers, for programs in other languages: both ways, and checked as it is handed over.
 
 #![tactic(auto)]
+
 ghost use Rattle.std.specs.Prelude.{◌≡◌};
 ghost use Rattle.records.specs.Layout.{v2};
 ghost use Rattle.book.specs.Reading.{read_of};

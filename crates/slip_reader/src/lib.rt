@@ -2,6 +2,7 @@
 // again, and only bytes that are its text, with or without a line feed, were a line.
 
 #![tactic(auto)]
+
 mod again;
 mod fields;
 mod parts;

@@ -2,6 +2,7 @@
 // any bytes and answers.
 
 #![tactic(auto)]
+
 mod readers;
 mod tokens;
 

@@ -1,0 +1,17 @@
+-- `arranging::arrange` meets its contract: counted up, sorted, and one kept of each.
+use borrow.Author.Rules.{rules}
+use Rattle.sorting.specs.Keys.{comes_at}
+use Rattle.arranging.proofs.Steps.{too_long, arranged-run}
+use Rattle.arranging.proofs.arrange.Goals as goal
+
+pub returns-then-run-gt4098 : goal.returns-then-run-gt4098
+returns-then-run-gt4098 c = let a = c.args in too_long (comes_at a.keys.now) a.run.now c.if-run-gt4098.true
+
+pub returns : goal.returns
+returns c =
+    let six = c in
+    let twelve = six in
+    let a = twelve.args in
+    arranged-run (comes_at a.keys.now) twelve.if-run-gt4098.false six.count_up.ensures
+    six.sort.ensures
+    c.keep_distinct.ensures

@@ -1,0 +1,26 @@
+-- `checking::entries::keeps_all` meets its contract.
+use mathlib.Core.Path.{sym, ◌∙◌}
+use Prim.Native.Nat.{◌-◌}
+use native.Mathlib.Omega.{arith}
+use Rattle.slip.proofs.Passes.{Kept, kept-start, kept_asks, kept_step, kept-stop, kept-end, entry-room}
+use Rattle.checking.proofs.entries.keeps_all.Goals as goal
+
+pub loop-i-init : goal.loop-i-init
+loop-i-init c = kept-start c.args.rules.now c.args.n c.args.v
+
+pub entry-requires : goal.entry-requires
+entry-requires c = entry-room c.requires.entries c.loop-i-test.true
+
+pub keeps-requires : goal.keeps-requires
+keeps-requires c = kept_asks c.requires c.loop-i-test.true c.entry.ensures
+
+pub loop-i-preserved : goal.loop-i-preserved
+loop-i-preserved c = kept_step c.loop-i.invariant c.loop-i-test.true
+    c.entry.ensures (sym c.keeps.ensures ∙ c.if-keeps.true)
+
+pub returns-else-keeps : goal.returns-else-keeps
+returns-else-keeps c = kept-stop c.loop-i.invariant c.loop-i-test.true
+    c.entry.ensures (sym c.keeps.ensures ∙ c.if-keeps.false)
+
+pub returns : goal.returns
+returns c = kept-end c.loop-i.invariant c.loop-i-test.false

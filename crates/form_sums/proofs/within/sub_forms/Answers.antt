@@ -1,0 +1,14 @@
+-- `form_sums::within::sub_forms` meets its contract. Each number is that of the two, read back from its bits.
+use borrow.Author.Rules.{rules}
+use Rattle.forms.proofs.Values.{form-is, sub_is}
+use Rattle.form_sums.proofs.within.sub_forms.Goals as goal
+
+pub returns : goal.returns
+returns c =
+    let second = c in
+    let first = second in
+    let pre = first.requires in
+    form-is
+    (sub_is pre.left.a pre.right.a first.sub.ensures)
+    (sub_is pre.left.b pre.right.b second.sub-2.ensures)
+    (sub_is pre.left.c pre.right.c c.sub-3.ensures)

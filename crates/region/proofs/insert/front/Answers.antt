@@ -1,0 +1,34 @@
+-- `region::insert::front` meets its contract: the edges at the front are dropped whose later corner is broken.
+use mathlib.Core.Path.{sym, ◌∙◌}
+use Prim.Native.Nat.{◌-◌}
+use native.Mathlib.Omega.{arith}
+use Rattle.region.proofs.Loops.{Front, front-start, front-pair, front-stop, front-step, front-end}
+use Rattle.region.proofs.insert.front.Goals as goal
+
+pub loop-i-init : goal.loop-i-init
+loop-i-init c = front-start c.requires
+
+pub overflow_add-i : goal.overflow_add-i
+overflow_add-i c = omega (arith, c.loop-i.invariant.inside)
+
+pub overflow_add-at : goal.overflow_add-at
+overflow_add-at c = omega (arith, c.requires.ring.fits)
+
+pub overflow_add-at-in-loop-i : goal.overflow_add-at-in-loop-i
+overflow_add-at-in-loop-i c = omega (arith, c.requires.ring.fits)
+
+pub corner_keeps-requires : goal.corner_keeps-requires
+corner_keeps-requires c = front-pair c.requires c.loop-i.invariant (omega arith)
+
+pub returns-then-corner_keeps : goal.returns-then-corner_keeps
+returns-then-corner_keeps c =
+    front-stop c.requires c.loop-i.invariant
+    (omega arith) (sym c.corner_keeps.ensures ∙ c.if-corner_keeps.true)
+
+pub loop-i-preserved : goal.loop-i-preserved
+loop-i-preserved c =
+    front-step c.requires c.loop-i.invariant
+    (omega arith) (sym c.corner_keeps.ensures ∙ c.if-corner_keeps.false)
+
+pub returns : goal.returns
+returns c = front-end c.requires c.loop-i.invariant (omega arith)

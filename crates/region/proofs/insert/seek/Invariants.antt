@@ -1,0 +1,11 @@
+-- `region::insert::seek` meets its contract: the ring is turned to the place of a constraint.
+use mathlib.Core.Path.{sym, ◌∙◌}
+use native.Mathlib.Omega.{arith}
+use Rattle.region.proofs.Loops.{Seek, seek-start, seek-place, seek-turning, seek_stop, seek-step, seek-end}
+use Rattle.region.proofs.insert.seek.Given as goal
+
+abbrev pub invariant-loop-left : goal.invariant-loop-left
+invariant-loop-left l = Seek l.run l.initial.ring l.size l.h l.lo l.n l.ring l.at l.left
+
+abbrev pub decreases-loop-left : goal.decreases-loop-left
+decreases-loop-left l = l.left

@@ -1,0 +1,27 @@
+-- `showing::list` meets its contract: the lines of the records, each after those before it.
+use Prim.Native.Nat.{◌-◌}
+use lib.ListN.{length}
+use native.Mathlib.Omega.{arith}
+use Rattle.records.specs.Layout.{layout_of}
+use Rattle.showing.specs.Showing.{row_for}
+use Rattle.showing.proofs.Rows.{Shown, shown-start, shown-length, shown-step, shown-end}
+use borrow.Author.Rules.{rules}
+use Rattle.showing.proofs.list.Goals as goal
+
+pub loop-i-init : goal.loop-i-init
+loop-i-init c =
+    let start = c in
+    shown-start (row_for (layout_of start.args.version) start.args.book.now start.args.v) start.args.records.now
+    start.args.out.now start.requires
+
+pub loop-i-preserved : goal.loop-i-preserved
+loop-i-preserved c =
+    shown-step c.loop-i.invariant
+    c.loop-i-test.true c.row.ensures
+    c.append_row-at.ensures
+
+pub shape_of-out : goal.shape_of-out
+shape_of-out c = shown-length c.loop-i.invariant
+
+pub returns : goal.returns
+returns c = shown-end c.loop-i.invariant c.loop-i-test.false
