@@ -1,6 +1,7 @@
 // A slip's line checked against a book: it is read back, and the checker judges what was read.
 
 #![tactic(auto)]
+
 ghost use Rattle.check_line.specs.Checks.{Checks};
 
 use slip::Verdict;

@@ -2,6 +2,7 @@
 // and a start pair in a lent run.
 
 #![tactic(auto)]
+
 ghost use Rattle.std.specs.Prelude.{◌≡◌};
 ghost use Rattle.handed.specs.Told.{told_of, verdict_told};
 ghost use Rattle.handed.specs.Start.{put_point, PointRoom, StartPut};

@@ -2,6 +2,7 @@
 // worked out once, and each objective gets the outcome and the pair that a plan alone would give. It takes any numbers, runs and bytes.
 
 #![tactic(auto)]
+
 mod exact;
 mod offers;
 mod picks;

@@ -2,6 +2,7 @@
 // any numbers and any runs.
 
 #![tactic(auto)]
+
 ghost use Rattle.std.specs.Prelude.{◌≤◌, length};
 ghost use Rattle.outlining.specs.Finishing.{Finishes, Finished};
 

@@ -3,6 +3,7 @@
 // any bytes, as a book of either version, and answers.
 
 #![tactic(auto)]
+
 mod told;
 
 ghost use Rattle.records.specs.Layout.{layout_of};

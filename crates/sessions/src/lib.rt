@@ -2,12 +2,13 @@
 // goes by value, an array of 64 rules, a count, and the objective with the floors. The code is crate `steps`.
 
 #![tactic(auto)]
+
 use answers::{Plan, Refusal};
 use lp::Terms;
 use records::Rule;
 
 // The rules held stand first, in their order; every other place is blank.
-#[derive(Drop)]
+#[derive(Clone, Copy)]
 pub struct Session {
     pub rules: [Rule; 64],
     pub n: usize,

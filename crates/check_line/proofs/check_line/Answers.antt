@@ -1,0 +1,19 @@
+-- `check_line::check_line` meets its contract.
+use borrow.Author.Rules.{rules}
+use mathlib.Core.Path.{subst}
+use Rattle.slip_reader.specs.Reading.{Reads}
+use Rattle.check_line.proofs.Answers.{checks_none, checks_given}
+use Rattle.check_line.proofs.check_line.Goals as goal
+
+pub returns-in-NoLine : goal.returns-in-NoLine
+returns-in-NoLine c =
+    let start = c in
+    checks_none start.args.book.now start.args.text.now
+    (subst (Reads start.args.text.now) c.in-NoLine.is c.read_slip.ensures) c.check_numbers.ensures
+
+pub returns-in-Given : goal.returns-in-Given
+returns-in-Given c =
+    let start = c in
+    checks_given start.args.book.now start.args.text.now c.in-Given.s
+    (subst (Reads start.args.text.now) c.in-Given.is c.read_slip.ensures)
+    c.check.ensures

@@ -1,0 +1,64 @@
+-- `offering::offers::offer_all` meets its contract: without corners that were listed nothing is written.
+use borrow.Author.Rules.{rules}
+use native.Mathlib.Omega.{arith}
+use mathlib.Core.Path.{sym, ap, ◌∙◌, subst}
+use mathlib.Core.List.{◌++◌}
+use Prim.Native.Nat.{◌*◌}
+use lib.ListN.{length, drop}
+use Rattle.model.specs.declared.Cone.{Cone}
+use Rattle.model.specs.Bounds.{SmallCone}
+use Rattle.engine.specs.Entries.{entries}
+use Rattle.region.specs.declared.Listed.{Listed}
+use Rattle.objectives.specs.Objectives.{objectives_of}
+use Rattle.objectives.proofs.Sound.{few-objectives}
+use Rattle.offering.specs.Listed.{points_from, offer_in, answers_by}
+use Rattle.offering.specs.Asked.{answered_of, filled_of}
+use Rattle.offering.proofs.Sizes.{rays-small}
+use Rattle.offering.proofs.offers.offer_all.Goals as goal
+
+pub rays-requires : goal.rays-requires
+rays-requires c =
+    let start = c in
+    (start.requires.inside _ c.in-Corners.is).ruled
+
+pub fill-requires : goal.fill-requires
+fill-requires c =
+    let start = c in
+    let listing = start.requires.inside _ c.in-Corners.is in
+    let rules = entries start.args.run.now 2 start.args.n in
+    record {
+      rays = subst SmallCone (sym c.rays.ensures) (rays-small rules listing.ruled.rules-small);
+      points = listing.points;
+      sound = start.requires.sound;
+      room = start.requires.room;
+    }
+
+pub overflow_mul-result : goal.overflow_mul-result
+overflow_mul-result c =
+    omega (
+      arith,
+      few-objectives c.args.objectives.now c.requires.sound,
+    )
+
+pub returns-in-Outside : goal.returns-in-Outside
+returns-in-Outside c =
+    let a = c.args in
+    let e = sym c.in-Outside.is in
+    record {
+      answer = ap (λ (l : Listed). answered_of l (8 * length a.objectives.now)) e;
+      output = ap (λ (l : Listed). filled_of l a.n a.run.now a.corners.now a.objectives.now a.out.now) e;
+    }
+
+pub returns-in-Corners : goal.returns-in-Corners
+returns-in-Corners c =
+    let a = c.args in
+    let e = sym c.in-Corners.is in
+    let rest = drop (8 * length a.objectives.now) a.out.now in
+    let points = points_from a.corners.now 0 c.in-Corners.count in
+    record {
+      answer = ap (λ (l : Listed). answered_of l (8 * length a.objectives.now)) e;
+      output =
+          c.fill.ensures
+          ∙ ap (λ (cone : Cone). answers_by (offer_in cone points) (objectives_of a.objectives.now) ++ rest) c.rays.ensures
+          ∙ ap (λ (l : Listed). filled_of l a.n a.run.now a.corners.now a.objectives.now a.out.now) e;
+    }

@@ -1,0 +1,24 @@
+-- `offering::offers::offered` meets its contract: no corner, a ray that gains, or the best corner.
+use borrow.Author.Rules.{rules}
+use native.Mathlib.Omega.{arith}
+use Rattle.offering.proofs.Planned.{offer-none, offer-unlimited, offer-best}
+use Rattle.offering.proofs.offers.offered.Goals as goal
+
+pub returns-then-count-eq0 : goal.returns-then-count-eq0
+returns-then-count-eq0 c =
+    let a = c.args in
+    offer-none a.cone a.corners.now a.f c.if-count-eq0.true
+
+pub returns-in-Along : goal.returns-in-Along
+returns-in-Along c =
+    let s = c in
+    offer-unlimited s.args.cone s.args.corners.now s.args.f s.args.count
+    (omega (arith, c.if-count-eq0.false))
+    c.gaining.ensures c.in-Along.is s.requires.first
+
+pub returns-in-Nowhere : goal.returns-in-Nowhere
+returns-in-Nowhere c =
+    let s = c in
+    offer-best s.args.cone s.args.corners.now s.args.f s.args.count
+    (omega (arith, c.if-count-eq0.false))
+    c.gaining.ensures c.in-Nowhere.is c.best.ensures
