@@ -3,6 +3,7 @@
 // total: it takes any two runs of bytes and answers.
 
 #![tactic(auto)]
+
 mod read;
 mod run;
 

@@ -2,6 +2,7 @@
 // prove it. Every function that can be called from outside is total.
 
 #![tactic(auto)]
+
 mod exact;
 mod lent;
 mod pass;

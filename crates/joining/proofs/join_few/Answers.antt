@@ -1,0 +1,10 @@
+-- `joining::join_few` meets its contract: by their lengths short books have no more rules than the short runs have room for.
+use mathlib.Core.Path.{refl}
+use borrow.Author.Rules.{rules}
+use Rattle.joining.proofs.Classes.{few-by-length}
+use Rattle.joining.proofs.join_few.Goals as goal
+
+pub join_short-requires : goal.join_short-requires
+join_short-requires c =
+    let start = c in
+    few-by-length start.args.site.now start.args.tenant.now 30 434 refl c.within.ensures c.if-within.true

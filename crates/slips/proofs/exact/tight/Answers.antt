@@ -1,0 +1,13 @@
+-- `slips::exact::tight` meets its contract.
+use borrow.Author.Rules.{rules}
+use mathlib.Core.Path.{◌∙◌, ap}
+use Rattle.lp.specs.Certificate.{is_zero}
+use Rattle.slip.proofs.Sizes.{placed-distance, distance_read}
+use Rattle.slips.proofs.exact.tight.Goals as goal
+
+pub distance-requires : goal.distance-requires
+distance-requires c = placed-distance c.requires
+
+pub returns : goal.returns
+returns c = c.is_zero.ensures ∙ ap is_zero (distance_read c.requires
+    c.distance.type_inv c.distance.ensures)

@@ -1,0 +1,31 @@
+-- `slips::lent::best_in` meets its contract: the weights of a best pair, with the runs lent.
+use borrow.Author.Rules.{rules}
+use Rattle.slip.proofs.Sizes.{unread}
+use Rattle.slips.proofs.Sizes.{normal-read}
+use Rattle.slips.proofs.Lending.{passing_of, weighing_of, best_of}
+use Rattle.slips.proofs.lent.best_in.Goals as goal
+
+pub passed-held-requires : goal.passed-held-requires
+passed-held-requires c =
+    let s = c in
+    let r = c.read-head in
+    passing_of s.args.book.now _ _ r.result _ _ r.ensures s.requires
+
+pub optimum_weights-requires : goal.optimum_weights-requires
+optimum_weights-requires c =
+    let s = c in
+    let r = c.read-head in
+    let h = c.struct_told-1.given in
+    let f = r.result.terms.objective in
+    weighing_of (passing_of s.args.book.now _ _ r.result _ _ r.ensures s.requires)
+    (normal-read {f = f} (unread {z = f.p} h.0.1) (unread {z = f.q} h.1.0.1)) c.passed-held.ensures
+
+pub returns : goal.returns
+returns c =
+    let s = c in
+    let r = c.read-head in
+    let h = c.struct_told-1.given in
+    let f = r.result.terms.objective in
+    best_of s.args.book.now _ _ r.result _ _ r.ensures s.requires
+    (normal-read {f = f} (unread {z = f.p} h.0.1) (unread {z = f.q} h.1.0.1)) c.passed-held.ensures
+    c.optimum_weights.ensures
