@@ -3,6 +3,7 @@
 // and any output.
 
 #![tactic(auto)]
+
 mod classes;
 
 ghost use Rattle.batching.specs.Promises.{Batches};

@@ -1,6 +1,7 @@
 // A corner's line: X, Y and D in decimal, one space between them, and a line feed.
 
 #![tactic(auto)]
+
 ghost use Rattle.text.specs.Number.{signed};
 ghost use Rattle.text.specs.Append.{Appends};
 ghost use Rattle.corner_line.specs.Line.{corner_line};

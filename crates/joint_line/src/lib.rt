@@ -2,6 +2,7 @@
 // record, or a refusal that names the book that is turned back.
 
 #![tactic(auto)]
+
 mod line;
 
 ghost use Rattle.text.specs.Append.{Fills};

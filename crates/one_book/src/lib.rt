@@ -3,6 +3,7 @@
 // languages. Every function is total: it takes any bytes and any buffer.
 
 #![tactic(auto)]
+
 ghost use Rattle.records.specs.Layout.{layout_of};
 ghost use Rattle.one_book.specs.Loaded.{PlanLine, StartWritten, RepackWritten};
 

@@ -1,6 +1,7 @@
 // The lines of the session program: any bytes are read as a step with its numbers or as no step.
 
 #![tactic(auto)]
+
 mod digits;
 mod numbers;
 mod steps;

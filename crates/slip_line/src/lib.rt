@@ -1,6 +1,7 @@
 // The printed line of a slip, or of the book's refusal, in a lent buffer.
 
 #![tactic(auto)]
+
 ghost use Rattle.text.specs.Append.{HasRoom, Appended};
 ghost use Rattle.slip_line.specs.Line.{written_fields, LineWritten};
 

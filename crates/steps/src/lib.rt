@@ -3,6 +3,7 @@
 // back, which is what `IsSession` says.
 
 #![tactic(auto)]
+
 mod check;
 mod plan;
 mod state;

@@ -1,6 +1,7 @@
 // The line of an input: a line feed at its end is not part of the text, which is read as a rule or refused.
 
 #![tactic(auto)]
+
 ghost use Rattle.language.specs.Parser.{answer};
 ghost use Rattle.typed_line.specs.Feed.{without_feed, TextLength};
 ghost use Rattle.typed_line.specs.Typed.{TypedWritten};

@@ -1,6 +1,7 @@
 // The line of what the checker says.
 
 #![tactic(auto)]
+
 ghost use Rattle.text.specs.Append.{HasRoom, Appended};
 ghost use Rattle.verdict_line.specs.Verdict.{verdict_text, VerdictWritten};
 

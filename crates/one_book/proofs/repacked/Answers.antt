@@ -1,0 +1,14 @@
+-- `one_book::repacked` meets its contract: what the repacker answers, as one number.
+use mathlib.Core.Path.{◌∙◌, ap}
+use borrow.Author.Rules.{rules}
+use Rattle.repacker.specs.declared.Repacked.{Repacked}
+use Rattle.handed.specs.Told.{told_of}
+use Rattle.one_book.proofs.repacked.Goals as goal
+
+pub returns : goal.returns
+returns c =
+    let repacks = c.repack-answer.ensures in
+    record {
+      output = repacks.output;
+      told = c.told.ensures ∙ ap (λ (r : Repacked). told_of r.refusal r.filled) repacks.answer;
+    }

@@ -1,0 +1,16 @@
+-- `session_lines::numbers::field` meets its contract: the number in a field.
+use borrow.Author.Rules.{rules}
+use Rattle.session_lines.proofs.Signs.{field-minus, field_plain}
+use Rattle.session_lines.proofs.numbers.field.Goals as goal
+
+pub returns-then-byte_at-eq45 : goal.returns-then-byte_at-eq45
+returns-then-byte_at-eq45 c =
+    let start = c in
+    field-minus start.args.text.now start.args.at c.after-sign.ensures
+    c.byte_at.ensures c.if-byte_at-eq45.true c.after-from.ensures c.number_from.ensures
+
+pub returns-else-byte_at-eq45 : goal.returns-else-byte_at-eq45
+returns-else-byte_at-eq45 c =
+    let start = c in
+    field_plain start.args.text.now start.args.at c.after-sign.ensures c.byte_at.ensures
+    c.if-byte_at-eq45.false c.number_from-else-byte_at-eq45.ensures

@@ -1,0 +1,26 @@
+-- `session_lines::words::begins` meets its contract: byte by byte.
+use native.Mathlib.Omega.{arith}
+use Prim.Native.Nat.{◌-◌}
+use lib.ListN.{length}
+use borrow.Author.Rules.{rules}
+use Rattle.session_lines.proofs.Spelling.{Spelling, spelling_start, spelling_more, spelling_other, spelling_end}
+use Rattle.session_lines.proofs.words.begins.Goals as goal
+
+pub loop-i-init : goal.loop-i-init
+loop-i-init c =
+    spelling_start _ _
+
+pub returns-then-byte_at-word : goal.returns-then-byte_at-word
+returns-then-byte_at-word c =
+    let l = c in
+    spelling_other _ _ l.loop-i.i c.loop-i-test.true c.byte_at.ensures c.if-byte_at-word.true
+    l.loop-i.invariant
+
+pub loop-i-preserved : goal.loop-i-preserved
+loop-i-preserved c =
+    let l = c in
+    spelling_more _ _ l.loop-i.i c.loop-i-test.true c.byte_at.ensures c.if-byte_at-word.false
+    l.loop-i.invariant
+
+pub returns : goal.returns
+returns c = spelling_end _ _ c.loop-i.i c.loop-i-test.false c.loop-i.invariant

@@ -1,0 +1,19 @@
+-- `steps::plan::plan_held` meets its contract: the rules held are planned as the chain of a book.
+use mathlib.Core.Path.{sym, ◌∙◌}
+use mathlib.Core.Path.{refl}
+use borrow.Author.Rules.{rules}
+use Rattle.sessions.proofs.Held.{never-outside, session-shown}
+use Rattle.steps.proofs.plan.plan_held.Goals as goal
+
+pub returns-in-Outside : goal.returns-in-Outside
+returns-in-Outside c =
+    let start = c in
+    absurd
+    (never-outside start.args.session start.requires _ refl c.lay.ensures
+    (sym c.in-Outside.is ∙ c.solve.ensures.answer))
+
+pub returns-in-Walked : goal.returns-in-Walked
+returns-in-Walked c =
+    let start = c in
+    session-shown start.args.session start.requires _ refl c.lay.ensures c.places-names.ensures
+    (sym c.in-Walked.is ∙ c.solve.ensures.answer) c.plan_of.ensures

@@ -1,0 +1,27 @@
+-- `steps::start` meets its contract: 4, or a session without rules.
+use borrow.Author.Rules.{rules}
+use Rattle.sessions.proofs.Led.{begun-session, starts, starts-refused, empty-session}
+use Rattle.steps.proofs.start.Goals as goal
+
+pub taken-requires : goal.taken-requires
+taken-requires c =
+    let start = c in
+    begun-session start.args.p start.args.q start.args.lx start.args.ly start.ranges.p start.ranges.q start.ranges.lx
+    start.ranges.ly c.lawful_objective.ensures c.if-lawful_objective.true c.begun.ensures
+
+pub taken-requires-else-lawful_objective : goal.taken-requires-else-lawful_objective
+taken-requires-else-lawful_objective c = empty-session c.begun-else-lawful_objective.ensures
+
+pub returns-then-lawful_objective : goal.returns-then-lawful_objective
+returns-then-lawful_objective c =
+    let start = c in
+    starts start.args.p start.args.q start.args.lx start.args.ly start.ranges.p start.ranges.q start.ranges.lx
+    start.ranges.ly c.lawful_objective.ensures c.if-lawful_objective.true c.begun.ensures c.taken.result
+    c.taken.ensures
+
+pub returns-else-lawful_objective : goal.returns-else-lawful_objective
+returns-else-lawful_objective c =
+    let start = c in
+    starts-refused start.args.p start.args.q start.args.lx start.args.ly start.ranges.p start.ranges.q
+    start.ranges.lx start.ranges.ly c.lawful_objective.ensures c.if-lawful_objective.false c.begun-else-lawful_objective.ensures
+    c.taken-else-lawful_objective.result c.taken-else-lawful_objective.ensures

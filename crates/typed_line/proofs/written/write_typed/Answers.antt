@@ -1,0 +1,19 @@
+-- `typed_line::written::write_typed` meets its contract. A small buffer is left alone; else the fields and the line feed make up the line.
+use native.Mathlib.Omega.{arith}
+use borrow.Author.Rules.{rules}
+use Rattle.typed_line.specs.Typed.{typed_line, typed_room}
+use Rattle.text.proofs.Put.{too_small, filled, followed}
+use Rattle.typed_line.proofs.written.write_typed.Goals as goal
+
+pub returns-then-out-lt96 : goal.returns-then-out-lt96
+returns-then-out-lt96 c =
+    let start = c in
+    too_small (typed_line start.args.t) typed_room start.args.out.now (omega arith)
+
+pub returns : goal.returns
+unfolding typed_line
+returns c =
+    let feed = c in
+    let fields = feed in
+    let last = feed.append_word.ensures.fits (omega arith) in
+    filled {room = typed_room} (omega arith) (omega arith) (followed fields.append_typed-end.ensures last)
