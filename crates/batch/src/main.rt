@@ -4,49 +4,47 @@
 // gets a line on standard error, and nothing is printed.
 
 #![tactic(auto)]
+
 use answers::Answer;
 use files::{Taken, load};
-use libc::{STDIN_FILENO, STDOUT_FILENO};
+use std::io;
 
 // The line of one answer.
-fn show(answer: &[u8]) {
+fn show(rt: &HostRuntime, answer: &[u8]) -> io::Result<()> {
     let mut line = [0u8; 80];
     let end = batch_line::append_answer(answer, &mut line, 0);
-    io::write_all(STDOUT_FILENO, &line[..end]);
+    rt.write_all(&line[..end])
 }
 
 // The lines of all answers, 32 bytes each.
-fn show_all(answers: &[u8]) {
-    let n = answers.len() / 32;
-    let mut i = 0;
-    while i < n {
-        let at = 32 * i;
-        show(&answers[at..at + 32]);
-        i += 1;
+fn show_all(rt: &HostRuntime, answers: &[u8]) -> io::Result<()> {
+    for answer in answers.chunks_exact(32) {
+        show(rt, answer)?;
     }
+    Ok(())
 }
 
 // What a batch comes to: its refusal's line, or its answers' lines.
-fn answer(book: &[u8], objectives: &[u8]) {
+fn answer(rt: &HostRuntime, book: &[u8], objectives: &[u8]) -> io::Result<()> {
     let mut out = [0u8; 1024];
     let done = batching::batch(book, objectives, &mut out);
     let refusal = done.refusal;
     let number = refusal.number;
     if number == 0 {
-        show_all(&out[..done.filled]);
+        show_all(rt, &out[..done.filled])
     } else {
         let mut line = [0u8; 256];
         let end = answer_line::write_line(Answer::Refused(refusal), &mut line);
-        io::write_all(STDOUT_FILENO, &line[..end]);
+        rt.write_all(&line[..end])
     }
 }
 
-fn main() {
+fn main(rt: HostRuntime) -> io::Result<()> {
     let mut book = [0u8; 57345];
     let mut objectives = [0u8; 129];
-    let Taken::Bytes(n) = load(1, b"batch BOOK", &mut book) else {
-        return;
+    let Taken::Bytes(n) = load(&rt, 1, b"batch BOOK", &mut book) else {
+        return Ok(());
     };
-    let m = io::read_full(STDIN_FILENO, &mut objectives);
-    answer(&book[..n], &objectives[..m]);
+    let m = streams::read_full(&mut rt.stdin(), &mut objectives)?;
+    answer(&rt, &book[..n], &objectives[..m])
 }

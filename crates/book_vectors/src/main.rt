@@ -3,31 +3,25 @@
 // number, low byte first.
 
 #![tactic(auto)]
-ghost use Rattle.std.specs.Prelude.{◌≡◌, ◌<◌, ◌^◌, length};
 
-use io::{print_decimal, print_hex};
+ghost use Rattle.std.specs.Prelude.{◌≡◌, ◌<◌, ◌^◌, length, IfOk};
+
 use records::Version;
+use std::io;
 
 // What the output holds before it is filled.
 const BEFORE: u8 = 0xA5;
 
-fn number(n: u64) {
-    io::write_all(1, b" ");
-    print_decimal(1, n);
+fn number(rt: &HostRuntime, n: u64) -> io::Result<()> {
+    print!(rt; " {n}")
 }
 
 // A number of a book, with its sign.
-fn signed(z: i64) {
+fn signed(rt: &HostRuntime, z: i64) -> io::Result<()> {
     if z < -4294967296 {
-        io::write_all(1, b" below");
-        return;
+        return rt.write_all(b" below");
     }
-    if z < 0 {
-        io::write_all(1, b" -");
-        print_decimal(1, (0 - z) as u64);
-    } else {
-        number(z as u64);
-    }
+    print!(rt; " {z}")
 }
 
 fn wide(x: u8) -> usize
@@ -61,91 +55,95 @@ fn part(s: &[u8], from: usize, len: usize) -> &[u8]
 }
 
 // A rule of the chain: its record, kind, a, b, c and label, and then a, b, c as they are planned.
-fn print_rule(version: Version, bytes: &[u8], index: u16) {
+fn print_rule(rt: &HostRuntime, version: Version, bytes: &[u8], index: u16) -> io::Result<()> {
     let rule = decoding::rule_at(version, bytes, index);
     let planned = rules::constraint(rule);
-    io::write_all(1, b" |");
-    number(index as u64);
-    number(rule.kind as u64);
-    signed(rule.a as i64);
-    signed(rule.b as i64);
-    signed(rule.c as i64);
-    number(rule.label as u64);
-    io::write_all(1, b" as");
-    signed(planned.a);
-    signed(planned.b);
-    signed(planned.c);
+    rt.write_all(b" |")?;
+    number(rt, index as u64)?;
+    number(rt, rule.kind as u64)?;
+    signed(rt, rule.a as i64)?;
+    signed(rt, rule.b as i64)?;
+    signed(rt, rule.c as i64)?;
+    number(rt, rule.label as u64)?;
+    rt.write_all(b" as")?;
+    signed(rt, planned.a)?;
+    signed(rt, planned.b)?;
+    signed(rt, planned.c)
 }
 
 // The first n rules of the chain.
-fn print_rules(version: Version, bytes: &[u8], indices: [u16; 255], n: usize) {
-    let mut k: usize = 0;
-    while k < 255 {
+fn print_rules(
+    rt: &HostRuntime,
+    version: Version,
+    bytes: &[u8],
+    indices: [u16; 255],
+    n: usize,
+) -> io::Result<()> {
+    for k in 0..255usize {
         if k < n {
-            print_rule(version, bytes, indices[k]);
+            print_rule(rt, version, bytes, indices[k])?;
         }
-        k += 1;
     }
+    Ok(())
 }
 
 // What a book reads as; of a longer chain the first 255 rules.
-fn print_reading(version: Version, bytes: &[u8]) {
+fn print_reading(rt: &HostRuntime, version: Version, bytes: &[u8]) -> io::Result<()> {
     let mut indices = [0u16; 255];
     let mut rules = [0i64; 765];
     let head = reading::read(version, bytes, &mut indices, &mut rules);
     let refusal = head.refusal;
     if refusal.number != 0 {
-        io::write_all(1, b" refused");
-        number(refusal.number as u64);
-        number(refusal.at as u64);
-        return;
+        rt.write_all(b" refused")?;
+        number(rt, refusal.number as u64)?;
+        return number(rt, refusal.at as u64);
     }
     let terms = head.terms;
     let goal = terms.objective;
-    io::write_all(1, b" accepted");
-    signed(goal.p);
-    signed(goal.q);
+    rt.write_all(b" accepted")?;
+    signed(rt, goal.p)?;
+    signed(rt, goal.q)?;
     let n = head.n;
-    number(n as u64);
-    print_rules(version, bytes, indices, n);
+    number(rt, n as u64)?;
+    print_rules(rt, version, bytes, indices, n)
 }
 
 // Bytes in hexadecimal.
-fn print_bytes(s: &[u8]) {
-    let mut i: usize = 0;
-    while i < s.len() {
-        print_hex(1, wide(s[i]) as u64, 2);
-        i += 1;
+fn print_bytes(rt: &HostRuntime, s: &[u8]) -> io::Result<()> {
+    for byte in s {
+        print!(rt; "{byte:02x}")?;
     }
+    Ok(())
 }
 
 // How many bytes from an index on are not as they were before.
 fn changed(out: &[u8], from: usize) -> usize {
-    let mut n: usize = 0;
-    let mut i = from;
-    while i < out.len() {
-        if out[i] != BEFORE {
-            n += 1;
-        }
-        i += 1;
-    }
-    n
+    out.iter()
+        .skip(from)
+        .filter(|byte| **byte != BEFORE)
+        .count()
 }
 
 // What repacking a book does to an output.
-fn print_repacking(version: Version, bytes: &[u8], out: &mut [u8]) {
+fn print_repacking(
+    rt: &HostRuntime,
+    version: Version,
+    bytes: &[u8],
+    out: &mut [u8],
+) -> io::Result<()> {
     let answer = repacker::repack(version, bytes, &mut *out);
     let refusal = answer.refusal;
-    number(refusal.number as u64);
-    number(refusal.at as u64);
+    number(rt, refusal.number as u64)?;
+    number(rt, refusal.at as u64)?;
     let filled = answer.filled;
-    number(filled as u64);
-    io::write_all(1, b" ");
+    number(rt, filled as u64)?;
+    rt.write_all(b" ")?;
     if filled <= out.len() {
-        print_bytes(&out[..filled]);
-        io::write_all(1, b" changed");
-        number(changed(&*out, filled) as u64);
+        print_bytes(rt, &out[..filled])?;
+        rt.write_all(b" changed")?;
+        number(rt, changed(&*out, filled) as u64)?;
     }
+    Ok(())
 }
 
 // An output before it is filled.
@@ -165,9 +163,9 @@ fn version_of(number: usize) -> Version {
 }
 
 // A case from an index on, and the index after it.
-fn run(input: &[u8], at: usize) -> usize
+fn run(rt: &HostRuntime, input: &[u8], at: usize) -> io::Result<usize>
     requires { at < 2 ^ 16 }
-    ensures { at < result }
+    ensures { IfOk result (λ next. at < next) }
 {
     let name_length = length_at(input, at);
     let name = part(input, at + 2, name_length);
@@ -178,22 +176,23 @@ fn run(input: &[u8], at: usize) -> usize
     let bytes = part(input, book_at + 2, book_length);
     let room_at = book_at + 2 + book_length;
     let room = length_at(input, room_at);
-    io::write_all(1, name);
-    print_reading(version, bytes);
-    io::write_all(1, b"\n  packed");
+    rt.write_all(name)?;
+    print_reading(rt, version, bytes)?;
+    rt.write_all(b"\n  packed")?;
     let mut out = fresh();
     if room <= 4096 {
-        print_repacking(version, bytes, &mut out[..room]);
+        print_repacking(rt, version, bytes, &mut out[..room])?;
     }
-    io::write_all(1, b"\n");
-    room_at + 2
+    rt.write_all(b"\n")?;
+    Ok(room_at + 2)
 }
 
-fn main() {
-    let mut input = io::large_buffer();
-    let n = io::read_full(0, &mut input);
+fn main(rt: HostRuntime) -> io::Result<()> {
+    let mut input = [0u8; 65536];
+    let n = streams::read_full(&mut rt.stdin(), &mut input)?;
     let mut at: usize = 0;
     while at < n {
-        at = run(&input[..n], at);
+        at = run(&rt, &input[..n], at)?;
     }
+    Ok(())
 }

@@ -4,24 +4,25 @@
 // standard error, and nothing is printed.
 
 #![tactic(auto)]
+
 use check_line::check_line;
 use files::{Taken, load};
-use libc::{STDIN_FILENO, STDOUT_FILENO};
+use std::io;
 use verdict_line::write_verdict;
 
 // What the checker says of a book and a line.
-fn answer(book: &[u8], text: &[u8]) {
+fn answer(rt: &HostRuntime, book: &[u8], text: &[u8]) -> io::Result<()> {
     let mut line = [0u8; 64];
     let end = write_verdict(check_line(book, text), &mut line);
-    io::write_all(STDOUT_FILENO, &line[..end]);
+    rt.write_all(&line[..end])
 }
 
-fn main() {
+fn main(rt: HostRuntime) -> io::Result<()> {
     let mut book = [0u8; 57345];
     let mut text = [0u8; 237];
-    let Taken::Bytes(n) = load(1, b"check BOOK", &mut book) else {
-        return;
+    let Taken::Bytes(n) = load(&rt, 1, b"check BOOK", &mut book) else {
+        return Ok(());
     };
-    let m = io::read_full(STDIN_FILENO, &mut text);
-    answer(&book[..n], &text[..m]);
+    let m = streams::read_full(&mut rt.stdin(), &mut text)?;
+    answer(&rt, &book[..n], &text[..m])
 }

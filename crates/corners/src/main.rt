@@ -3,39 +3,38 @@
 // that longer input is seen to be too long; the output has room for the corners of every book, so that 11 is never said.
 
 #![tactic(auto)]
+
 use answers::Answer;
+use std::io;
 
 // The line of one corner.
-fn show(corner: &[u8]) {
+fn show(rt: &HostRuntime, corner: &[u8]) -> io::Result<()> {
     let mut line = [0u8; 64];
     let end = corner_line::append_corner(batch_line::corner_of(corner), &mut line, 0);
-    io::write_all(1, &line[..end]);
+    rt.write_all(&line[..end])
 }
 
 // The lines of all corners, 24 bytes each.
-fn show_all(corners: &[u8]) {
-    let n = corners.len() / 24;
-    let mut i = 0;
-    while i < n {
-        let at = 24 * i;
-        show(&corners[at..at + 24]);
-        i += 1;
+fn show_all(rt: &HostRuntime, corners: &[u8]) -> io::Result<()> {
+    for corner in corners.chunks_exact(24) {
+        show(rt, corner)?;
     }
+    Ok(())
 }
 
-fn main() {
+fn main(rt: HostRuntime) -> io::Result<()> {
     let mut input = [0u8; 57345];
-    let n = io::read_full(0, &mut input);
+    let n = streams::read_full(&mut rt.stdin(), &mut input)?;
     let mut out = [0u8; 98328];
     let done = cornering::corners(&input[..n], &mut out);
     let refusal = done.refusal;
     let number = refusal.number;
     if number == 0 {
         let end = 24 * done.count;
-        show_all(&out[..end]);
+        show_all(&rt, &out[..end])
     } else {
         let mut line = [0u8; 256];
         let end = answer_line::write_line(Answer::Refused(refusal), &mut line);
-        io::write_all(1, &line[..end]);
+        rt.write_all(&line[..end])
     }
 }

@@ -3,24 +3,25 @@
 // long and gets its refusal. A file that is missing or cannot be read gets a line on standard error, and no plan is printed.
 
 #![tactic(auto)]
+
 use files::{Taken, load};
-use libc::STDOUT_FILENO;
+use std::io;
 
 // The line of two books.
-fn show(site: &[u8], tenant: &[u8]) {
+fn show(rt: &HostRuntime, site: &[u8], tenant: &[u8]) -> io::Result<()> {
     let mut line = [0u8; 256];
     let end = joint_line::line_of_books(site, tenant, &mut line);
-    io::write_all(STDOUT_FILENO, &line[..end]);
+    rt.write_all(&line[..end])
 }
 
-fn main() {
+fn main(rt: HostRuntime) -> io::Result<()> {
     let mut site = [0u8; 57345];
     let mut tenant = [0u8; 57345];
-    let Taken::Bytes(n) = load(1, b"joint SITE TENANT", &mut site) else {
-        return;
+    let Taken::Bytes(n) = load(&rt, 1, b"joint SITE TENANT", &mut site) else {
+        return Ok(());
     };
-    let Taken::Bytes(m) = load(2, b"joint SITE TENANT", &mut tenant) else {
-        return;
+    let Taken::Bytes(m) = load(&rt, 2, b"joint SITE TENANT", &mut tenant) else {
+        return Ok(());
     };
-    show(&site[..n], &tenant[..m]);
+    show(&rt, &site[..n], &tenant[..m])
 }

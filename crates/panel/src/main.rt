@@ -2,12 +2,14 @@
 // that longer input is seen to be too long.
 
 #![tactic(auto)]
-use records::Version;
 
-fn main() {
+use records::Version;
+use std::io;
+
+fn main(rt: HostRuntime) -> io::Result<()> {
     let mut input = [0u8; 3073];
-    let n = io::read_full(0, &mut input);
+    let n = streams::read_full(&mut rt.stdin(), &mut input)?;
     let mut lines = [0u8; 16384];
     let end = planner::panel_lines(Version::One, &input[..n], &mut lines);
-    io::write_all(1, &lines[..end]);
+    rt.write_all(&lines[..end])
 }

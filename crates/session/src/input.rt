@@ -1,6 +1,9 @@
 // Standard input, line by line.
-ghost use Rattle.std.specs.Prelude.{length};
+ghost use Rattle.std.specs.Prelude.{length, IfOk};
 ghost use Rattle.session.specs.Lines.{Within};
+
+use std::io;
+use std::io::Read;
 
 // The end of the input; a line longer than the buffer; or how many bytes a line has, without its line feed.
 #[derive(Clone, Copy)]
@@ -17,13 +20,12 @@ enum Byte {
     End,
 }
 
-fn next_byte() -> Byte {
+fn next_byte(rt: &HostRuntime) -> io::Result<Byte> {
     let mut one = [0u8; 1];
-    let got = libc::read(0, &mut one);
-    if got == 1 {
-        Byte::Got(one[0])
+    if rt.stdin().read(&mut one)? == 1 {
+        Ok(Byte::Got(one[0]))
     } else {
-        Byte::End
+        Ok(Byte::End)
     }
 }
 
@@ -45,24 +47,23 @@ fn keep(line: &mut [u8], n: usize, byte: u8) {
     }
 }
 
-// Reads a line. What goes beyond the buffer is passed over.
-pub fn read_line(line: &mut [u8]) -> Line
-    ensures { Within result (length line.new) }
+// What was read before the input ended: a line, if there was any of it.
+fn last(n: usize, line: &[u8]) -> Line
+    ensures { Within result (length line.now) }
 {
-    let mut n: usize = 0;
-    while n < 1000000 {
-        let byte = next_byte();
-        let Byte::Got(b) = byte else {
-            if n == 0 {
-                return Line::Ended;
-            }
-            return text(n, &*line);
-        };
-        if b == 10 {
-            return text(n, &*line);
+    if n == 0 { Line::Ended } else { text(n, line) }
+}
+
+// Reads a line. What goes beyond the buffer is passed over.
+pub fn read_line(rt: &HostRuntime, line: &mut [u8]) -> io::Result<Line>
+    ensures { IfOk result (λ read. Within read (length line.new)) }
+{
+    for n in 0..1000000usize {
+        match next_byte(rt)? {
+            Byte::End => return Ok(last(n, &*line)),
+            Byte::Got(10) => return Ok(text(n, &*line)),
+            Byte::Got(byte) => keep(&mut *line, n, byte),
         }
-        keep(&mut *line, n, b);
-        n += 1;
     }
-    Line::Long
+    Ok(Line::Long)
 }

@@ -4,48 +4,66 @@
 // so do a million million lines.
 
 #![tactic(auto)]
+
 mod input;
 
+ghost use Rattle.std.specs.Prelude.{IfOk};
 ghost use Rattle.sessions.specs.Sessions.{IsSession};
 
 use answers::{Answer, Refusal, said};
 use input::{Line, read_line};
 use session_lines::Asked;
 use sessions::{Session, Step};
+use std::io;
 
-// The session after a line, and whether the input ended.
+// How many lines are read at most.
+const LINES: u64 = 1000000000000;
+
+// What is said of a line: an answer, or that it is no step. Of the input's end nothing is said.
 #[derive(Clone, Copy)]
+enum Reply {
+    Answered(Answer),
+    NoStep,
+    Ended,
+}
+
+// The session after a line, and what is said of the line.
+#[derive(Drop)]
 struct Turn {
     session: Session,
-    ended: bool,
+    reply: Reply,
 }
 
 // Prints the line of an answer.
-fn say(answer: Answer) {
+fn say(rt: &HostRuntime, answer: Answer) -> io::Result<()> {
     let mut line = [0u8; 256];
     let end = answer_line::write_line(answer, &mut line);
-    io::write_all(1, &line[..end]);
+    rt.write_all(&line[..end])
 }
 
-fn say_no_step() {
-    io::write_all(
-        1,
-        b"no step: start P Q LX LY, add LABEL RULE, rule KIND A B C LABEL, or back\n",
-    );
+fn say_no_step(rt: &HostRuntime) -> io::Result<()> {
+    rt.write_all(b"no step: start P Q LX LY, add LABEL RULE, rule KIND A B C LABEL, or back\n")
 }
 
-// Prints the answer of a step, and hands on its session.
+// Prints what is said of a line.
+fn print_reply(rt: &HostRuntime, reply: Reply) -> io::Result<()> {
+    match reply {
+        Reply::Answered(answer) => say(rt, answer),
+        Reply::NoStep => say_no_step(rt),
+        Reply::Ended => Ok(()),
+    }
+}
+
+// The answer of a step, and its session.
 fn done(step: Step) -> Turn
     requires { IsSession step.session }
     ensures { IsSession result.session }
 {
-    let session = step.session;
     let plan = step.plan;
     let refusal = step.refusal;
-    say(said(refusal, plan));
     Turn {
-        session,
-        ended: false,
+        session: step.session,
+        reply: Reply::Answered(said(refusal, plan)),
     }
 }
 
@@ -54,10 +72,9 @@ fn unchanged(session: Session) -> Turn
     requires { IsSession session }
     ensures { IsSession result.session }
 {
-    say_no_step();
     Turn {
         session,
-        ended: false,
+        reply: Reply::NoStep,
     }
 }
 
@@ -66,10 +83,9 @@ fn turned_back(session: Session, refusal: Refusal) -> Turn
     requires { IsSession session }
     ensures { IsSession result.session }
 {
-    say(Answer::Refused(refusal));
     Turn {
         session,
-        ended: false,
+        reply: Reply::Answered(Answer::Refused(refusal)),
     }
 }
 
@@ -88,39 +104,38 @@ fn stepped(session: Session, text: &[u8]) -> Turn
 }
 
 // Reads a line and takes its step.
-fn taken(session: Session) -> Turn
+fn taken(rt: &HostRuntime, session: Session) -> io::Result<Turn>
     requires { IsSession session }
-    ensures { IsSession result.session }
+    ensures { IfOk result (λ turn. IsSession turn.session) }
 {
     let mut line = [0u8; 200];
-    let read = read_line(&mut line);
-    match read {
-        Line::Ended => Turn {
+    match read_line(rt, &mut line)? {
+        Line::Ended => Ok(Turn {
             session,
-            ended: true,
-        },
-        Line::Long => unchanged(session),
-        Line::Text(n) => stepped(session, &line[..n]),
+            reply: Reply::Ended,
+        }),
+        Line::Long => Ok(unchanged(session)),
+        Line::Text(n) => Ok(stepped(session, &line[..n])),
     }
 }
 
 // A step a line, until the input ends.
-fn run(session: Session)
+fn run(rt: &HostRuntime, session: Session) -> io::Result<()>
     requires { IsSession session }
 {
     let mut held = session;
-    let mut lines: u64 = 1000000000000;
-    while lines > 0 {
-        let next = taken(held);
+    for _ in 0..LINES {
+        let next = taken(rt, held)?;
         held = next.session;
-        if next.ended {
-            return;
+        print_reply(rt, next.reply)?;
+        if matches!(next.reply, Reply::Ended) {
+            break;
         }
-        lines -= 1;
     }
+    Ok(())
 }
 
-fn main() {
+fn main(rt: HostRuntime) -> io::Result<()> {
     let first = steps::start(0, 0, 0, 0);
-    run(first.session);
+    run(&rt, first.session)
 }

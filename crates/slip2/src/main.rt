@@ -2,10 +2,13 @@
 // reads one byte more than a book may have, so that longer input is seen to be too long.
 
 #![tactic(auto)]
-fn main() {
+
+use std::io;
+
+fn main(rt: HostRuntime) -> io::Result<()> {
     let mut input = [0u8; 57345];
-    let n = io::read_full(0, &mut input);
+    let n = streams::read_full(&mut rt.stdin(), &mut input)?;
     let mut line = [0u8; 256];
     let end = slip_line::write_slip(slips::slip_of(&input[..n]), &mut line);
-    io::write_all(1, &line[..end]);
+    rt.write_all(&line[..end])
 }

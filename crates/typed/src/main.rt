@@ -2,10 +2,13 @@
 // too long, with a line feed at the end or without.
 
 #![tactic(auto)]
-fn main() {
+
+use std::io;
+
+fn main(rt: HostRuntime) -> io::Result<()> {
     let mut input = [0u8; 122];
-    let n = io::read_full(0, &mut input);
+    let n = streams::read_full(&mut rt.stdin(), &mut input)?;
     let mut line = [0u8; 96];
     let end = typed_line::typed_line(&input[..n], &mut line);
-    io::write_all(1, &line[..end]);
+    rt.write_all(&line[..end])
 }

@@ -6,8 +6,7 @@ use handed::told;
 // All corners of a version 2 book's region, 24 bytes each, at the start of a buffer, and how many they are. What is turned back leaves the
 // buffer as it is, and 65,536 times the number plus the record is handed back; of corners that do not fit also how many they are, since
 // their record is 0.
-#[unsafe(no_mangle)]
-pub extern "C" fn vishalneq_corners(book: &[u8], out: &mut [u8]) -> usize
+pub fn vishalneq_corners(book: &[u8], out: &mut [u8]) -> usize
     ensures { CornersWritten book.now out.old out.new result }
 {
     let answer = cornering::corners(book, out);

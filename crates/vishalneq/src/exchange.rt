@@ -12,8 +12,7 @@ use handed::{told, verdict_told};
 use slips::Written;
 
 // What the checker says of a slip of 14 numbers.
-#[unsafe(no_mangle)]
-pub extern "C" fn vishalneq_check(book: &[u8], slip: &[i64]) -> usize
+pub fn vishalneq_check(book: &[u8], slip: &[i64]) -> usize
     ensures { result ≡ verdict_told (verdict_of (read_of v2 book.now) (slip_of slip.now)) }
 {
     verdict_told(slip_numbers::check_numbers(book, slip))
@@ -21,8 +20,7 @@ pub extern "C" fn vishalneq_check(book: &[u8], slip: &[i64]) -> usize
 
 // The planner's slip of a book: its 14 numbers at the start of a run, and 14 handed back. A run that is too short is left as it is, and 0
 // handed back. A refused book leaves it as it is too, and 65,536 times its number plus its record is handed back.
-#[unsafe(no_mangle)]
-pub extern "C" fn vishalneq_slip(book: &[u8], out: &mut [i64]) -> usize
+pub fn vishalneq_slip(book: &[u8], out: &mut [i64]) -> usize
     ensures { SlipWritten book.now out.old out.new result }
 {
     match slips::slip_of(book) {

@@ -1,2 +1,0 @@
--- What a file gave is within its buffer.
-pub mod Given

@@ -1,2 +1,0 @@
--- The session program: what its parts need.
-pub mod Turns
