@@ -3,6 +3,7 @@
 // 2, and any output.
 
 #![tactic(auto)]
+
 mod classes;
 
 ghost use Rattle.outline.specs.Outline.{Outlines};
