@@ -1,5 +1,4 @@
 -- `amounts::amount` meets its contract: how far a point is from a constraint's line, in lowest terms.
-use borrow.Author.Rules.{rules}
 use Rattle.amounts.proofs.Sizes.{kept-distance}
 use Rattle.amounts.proofs.Amounts.{amount-tests, amount_in, amount-out}
 use Rattle.amounts.proofs.amount.Goals as goal

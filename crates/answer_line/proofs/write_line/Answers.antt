@@ -1,5 +1,4 @@
 -- `answer_line::write_line` meets its contract: one book's line is that of its naming.
-use borrow.Author.Rules.{rules}
 use Rattle.answer_line.proofs.write_line.Goals as goal
 
 pub returns : goal.returns

@@ -1,6 +1,5 @@
 -- `answer_line::write_line_of` meets its contract. A small buffer is left alone; else the fields and the line feed make up the line.
 use native.Mathlib.Omega.{arith}
-use borrow.Author.Rules.{rules}
 use Rattle.report.specs.Line.{line_named}
 use Rattle.report.specs.Written.{line_room}
 use Rattle.text.proofs.Put.{too_small, filled, followed}

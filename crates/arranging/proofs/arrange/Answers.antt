@@ -1,5 +1,4 @@
 -- `arranging::arrange` meets its contract: counted up, sorted, and one kept of each.
-use borrow.Author.Rules.{rules}
 use Rattle.sorting.specs.Keys.{comes_at}
 use Rattle.arranging.proofs.Steps.{too_long, arranged-run}
 use Rattle.arranging.proofs.arrange.Goals as goal

@@ -1,9 +1,8 @@
 -- `arranging::count_up` meets its contract: after i turns the first i places count up.
-use borrow.Author.Rules.{rules}
 use native.Mathlib.Omega.{arith}
-use Prim.Native.Nat.{◌-◌, ◌≤◌}
+use Prim.Native.Nat.{◌-◌}
 use mathlib.Core.Path.{◌≡◌, refl, sym, ap, ◌∙◌}
-use lib.ListN.{length, length-set, take}
+use lib.ListN.{length, length-set}
 use lib.Seq.{take_all}
 use Rattle.arranging.specs.Arranging.{indices}
 use Rattle.arranging.proofs.Steps.{counted-on}

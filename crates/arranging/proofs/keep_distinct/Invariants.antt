@@ -1,9 +1,8 @@
 -- `arranging::keep_distinct` meets its contract: after each turn, those before place i are kept or dropped.
-use native.Mathlib.Omega.{arith}
 use Prim.Native.Nat.{◌-◌}
 use lib.ListN.{length}
 use Rattle.sorting.specs.Keys.{comes_at}
-use Rattle.arranging.proofs.Steps.{Keeping, keeping_start, keeping_steps, keeping_on, keeping_end, none_kept}
+use Rattle.arranging.proofs.Steps.{Keeping}
 use Rattle.arranging.proofs.keep_distinct.Given as goal
 
 abbrev pub invariant-loop-i : goal.invariant-loop-i

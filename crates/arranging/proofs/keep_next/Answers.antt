@@ -1,7 +1,5 @@
 -- `arranging::keep_next` meets its contract.
-use borrow.Author.Rules.{rules}
-use mathlib.Core.Path.{◌∙◌, sym, ap}
-use mathlib.Core.Bool.{cond}
+use mathlib.Core.Path.{◌∙◌, sym}
 use Rattle.sorting.specs.Keys.{comes_at}
 use Rattle.arranging.proofs.Steps.{stepped}
 use Rattle.arranging.proofs.keep_next.Goals as goal

@@ -2,18 +2,16 @@
 use native.Mathlib.Omega.{arith}
 use mathlib.Core.Path.{◌≡◌, sym, ◌∙◌}
 use mathlib.Core.Bool.{true, false}
-use Prim.Native.Nat.{◌+◌, ◌≤◌}
 use lib.Dec.{eqb}
-use lib.ListN.{length, get_or}
+use lib.ListN.{get_or}
 use mir.Syntax.{w64}
-use mir.Val.{to_z, of_z}
 use mir.Facts.{to_z-of_z}
 use borrow.Author.Tests.{eq-eqb, ne_eqb}
-use borrow.Author.Rules.{rules, sfits_of}
+use borrow.Author.Rules.{sfits_of}
 use Rattle.lp.specs.Program.{point}
 use Rattle.text.specs.Text.{text}
 use Rattle.text.proofs.Put.{roomier, no_room, free, appends}
-use Rattle.batch_line.specs.Line.{point_in, offer_line}
+use Rattle.batch_line.specs.Line.{offer_line}
 use Rattle.batch_line.proofs.Numbers.{as_read}
 use Rattle.batch_line.proofs.append_answer.Goals as goal
 

@@ -1,6 +1,5 @@
 -- `batch_line::append_pair` meets its contract: the word, three numbers and the line feed stand at the place, in turn.
 use native.Mathlib.Omega.{arith}
-use borrow.Author.Rules.{rules}
 use Rattle.text.proofs.Put.{followed, roomier}
 use Rattle.text.proofs.Integer.{whole}
 use Rattle.batch_line.specs.Line.{pair_line}

@@ -1,5 +1,4 @@
 -- `batch_line::byte_at` meets its contract: past the end the list gives zero, as the code does.
-use borrow.Author.Rules.{rules}
 use mathlib.Core.Path.{sym}
 use lib.ListN.{get_or-eq_default}
 use Rattle.batch_line.proofs.byte_at.Goals as goal

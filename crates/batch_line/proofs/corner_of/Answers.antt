@@ -1,5 +1,5 @@
 -- `batch_line::corner_of` meets its contract: three numbers in a row.
-use borrow.Author.Rules.{rules, sfits_of}
+use borrow.Author.Rules.{sfits_of}
 use mathlib.Core.Path.{◌∙◌}
 use mir.Syntax.{w64}
 use mir.Facts.{to_z-of_z}

@@ -2,7 +2,6 @@
 use mathlib.Core.Path.{◌∙◌}
 use Prim.Native.Nat.{◌+◌, ◌*◌}
 use Rattle.records.proofs.Numbers.{four_bytes}
-use borrow.Author.Rules.{rules}
 use Rattle.batch_line.proofs.four.Goals as goal
 
 pub returns : goal.returns

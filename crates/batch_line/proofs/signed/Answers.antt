@@ -7,7 +7,6 @@ use mir.Syntax.{w64}
 use mir.Val.{to_z, Fits}
 use mir.Facts.{to_z-of_z}
 use mir.ValLaws.{to_z-Fits}
-use borrow.Author.Rules.{rules}
 use Rattle.batch_line.proofs.Numbers.{upper_half}
 use Rattle.batch_line.proofs.signed.Goals as goal
 

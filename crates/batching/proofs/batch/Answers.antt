@@ -1,6 +1,5 @@
 -- `batching::batch` meets its contract: by its length a book has no more rules than the runs have room for.
 use mathlib.Core.Path.{refl}
-use borrow.Author.Rules.{rules}
 use Rattle.records.specs.declared.Version.TheVariants.{Two}
 use Rattle.planner.proofs.Classes.{few-by-length}
 use Rattle.batching.proofs.batch.Goals as goal

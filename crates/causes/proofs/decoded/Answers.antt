@@ -1,7 +1,6 @@
 -- `causes::decoded` meets its contract: each way out is one case of `decoded_with`, in the order of the table.
 use mathlib.Core.Path.{sym, ◌∙◌}
 use Rattle.records.proofs.Checks.{kind-first, slope-next, bound-last, sound}
-use borrow.Author.Rules.{rules}
 use Rattle.causes.proofs.decoded.Goals as goal
 
 pub returns-then-kind : goal.returns-then-kind

@@ -1,5 +1,4 @@
 -- `cells::cell` meets its contract: the eight bytes, one by one.
-use borrow.Author.Rules.{rules}
 use mathlib.Core.Path.{refl}
 use Rattle.records.specs.Number.{bytes_of}
 use Rattle.cells.proofs.cell.Goals as goal

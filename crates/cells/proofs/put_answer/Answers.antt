@@ -1,5 +1,4 @@
 -- `cells::put_answer` meets its contract: a number and a pair after it are an answer.
-use borrow.Author.Rules.{rules}
 use native.Mathlib.Omega.{arith}
 use Rattle.cells.specs.Cells.{answer_bytes}
 use Rattle.cells.proofs.Written.{answer-put, kept-short}

@@ -1,5 +1,4 @@
 -- `cells::put_point` meets its contract: three numbers one after the other are a pair.
-use borrow.Author.Rules.{rules}
 use native.Mathlib.Omega.{arith}
 use Rattle.cells.specs.Cells.{point_bytes}
 use Rattle.cells.proofs.Written.{point-put, kept-short, cell-read}

@@ -1,5 +1,4 @@
 -- `check_line::check_line` meets its contract.
-use borrow.Author.Rules.{rules}
 use mathlib.Core.Path.{subst}
 use Rattle.slip_reader.specs.Reading.{Reads}
 use Rattle.check_line.proofs.Answers.{checks_none, checks_given}

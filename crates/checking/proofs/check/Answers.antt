@@ -1,5 +1,4 @@
 -- `checking::check` meets its contract: by its length a book has at most 30 rules, or at most 255.
-use borrow.Author.Rules.{rules}
 use Rattle.slip.proofs.Read.{few-by-length}
 use Rattle.checking.proofs.check.Goals as goal
 

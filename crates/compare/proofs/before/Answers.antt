@@ -1,5 +1,4 @@
 -- `compare::before` meets its contract.
-use borrow.Author.Rules.{rules}
 use mathlib.Core.Path.{◌∙◌}
 use Rattle.lp.specs.Corners.{before}
 use Rattle.compare.proofs.Points.{denominator-told, denominators, in-range, out_of_range}

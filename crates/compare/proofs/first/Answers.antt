@@ -1,5 +1,4 @@
 -- `compare::first` meets its contract: x decides, and where it is the same, y.
-use borrow.Author.Rules.{rules}
 use mathlib.Core.Path.{◌∙◌}
 use Rattle.compare.proofs.Points.{less-read, first-first, second-first, by-y}
 use Rattle.compare.proofs.first.Goals as goal

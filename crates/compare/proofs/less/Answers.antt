@@ -1,5 +1,4 @@
 -- `compare::less` meets its contract.
-use borrow.Author.Rules.{rules}
 use mathlib.Core.Path.{◌∙◌}
 use Rattle.ints.proofs.Bits.{read}
 use Rattle.lp.specs.Corners.{less}

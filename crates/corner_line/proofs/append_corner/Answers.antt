@@ -1,6 +1,5 @@
 -- `corner_line::append_corner` meets its contract: three numbers and the line feed stand at the place, in turn.
 use native.Mathlib.Omega.{arith}
-use borrow.Author.Rules.{rules}
 use Rattle.text.proofs.Put.{followed, roomier, no_room, free, appends}
 use Rattle.text.proofs.Integer.{whole}
 use Rattle.corner_line.specs.Line.{corner_line}

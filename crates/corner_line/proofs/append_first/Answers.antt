@@ -1,6 +1,5 @@
 -- `corner_line::append_first` meets its contract. The sign's test says which of the two spellings the number has.
 use native.Mathlib.Omega.{arith}
-use borrow.Author.Rules.{rules}
 use Rattle.text.proofs.Put.{followed, roomier, spelt, no_room, free, appends}
 use Rattle.corner_line.proofs.Signed.{with_minus, without_sign}
 use Rattle.corner_line.proofs.append_first.Goals as goal

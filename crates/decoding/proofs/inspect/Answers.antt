@@ -1,7 +1,6 @@
 -- `decoding::inspect` meets its contract: whichever way the fields are read, what they come to is the definition.
 use mathlib.Core.Path.{ap, ◌∙◌}
 use Rattle.records.specs.Record.{decoded_from, decoded_of}
-use borrow.Author.Rules.{rules}
 use Rattle.decoding.proofs.inspect.Goals as goal
 
 pub returns-then-is_inside : goal.returns-then-is_inside

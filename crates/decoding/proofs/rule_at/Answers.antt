@@ -2,7 +2,6 @@
 use mathlib.Core.Path.{ap, ◌∙◌}
 use Rattle.records.specs.declared.fields.Fields.{Fields}
 use Rattle.records.specs.Record.{rule_with}
-use borrow.Author.Rules.{rules}
 use Rattle.decoding.proofs.rule_at.Goals as goal
 
 pub returns : goal.returns

@@ -1,5 +1,4 @@
 -- `engine::solve` meets its contract.
-use borrow.Author.Rules.{rules}
 use Rattle.amounts.proofs.Tests.{two-passed}
 use Rattle.engine.proofs.Laid.{lays-six}
 use Rattle.engine.proofs.Solves.{unlaid, no_objective, no_room, walking, solved-by}

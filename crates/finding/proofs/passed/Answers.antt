@@ -2,8 +2,6 @@
 use mathlib.Core.Path.{sym, ◌∙◌}
 use Prim.Native.Nat.{◌-◌}
 use native.Mathlib.Omega.{arith}
-use lib.ListN.{length}
-use Rattle.finding.specs.Place.{Passed}
 use Rattle.finding.proofs.Passing.{passed_start, passed_eight}
 use Rattle.finding.proofs.passed.Goals as goal
 

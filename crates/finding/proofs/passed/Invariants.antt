@@ -1,10 +1,7 @@
 -- `finding::passed` meets its contract: no record before the place is wanted.
-use mathlib.Core.Path.{sym, ◌∙◌}
 use Prim.Native.Nat.{◌-◌}
-use native.Mathlib.Omega.{arith}
 use lib.ListN.{length}
 use Rattle.finding.specs.Place.{Passed}
-use Rattle.finding.proofs.Passing.{passed_start, passed_eight}
 use Rattle.finding.proofs.passed.Given as goal
 
 abbrev pub invariant-loop-i : goal.invariant-loop-i

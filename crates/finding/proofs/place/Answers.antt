@@ -2,9 +2,6 @@
 use Prim.Native.Nat.{◌-◌}
 use native.Mathlib.Omega.{arith}
 use native.Mathlib.Nat.{mod-lt}
-use borrow.Author.Rules.{rules}
-use lib.ListN.{length}
-use Rattle.finding.specs.Place.{Passed}
 use Rattle.finding.proofs.Passing.{passed-one, passed-wide}
 use Rattle.finding.proofs.Places.{place-stands, place-ends}
 use Rattle.finding.proofs.place.Goals as goal

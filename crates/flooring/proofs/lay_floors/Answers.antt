@@ -1,5 +1,4 @@
 -- `flooring::lay_floors` meets its contract.
-use borrow.Author.Rules.{rules}
 use native.Mathlib.Omega.{arith}
 use lib.ListN.{length-set}
 use Rattle.amounts.proofs.Tests.{two-passed, floors-small}

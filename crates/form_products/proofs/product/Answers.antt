@@ -1,5 +1,4 @@
 -- `form_products::product` meets its contract. Two forms are joined, and a refusal goes through.
-use borrow.Author.Rules.{rules}
 use Rattle.forms.specs.Value.{multiplied, product}
 use Rattle.forms.proofs.Values.{small_forms, combined, refused}
 use Rattle.form_products.proofs.product.Goals as goal

@@ -1,6 +1,5 @@
 -- `form_sums::conclude` meets its contract. Two sides make the rule, and a refusal goes through.
 use mathlib.Core.Path.{refl}
-use borrow.Author.Rules.{rules}
 use Rattle.forms.proofs.Values.{small_forms, concluded}
 use Rattle.form_sums.proofs.conclude.Goals as goal
 

@@ -1,6 +1,5 @@
 -- `form_sums::negated` meets its contract. A form is taken from the form of 0, and a refusal goes through.
 use mathlib.Core.Path.{sym, ap, ◌∙◌}
-use borrow.Author.Rules.{rules}
 use Rattle.ints.proofs.Machine.{within-numeral}
 use Rattle.forms.specs.declared.Value.TheVariants.{Linear}
 use Rattle.forms.specs.Value.{negated}

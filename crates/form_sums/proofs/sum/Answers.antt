@@ -1,5 +1,4 @@
 -- `form_sums::sum` meets its contract. Two forms are joined, and a refusal goes through.
-use borrow.Author.Rules.{rules}
 use Rattle.forms.specs.Value.{limited, add_forms, sum}
 use Rattle.forms.proofs.Values.{small_forms, combined, limited-form, refused}
 use Rattle.form_sums.proofs.sum.Goals as goal

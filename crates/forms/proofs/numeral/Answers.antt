@@ -5,7 +5,6 @@ use borrow.Author.Tests.{lt-leb}
 use native.Mathlib.Omega.{arith}
 use Rattle.forms.specs.Value.{numeral}
 use Rattle.forms.proofs.Values.{numeral-yes}
-use borrow.Author.Rules.{rules}
 use Rattle.forms.proofs.numeral.Goals as goal
 
 pub returns-then-n-le1000000000 : goal.returns-then-n-le1000000000

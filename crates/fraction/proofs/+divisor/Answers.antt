@@ -1,6 +1,5 @@
 -- Euclid's equations.
 use mathlib.Core.Path.{sym, ◌∙◌, ap}
-use native.Mathlib.Nat.{mod-lt}
 use native.Mathlib.Omega.{arith}
 use Rattle.ints.specs.Gcd.{gcd}
 use Rattle.ints.proofs.Gcd.{gcd-zero, gcd-step}

@@ -1,5 +1,4 @@
 -- `fraction::lowest` meets its contract: n/d in lowest terms.
-use borrow.Author.Rules.{rules}
 use Rattle.fraction.proofs.Quotients.{divisor_of_two, quotient-read, amount-same}
 use Rattle.fraction.proofs.lowest.Goals as goal
 

@@ -1,5 +1,4 @@
 -- `fraction::quotient` meets its contract: z by g, for every i64 and every u64.
-use borrow.Author.Rules.{rules}
 use native.Mathlib.Omega.{arith}
 use Rattle.fraction.proofs.Quotients.{quot_fits, quot_is, by_zero, by-greater, by-least}
 use Rattle.fraction.proofs.quotient.Goals as goal

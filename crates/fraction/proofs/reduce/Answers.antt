@@ -1,5 +1,4 @@
 -- `fraction::reduce` meets its contract.
-use borrow.Author.Rules.{rules}
 use Rattle.fraction.proofs.Quotients.{divisor_of_three, quotient-read, point-same}
 use Rattle.fraction.proofs.reduce.Goals as goal
 

@@ -1,5 +1,4 @@
 -- `fraction::reduce_ray` meets its contract.
-use borrow.Author.Rules.{rules}
 use Rattle.fraction.proofs.Quotients.{divisor_of_two, quotient-read, ray-same}
 use Rattle.fraction.proofs.reduce_ray.Goals as goal
 

@@ -1,7 +1,6 @@
 -- `handed::put_point` meets its contract: X, Y and D, at the start of a run of numbers.
 use native.Mathlib.Omega.{arith}
 use lib.ListN.{length-set}
-use borrow.Author.Rules.{rules}
 use Rattle.handed.proofs.put_point.Goals as goal
 
 pub bounds-out-1 : goal.bounds-out-1

@@ -1,6 +1,5 @@
 -- `handed::put_start` meets its contract: the pair is written for an accepted book and a run with room, and nothing else is.
 use Rattle.handed.proofs.Buffers.{start-written, start_unwritten, refused_unwritten}
-use borrow.Author.Rules.{rules}
 use Rattle.handed.proofs.put_start.Goals as goal
 
 pub returns-then-out-ge3 : goal.returns-then-out-ge3

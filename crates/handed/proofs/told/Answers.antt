@@ -1,6 +1,5 @@
 -- `handed::told` meets its contract: the count, or the number and the record as one number.
 use Rattle.handed.proofs.Buffers.{told-accepted, told-refused}
-use borrow.Author.Rules.{rules}
 use Rattle.handed.proofs.told.Goals as goal
 
 pub returns-then-cause-eq0 : goal.returns-then-cause-eq0

@@ -1,5 +1,4 @@
 -- `handed::verdict_told` meets its contract.
-use borrow.Author.Rules.{rules}
 use mathlib.Core.Path.{sym, ◌∙◌, ap}
 use Rattle.handed.specs.Told.{verdict_told}
 use Rattle.handed.proofs.verdict_told.Goals as goal

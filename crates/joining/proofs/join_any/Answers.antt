@@ -1,6 +1,5 @@
 -- `joining::join_any` meets its contract: by their lengths books that are not long have no more than 255 rules.
 use mathlib.Core.Path.{refl}
-use borrow.Author.Rules.{rules}
 use Rattle.joining.proofs.Classes.{few-by-length}
 use Rattle.joining.proofs.join_any.Goals as goal
 

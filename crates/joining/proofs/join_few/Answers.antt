@@ -1,6 +1,5 @@
 -- `joining::join_few` meets its contract: by their lengths short books have no more rules than the short runs have room for.
 use mathlib.Core.Path.{refl}
-use borrow.Author.Rules.{rules}
 use Rattle.joining.proofs.Classes.{few-by-length}
 use Rattle.joining.proofs.join_few.Goals as goal
 

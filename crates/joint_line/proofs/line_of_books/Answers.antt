@@ -1,5 +1,4 @@
 -- `joint_line::line_of_books` meets its contract: the line written is that of the answer to the two books, in their order.
-use borrow.Author.Rules.{rules}
 use Rattle.joint_line.proofs.line_of_books.Goals as goal
 
 pub returns : goal.returns

@@ -1,6 +1,5 @@
 -- `joint_line::refused_line` meets its contract. A small buffer is left alone; else the fields and the line feed make up the line.
 use native.Mathlib.Omega.{arith}
-use borrow.Author.Rules.{rules}
 use Rattle.text.proofs.Put.{too_small, filled, followed}
 use Rattle.joint_line.specs.JointLine.{refused_line}
 use Rattle.joint_line.proofs.refused_line.Goals as goal

@@ -1,6 +1,5 @@
 -- `joint_line::write_joint_line` meets its contract. Each arm of the match is given the answer that it is for.
 use mathlib.Core.Path.{subst, sym}
-use borrow.Author.Rules.{rules}
 use Rattle.joining.specs.declared.JointAnswer.{JointAnswer}
 use Rattle.joint_line.specs.JointLine.{joint_line, JointWritten}
 use Rattle.joint_line.proofs.write_joint_line.Goals as goal

@@ -1,5 +1,4 @@
 -- `joint_terms::joined_terms` meets its contract: the tenant's objective, and of each floor the greater.
-use borrow.Author.Rules.{rules}
 use Rattle.joint_terms.proofs.Compared.{greater-read}
 use Rattle.joint_terms.proofs.joined_terms.Goals as goal
 

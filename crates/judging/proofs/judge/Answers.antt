@@ -2,10 +2,6 @@
 use native.Mathlib.Omega.{arith}
 use Prim.Native.Nat.{ℕ}
 use mathlib.Core.Path.{◌≡◌, refl, sym, ap, ◌∙◌}
-use mathlib.Core.List.{[], ◌∷◌}
-use types.Run.{OneOf, miss}
-use denote.Enum.Declared.{tag_of}
-use Rattle.records.specs.contracts.Decoded.{the_type}
 use Rattle.records.specs.declared.Rule.{Rule}
 use Rattle.records.specs.declared.Decoded.{Decoded}
 use Rattle.records.specs.declared.Decoded.TheVariants as decoded
@@ -15,7 +11,6 @@ use Rattle.records.proofs.Checks.{sound-holds}
 use Rattle.book.specs.declared.Judged.TheVariants.{Sound, Refused}
 use Rattle.book.specs.Tables.{is_noted}
 use Rattle.book.proofs.Leading.{judged-over, judged-fault, judged-met, judged-sound, again_kept}
-use borrow.Author.Rules.{rules}
 use Rattle.judging.proofs.judge.Goals as goal
 
 -- what is not sound has a number of its own

@@ -1,5 +1,4 @@
 -- `laying::lay` meets its contract: the order is put in, and the corners are listed.
-use borrow.Author.Rules.{rules}
 use mathlib.Core.Bool.{◌&&◌}
 use Rattle.laying.proofs.Layouts.{ordering, lays-listed, lays-outside}
 use Rattle.laying.proofs.lay.Goals as goal

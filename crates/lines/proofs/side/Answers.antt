@@ -1,5 +1,4 @@
 -- `lines::side` meets its contract.
-use borrow.Author.Rules.{rules}
 use mathlib.Core.Path.{◌∙◌, ap}
 use Rattle.lp.specs.Program.{slack}
 use Rattle.fraction.proofs.Quotients.{unread}

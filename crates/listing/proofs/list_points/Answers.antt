@@ -1,5 +1,4 @@
 -- `listing::list_points` meets its contract.
-use borrow.Author.Rules.{rules}
 use native.Mathlib.Omega.{arith}
 use Rattle.listing.proofs.Written.{too_few, no_room, all_listed}
 use Rattle.listing.proofs.list_points.Goals as goal

@@ -1,9 +1,7 @@
 -- `listing::put_points` meets its contract: after i turns the first i points are written.
-use borrow.Author.Rules.{rules}
 use native.Mathlib.Omega.{arith}
 use Prim.Native.Nat.{◌-◌}
-use lib.ListN.{length}
-use Rattle.listing.proofs.Written.{Putting, putting_start, putting_on, putting_end}
+use Rattle.listing.proofs.Written.{putting_start, putting_on, putting_end}
 use Rattle.listing.proofs.put_points.Goals as goal
 
 pub loop-i-init : goal.loop-i-init

@@ -1,7 +1,6 @@
 -- `numerals::append_decimal` meets its contract. A buffer without room is left alone; else the digits, of which there are at most 20,
 -- stand at the place.
 use native.Mathlib.Omega.{arith}
-use borrow.Author.Rules.{rules}
 use Rattle.text.proofs.Put.{roomier, no_room, free, appends}
 use Rattle.text.proofs.Decimal.{decimal-usize}
 use Rattle.numerals.proofs.append_decimal.Goals as goal

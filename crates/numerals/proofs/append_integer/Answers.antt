@@ -1,7 +1,6 @@
 -- `numerals::append_integer` meets its contract. A buffer without room is left alone. The sign's test says which of the two spellings the
 -- number has; a magnitude has at most 19 digits.
 use native.Mathlib.Omega.{arith}
-use borrow.Author.Rules.{rules}
 use Rattle.text.proofs.Put.{followed, roomier, spelt, no_room, free, appends}
 use Rattle.text.proofs.Integer.{digits-short, with_minus, without_sign}
 use Rattle.numerals.proofs.append_integer.Goals as goal

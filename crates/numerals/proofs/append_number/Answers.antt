@@ -1,7 +1,6 @@
 -- `numerals::append_number` meets its contract. A buffer without room is left alone; else a space and at most 20 digits stand at the
 -- place.
 use native.Mathlib.Omega.{arith}
-use borrow.Author.Rules.{rules}
 use Rattle.text.specs.Number.{number}
 use Rattle.text.proofs.Put.{followed, no_room, free, appends}
 use Rattle.numerals.proofs.append_number.Goals as goal

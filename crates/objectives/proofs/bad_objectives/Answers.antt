@@ -1,6 +1,5 @@
 -- `objectives::bad_objectives` meets its contract: their length, and then each of them.
 use mathlib.Core.Path.{sym, ◌∙◌}
-use borrow.Author.Rules.{rules}
 use Rattle.objectives.proofs.bad_objectives.Goals as goal
 
 pub returns-then-bad_length : goal.returns-then-bad_length

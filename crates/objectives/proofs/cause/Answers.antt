@@ -1,8 +1,6 @@
 -- `objectives::cause` meets its contract: 16, then 11, then none.
 use native.Mathlib.Omega.{arith}
-use mathlib.Core.Path.{◌≡◌, sym, ◌∙◌}
-use mathlib.Core.Bool.{false}
-use Rattle.objectives.specs.Objectives.{bad_objectives}
+use mathlib.Core.Path.{sym, ◌∙◌}
 use Rattle.objectives.proofs.Sound.{few-objectives}
 use Rattle.objectives.proofs.Turned.{cause-sixteen, cause-eleven, cause-none}
 use Rattle.objectives.proofs.cause.Goals as goal

@@ -4,7 +4,7 @@ use mir.Syntax.{w16, w64}
 use mir.Facts.{to_z-of_z}
 use mir.Val.{to_z}
 use Rattle.records.proofs.Numbers.{two_bytes}
-use borrow.Author.Rules.{rules, sfits_of}
+use borrow.Author.Rules.{sfits_of}
 use Rattle.objectives.proofs.half.Goals as goal
 
 pub returns : goal.returns

@@ -1,13 +1,10 @@
 -- `objectives::signed` meets its contract: half the range up, round the end, and half the range down (`turned_round`).
 use native.Mathlib.Omega.{arith}
-use Prim.Native.Nat.{◌+◌, ◌*◌, ◌%◌}
-use mathlib.Core.Path.{◌≡◌, refl, ◌∙◌}
-use lib.IntN.{pos, ◌-ℤ◌}
+use Prim.Native.Nat.{◌+◌, ◌*◌}
+use mathlib.Core.Path.{refl, ◌∙◌}
 use lib.Dec.{lit≤}
 use mir.Syntax.{w16, w64}
-use mir.Val.{to_z, Fits}
 use Rattle.signed.proofs.Widths.{turned_round, narrow_wide, bits_back}
-use borrow.Author.Rules.{rules}
 use Rattle.objectives.proofs.signed.Goals as goal
 
 pub overflow_sub-result : goal.overflow_sub-result

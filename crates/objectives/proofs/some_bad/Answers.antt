@@ -1,9 +1,9 @@
 -- `objectives::some_bad` meets its contract: after i turns none of the first i is out of its range.
 use native.Mathlib.Omega.{arith}
-use Prim.Native.Nat.{◌-◌, ◌/◌, ◌≤◌}
+use Prim.Native.Nat.{◌-◌, ◌/◌}
 use mathlib.Core.Path.{◌≡◌, refl, sym, ap, ◌∙◌}
 use lib.ListN.{length}
-use Rattle.objectives.specs.Objectives.{objectives_from, objectives_of, is_bad, some_bad}
+use Rattle.objectives.specs.Objectives.{objectives_from, is_bad, some_bad}
 use Rattle.objectives.proofs.Sound.{bad-here, bad-later, none_left}
 use Rattle.objectives.proofs.some_bad.Goals as goal
 

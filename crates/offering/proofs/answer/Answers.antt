@@ -1,5 +1,4 @@
 -- `offering::answer` meets its contract: what turns the objectives back, or the answers from what was listed.
-use borrow.Author.Rules.{rules}
 use mathlib.Core.Path.{sym, ◌∙◌, subst}
 use Prim.Native.Nat.{ℕ}
 use Rattle.offering.specs.declared.Answered.TheVariants as answered

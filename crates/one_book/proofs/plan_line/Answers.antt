@@ -1,5 +1,4 @@
 -- `one_book::plan_line` meets its contract: the line written is that of the planner's answer.
-use borrow.Author.Rules.{rules}
 use Rattle.one_book.proofs.plan_line.Goals as goal
 
 pub returns : goal.returns

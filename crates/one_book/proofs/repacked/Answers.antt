@@ -1,6 +1,5 @@
 -- `one_book::repacked` meets its contract: what the repacker answers, as one number.
 use mathlib.Core.Path.{◌∙◌, ap}
-use borrow.Author.Rules.{rules}
 use Rattle.repacker.specs.declared.Repacked.{Repacked}
 use Rattle.handed.specs.Told.{told_of}
 use Rattle.one_book.proofs.repacked.Goals as goal

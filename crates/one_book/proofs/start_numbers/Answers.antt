@@ -1,6 +1,5 @@
 -- `one_book::start_numbers` meets its contract: what was put into the buffer is the planner's view.
 use Rattle.one_book.proofs.Buffers.{start_seen}
-use borrow.Author.Rules.{rules}
 use Rattle.one_book.proofs.start_numbers.Goals as goal
 
 pub returns : goal.returns

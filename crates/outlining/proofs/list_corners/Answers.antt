@@ -1,5 +1,4 @@
 -- `outlining::list_corners` meets its contract: the front of the run is as long as there are points.
-use borrow.Author.Rules.{rules}
 use native.Mathlib.Omega.{arith}
 use Prim.Native.Nat.{ℕ, ◌-◌}
 use mathlib.Core.Path.{◌≡◌, refl, ap}

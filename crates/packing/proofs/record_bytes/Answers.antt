@@ -1,5 +1,4 @@
 -- `packing::record_bytes` meets its contract: the fourteen bytes, one by one (`fourteen`).
-use borrow.Author.Rules.{rules}
 use Rattle.packing.proofs.Written.{fourteen}
 use Rattle.packing.proofs.record_bytes.Goals as goal
 

@@ -1,7 +1,6 @@
 -- `panel_row::append_row` meets its contract. A buffer without room is left alone; else label, two numbers and the line feed stand
 -- at the place, in turn.
 use native.Mathlib.Omega.{arith}
-use borrow.Author.Rules.{rules}
 use Rattle.text.proofs.Put.{followed, roomier, no_room, free, appends}
 use Rattle.text.proofs.Integer.{whole}
 use Rattle.panel_row.specs.Panel.{row_line}

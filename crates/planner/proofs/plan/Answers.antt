@@ -1,6 +1,5 @@
 -- `planner::plan` meets its contract: no chain of a book has more than 65,535 rules, and a short book's not more than 255.
 use native.Mathlib.Omega.{arith}
-use borrow.Author.Rules.{rules}
 use Rattle.planner.proofs.Classes.{short-width, few-by-length, all_whole}
 use Rattle.planner.proofs.plan.Goals as goal
 

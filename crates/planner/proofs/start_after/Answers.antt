@@ -1,6 +1,5 @@
 -- `planner::start_after` meets its contract: a short book's chain has not more than 255 rules.
 use native.Mathlib.Omega.{arith}
-use borrow.Author.Rules.{rules}
 use Rattle.planner.proofs.Classes.{short-width, few-by-length}
 use Rattle.planner.proofs.start_after.Goals as goal
 

@@ -1,5 +1,4 @@
 -- `plans::plan_of` meets its contract: every field is the solution's, and the witness is its certificate's, named.
-use borrow.Author.Rules.{rules}
 use Rattle.plans.proofs.plan_of.Goals as goal
 
 pub returns : goal.returns

@@ -3,7 +3,6 @@ use mathlib.Core.Path.{ap}
 use Rattle.records.specs.declared.Heading.{Heading}
 use Rattle.records.specs.Layout.{layout_of}
 use Rattle.book.proofs.Underway.{refused-at-once}
-use borrow.Author.Rules.{rules}
 use Rattle.reading.proofs.read.Goals as goal
 
 pub returns-else-fault-eq0 : goal.returns-else-fault-eq0

@@ -1,7 +1,6 @@
 -- `refusal_text::append_refused` meets its contract. A buffer without room is left alone; else the word and two numbers stand at the
 -- place, in turn.
 use native.Mathlib.Omega.{arith}
-use borrow.Author.Rules.{rules}
 use Rattle.text.specs.Number.{refused}
 use Rattle.text.proofs.Put.{followed, no_room, free, appends}
 use Rattle.refusal_text.proofs.append_refused.Goals as goal

@@ -1,5 +1,4 @@
 -- `region::corners` meets its contract.
-use borrow.Author.Rules.{rules}
 use native.Mathlib.Omega.{arith}
 use Rattle.region.proofs.Frames.{outside, few-rules, framing, growing, listing, lists}
 use Rattle.region.proofs.corners.Goals as goal

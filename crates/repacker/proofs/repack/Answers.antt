@@ -1,5 +1,4 @@
 -- `repacker::repack` meets its contract: by its length a book has no more rules than the run has room for.
-use borrow.Author.Rules.{rules}
 use Rattle.repacker.proofs.Output.{short-few}
 use Rattle.repacker.proofs.repack.Goals as goal
 

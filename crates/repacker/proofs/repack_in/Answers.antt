@@ -3,9 +3,8 @@ use native.Mathlib.Omega.{arith}
 use Prim.Native.Nat.{◌≤◌}
 use Rattle.records.specs.Layout.{layout_of}
 use Rattle.book.proofs.Underway.{few-records}
-use Rattle.repacker.proofs.Output.{ChainRead, chain-accepted, packs-refused, packs-declined, packs-packed}
+use Rattle.repacker.proofs.Output.{chain-accepted, packs-refused, packs-declined, packs-packed}
 use Rattle.book.proofs.Said.{said-refused}
-use borrow.Author.Rules.{rules}
 use Rattle.repacker.proofs.repack_in.Goals as goal
 
 pub returns-then-refusal-ne0 : goal.returns-then-refusal-ne0

@@ -1,5 +1,4 @@
 -- `repacker::repack_long` meets its contract: there is room for 4,095 rules.
-use borrow.Author.Rules.{rules}
 use Rattle.repacker.proofs.Output.{most-rules}
 use Rattle.repacker.proofs.repack_long.Goals as goal
 

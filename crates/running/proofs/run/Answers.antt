@@ -1,6 +1,5 @@
 -- `running::run` meets its contract: the book is read into the lent runs, and the rules of one that is not refused are planned.
 use mathlib.Core.Path.{◌∙◌, ap, sym}
-use borrow.Author.Rules.{rules}
 use Rattle.running.specs.Running.{solution_in}
 use Rattle.running.proofs.Runs.{refused-ran, solved-ran}
 use Rattle.running.proofs.run.Goals as goal

@@ -1,11 +1,8 @@
 -- `showing::list` meets its contract: the lines of the records, each after those before it.
 use Prim.Native.Nat.{◌-◌}
-use lib.ListN.{length}
-use native.Mathlib.Omega.{arith}
 use Rattle.records.specs.Layout.{layout_of}
 use Rattle.showing.specs.Showing.{row_for}
-use Rattle.showing.proofs.Rows.{Shown, shown-start, shown-length, shown-step, shown-end}
-use borrow.Author.Rules.{rules}
+use Rattle.showing.proofs.Rows.{shown-start, shown-length, shown-step, shown-end}
 use Rattle.showing.proofs.list.Goals as goal
 
 pub loop-i-init : goal.loop-i-init

@@ -1,11 +1,9 @@
 -- `showing::list` meets its contract: the lines of the records, each after those before it.
 use Prim.Native.Nat.{◌-◌}
 use lib.ListN.{length}
-use native.Mathlib.Omega.{arith}
 use Rattle.records.specs.Layout.{layout_of}
 use Rattle.showing.specs.Showing.{row_for}
-use Rattle.showing.proofs.Rows.{Shown, shown-start, shown-length, shown-step, shown-end}
-use borrow.Author.Rules.{rules}
+use Rattle.showing.proofs.Rows.{Shown}
 use Rattle.showing.proofs.list.Given as goal
 
 abbrev pub invariant-loop-i : goal.invariant-loop-i

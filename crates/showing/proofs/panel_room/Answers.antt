@@ -1,6 +1,5 @@
 -- `showing::panel_room` meets its contract: 64 bytes for each record of the version's greatest book.
 use mathlib.Core.Path.{sym, ap}
-use borrow.Author.Rules.{rules}
 use Rattle.records.specs.declared.Version.{Version}
 use Rattle.records.specs.Layout.{layout_of}
 use Rattle.showing.specs.Showing.{panel_room}

@@ -1,8 +1,6 @@
 -- `showing::row` meets its contract: the label and slack of the rule in a record.
 use mathlib.Core.Path.{ap, ◌∙◌}
-use borrow.Author.Rules.{rules}
 use Rattle.lp.specs.declared.Constraint.{Constraint}
-use Rattle.records.specs.declared.Rule.{Rule}
 use Rattle.records.specs.Planned.{planned_rule}
 use Rattle.amounts.specs.Amounts.{amount_of}
 use Rattle.showing.proofs.row.Goals as goal

@@ -1,7 +1,6 @@
 -- `showing::show` meets its contract: the refusal's line, a line for each record, or none.
 use mathlib.Core.Path.{ap}
 use native.Mathlib.Omega.{arith}
-use borrow.Author.Rules.{rules}
 use Rattle.lp.specs.declared.Outcome.{Outcome}
 use Rattle.records.specs.Layout.{layout_of}
 use Rattle.showing.specs.Showing.{rows_from}

@@ -7,7 +7,6 @@ use lib.Dec.{lit≤}
 use mir.Syntax.{w16, w64}
 use mir.Val.{to_z}
 use Rattle.signed.proofs.Widths.{turned_round, narrow_wide, narrow-fits, narrow-value}
-use borrow.Author.Rules.{rules}
 use Rattle.signed.proofs.signed16.Goals as goal
 
 value : (c : goal.Start) → to_z w64 ((c.args.bits + 32768) % 65536) -ℤ pos 32768 ≡ to_z w16 c.args.bits

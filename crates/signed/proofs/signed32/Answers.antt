@@ -7,7 +7,6 @@ use lib.Dec.{lit≤}
 use mir.Syntax.{w32, w64}
 use mir.Val.{to_z}
 use Rattle.signed.proofs.Widths.{turned_round, narrow_wide, narrow-fits, narrow-value}
-use borrow.Author.Rules.{rules}
 use Rattle.signed.proofs.signed32.Goals as goal
 
 value : (c : goal.Start) → to_z w64 ((c.args.bits + 2147483648) % 4294967296) -ℤ pos 2147483648 ≡ to_z w32 c.args.bits

@@ -1,6 +1,5 @@
 -- `slip_line::append_written` meets its contract.
 use native.Mathlib.Omega.{arith}
-use borrow.Author.Rules.{rules}
 use mathlib.Core.Path.{ap, sym}
 use Rattle.text.proofs.Put.{spelt, roomier}
 use Rattle.slip_line.specs.Line.{written_fields}

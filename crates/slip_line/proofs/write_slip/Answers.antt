@@ -1,6 +1,5 @@
 -- `slip_line::write_slip` meets its contract.
 use native.Mathlib.Omega.{arith}
-use borrow.Author.Rules.{rules}
 use Rattle.text.proofs.Put.{too_small, filled, followed}
 use Rattle.slip_line.specs.Line.{slip_line, slip_room}
 use Rattle.slip_line.proofs.write_slip.Goals as goal

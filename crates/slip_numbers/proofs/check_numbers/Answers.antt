@@ -1,5 +1,4 @@
 -- `slip_numbers::check_numbers` meets its contract.
-use borrow.Author.Rules.{rules}
 use mathlib.Core.Path.{◌∙◌, ap}
 use Rattle.records.specs.Layout.{v2}
 use Rattle.book.specs.Reading.{read_of}

@@ -1,5 +1,4 @@
 -- `slip_numbers::is_slip` meets its contract.
-use borrow.Author.Rules.{rules}
 use mathlib.Core.Path.{◌∙◌, ap}
 use native.Mathlib.Omega.{arith}
 use lib.IntN.{pos}

@@ -1,5 +1,4 @@
 -- `slip_numbers::opening_of` meets its contract: each outcome has its number.
-use borrow.Author.Rules.{rules}
 use mathlib.Core.Path.{sym, ◌∙◌, ap}
 use lib.IntN.{pos}
 use Rattle.slip.proofs.Sizes.{unread}

@@ -1,5 +1,4 @@
 -- `slip_numbers::outcome_in` meets its contract.
-use borrow.Author.Rules.{rules}
 use mathlib.Core.Path.{◌∙◌, ap}
 use lib.IntN.{pos}
 use Rattle.lp.specs.declared.Outcome.TheVariants as outcome

@@ -1,5 +1,4 @@
 -- `slip_numbers::pair_of` meets its contract.
-use borrow.Author.Rules.{rules}
 use mathlib.Core.Path.{sym, ap}
 use Rattle.slip_numbers.specs.Form.{pair_of}
 use Rattle.slip_numbers.proofs.pair_of.Goals as goal

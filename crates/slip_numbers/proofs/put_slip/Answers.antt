@@ -1,5 +1,4 @@
 -- `slip_numbers::put_slip` meets its contract: 14 numbers, where there is room.
-use borrow.Author.Rules.{rules}
 use native.Mathlib.Omega.{arith}
 use Rattle.slip_numbers.proofs.Laying.{laid-short, laid_out}
 use Rattle.slip_numbers.proofs.put_slip.Goals as goal

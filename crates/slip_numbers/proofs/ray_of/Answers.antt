@@ -1,5 +1,4 @@
 -- `slip_numbers::ray_of` meets its contract.
-use borrow.Author.Rules.{rules}
 use mathlib.Core.Path.{sym, ap}
 use Rattle.slip_numbers.specs.Form.{ray_of}
 use Rattle.slip_numbers.proofs.ray_of.Goals as goal

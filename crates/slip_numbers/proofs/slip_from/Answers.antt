@@ -1,5 +1,4 @@
 -- `slip_numbers::slip_from` meets its contract.
-use borrow.Author.Rules.{rules}
 use mathlib.Core.Path.{sym, ◌∙◌}
 use Rattle.slip_numbers.proofs.Read.{slip-fourteen, slip-read, no_slip}
 use Rattle.slip_numbers.proofs.slip_from.Goals as goal

@@ -1,5 +1,4 @@
 -- `slip_reader::read_slip` meets its contract.
-use borrow.Author.Rules.{rules}
 use Rattle.slip_reader.proofs.Saying.{given, no_line}
 use Rattle.slip_reader.proofs.read_slip.Goals as goal
 

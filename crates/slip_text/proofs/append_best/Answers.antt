@@ -1,6 +1,5 @@
 -- `slip_text::append_best` meets its contract.
 use native.Mathlib.Omega.{arith}
-use borrow.Author.Rules.{rules}
 use Rattle.text.proofs.Put.{followed}
 use Rattle.text.proofs.Integer.{whole}
 use Rattle.slip_text.specs.Text.{fields_of}

@@ -1,6 +1,5 @@
 -- `slip_text::append_code` meets its contract.
 use native.Mathlib.Omega.{arith}
-use borrow.Author.Rules.{rules}
 use Rattle.text.proofs.Put.{roomier, spelt}
 use Rattle.slip_text.proofs.Parts.{less-fits, code-x, code-y, code-record}
 use Rattle.slip_text.proofs.append_code.Goals as goal

@@ -1,6 +1,5 @@
 -- `slip_text::append_entries` meets its contract.
 use native.Mathlib.Omega.{arith}
-use borrow.Author.Rules.{rules}
 use Rattle.slip_text.proofs.Parts.{entries-parts}
 use Rattle.slip_text.proofs.append_entries.Goals as goal
 

@@ -1,6 +1,5 @@
 -- `slip_text::append_fields` meets its contract.
 use native.Mathlib.Omega.{arith}
-use borrow.Author.Rules.{rules}
 use mathlib.Core.Path.{sym, ap}
 use Rattle.text.proofs.Put.{roomier, spelt}
 use Rattle.slip_text.specs.Text.{fields_of}

@@ -1,6 +1,5 @@
 -- `slip_text::append_impossible` meets its contract.
 use native.Mathlib.Omega.{arith}
-use borrow.Author.Rules.{rules}
 use Rattle.text.proofs.Put.{followed}
 use Rattle.slip_text.specs.Text.{fields_of}
 use Rattle.slip_text.proofs.append_impossible.Goals as goal

@@ -1,5 +1,4 @@
 -- `slip_text::append_slip` meets its contract. A buffer without room is left alone.
-use borrow.Author.Rules.{rules}
 use Rattle.text.proofs.Put.{no_room, free, appends}
 use Rattle.slip_text.proofs.append_slip.Goals as goal
 

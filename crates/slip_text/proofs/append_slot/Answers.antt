@@ -1,6 +1,5 @@
 -- `slip_text::append_slot` meets its contract.
 use native.Mathlib.Omega.{arith}
-use borrow.Author.Rules.{rules}
 use Rattle.text.proofs.Put.{followed, spelt, nothing}
 use Rattle.text.proofs.Integer.{whole}
 use Rattle.slip_text.proofs.Parts.{code_read, slot_counts, slot_none}

@@ -1,6 +1,5 @@
 -- `slip_text::append_unlimited` meets its contract.
 use native.Mathlib.Omega.{arith}
-use borrow.Author.Rules.{rules}
 use Rattle.text.proofs.Put.{followed}
 use Rattle.slip_text.specs.Text.{fields_of}
 use Rattle.slip_text.proofs.append_unlimited.Goals as goal

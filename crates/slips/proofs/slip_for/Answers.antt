@@ -1,5 +1,4 @@
 -- `slips::slip_for` meets its contract: the slip of an accepted book's plan.
-use borrow.Author.Rules.{rules}
 use Rattle.slips.proofs.Promised.{witness_small, pair_small, impossible-slip, unlimited-slip, best-slip}
 use Rattle.slips.proofs.slip_for.Goals as goal
 

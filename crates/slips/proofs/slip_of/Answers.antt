@@ -1,5 +1,4 @@
 -- `slips::slip_of` meets its contract: the book's refusal, or the slip of its plan.
-use borrow.Author.Rules.{rules}
 use Rattle.slips.proofs.Promised.{plans_of, refused-writes, given-writes}
 use Rattle.slips.proofs.slip_of.Goals as goal
 

@@ -1,6 +1,5 @@
 -- `steps::add` meets its contract: 18 first, then the rule's own cause, else one rule more.
 use mathlib.Core.Path.{sym, subst}
-use borrow.Author.Rules.{rules}
 use Rattle.sessions.specs.Sessions.{IsSession}
 use Rattle.sessions.proofs.Kept.{longer-session}
 use Rattle.sessions.proofs.Led.{adds-full, adds-turned, adds-taken}

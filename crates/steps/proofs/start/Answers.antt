@@ -1,5 +1,4 @@
 -- `steps::start` meets its contract: 4, or a session without rules.
-use borrow.Author.Rules.{rules}
 use Rattle.sessions.proofs.Led.{begun-session, starts, starts-refused, empty-session}
 use Rattle.steps.proofs.start.Goals as goal
 

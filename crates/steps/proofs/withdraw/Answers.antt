@@ -1,7 +1,6 @@
 -- `steps::withdraw` meets its contract: 19, or one rule less.
 use mathlib.Core.Path.{sym, subst}
 use native.Mathlib.Omega.{arith}
-use borrow.Author.Rules.{rules}
 use Rattle.sessions.specs.Sessions.{IsSession}
 use Rattle.sessions.proofs.Kept.{latest, shorter-session}
 use Rattle.sessions.proofs.Led.{withdraws_none, withdraws_one}

@@ -1,5 +1,4 @@
 -- `typed_line::text_length` meets its contract. The tests pick the case of the input.
-use borrow.Author.Rules.{rules}
 use Rattle.typed_line.proofs.Feeds.{no_bytes, feed_dropped, all-kept}
 use Rattle.typed_line.proofs.text_length.Goals as goal
 

@@ -1,7 +1,6 @@
 -- `typed_rules::read_rule` meets its contract: what a text reads as: the rule, or the number of the refusal.
 use borrow.Author.Tests.{le-leb, lt-leb}
 use Rattle.language.specs.Parser.{answer}
-use borrow.Author.Rules.{rules}
 use Rattle.typed_rules.proofs.read_rule.Goals as goal
 
 pub returns-then-text-le120 : goal.returns-then-text-le120

@@ -1,6 +1,5 @@
 -- `verdict_line::append_verdict` meets its contract.
 use native.Mathlib.Omega.{arith}
-use borrow.Author.Rules.{rules}
 use mathlib.Core.Path.{ap, sym}
 use Rattle.text.proofs.Put.{spelt, roomier}
 use Rattle.verdict_line.specs.Verdict.{verdict_text}

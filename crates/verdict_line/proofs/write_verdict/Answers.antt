@@ -1,6 +1,5 @@
 -- `verdict_line::write_verdict` meets its contract.
 use native.Mathlib.Omega.{arith}
-use borrow.Author.Rules.{rules}
 use Rattle.text.proofs.Put.{too_small, filled, followed}
 use Rattle.verdict_line.specs.Verdict.{verdict_line, verdict_room}
 use Rattle.verdict_line.proofs.write_verdict.Goals as goal

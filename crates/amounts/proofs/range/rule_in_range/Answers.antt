@@ -1,5 +1,4 @@
 -- `amounts::range::rule_in_range` meets its contract.
-use borrow.Author.Rules.{rules}
 use mathlib.Core.Bool.{◌&&◌}
 use Rattle.amounts.proofs.Tests.{passed}
 use Rattle.amounts.proofs.range.rule_in_range.Goals as goal

@@ -1,5 +1,4 @@
 -- `amounts::range::up_to` meets its contract: a number from -n to n has a magnitude of at most n.
-use borrow.Author.Rules.{rules}
 use Rattle.amounts.proofs.Tests.{least_fits, up-to-is}
 use Rattle.amounts.proofs.range.up_to.Goals as goal
 

@@ -1,6 +1,5 @@
 -- `answer_line::entries::append_entry` meets its contract. The tests pick the case of `entry`.
 use native.Mathlib.Omega.{arith}
-use borrow.Author.Rules.{rules}
 use Rattle.text.proofs.Put.{roomier, spelt}
 use Rattle.report.proofs.Witness.{floor-x, floor-y, entry-rule}
 use Rattle.answer_line.proofs.entries.append_entry.Goals as goal

@@ -1,7 +1,6 @@
 -- `answer_line::entries::append_rule` meets its contract. Each arm of the match is given the naming that it is for.
 use mathlib.Core.Path.{ap, sym}
 use native.Mathlib.Omega.{arith}
-use borrow.Author.Rules.{rules}
 use Rattle.report.specs.declared.Naming.{Naming}
 use Rattle.report.specs.Line.{rule}
 use Rattle.text.proofs.Put.{spelt, roomier}

@@ -1,6 +1,5 @@
 -- `answer_line::entries::append_rule_of_two` meets its contract. The test picks the book.
 use native.Mathlib.Omega.{arith}
-use borrow.Author.Rules.{rules}
 use Rattle.text.proofs.Put.{followed, spelt}
 use Rattle.report.proofs.Witness.{site-rule, tenant-rule}
 use Rattle.answer_line.proofs.entries.append_rule_of_two.Goals as goal

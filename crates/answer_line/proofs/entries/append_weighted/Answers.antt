@@ -1,6 +1,5 @@
 -- `answer_line::entries::append_weighted` meets its contract. A weight of 0 names no entry; any other names this one.
 use native.Mathlib.Omega.{arith}
-use borrow.Author.Rules.{rules}
 use Rattle.text.proofs.Put.{followed, spelt, nothing}
 use Rattle.text.proofs.Integer.{whole}
 use Rattle.report.proofs.Witness.{left_out, printed}

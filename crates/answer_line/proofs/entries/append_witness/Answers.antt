@@ -1,6 +1,5 @@
 -- `answer_line::entries::append_witness` meets its contract. What each weight prints makes up what the list of named entries prints.
 use native.Mathlib.Omega.{arith}
-use borrow.Author.Rules.{rules}
 use mir.Syntax.{w64}
 use mir.Val.{SFits}
 use Rattle.text.proofs.Put.{followed, spelt}

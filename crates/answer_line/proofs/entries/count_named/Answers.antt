@@ -1,6 +1,5 @@
 -- `answer_line::entries::count_named` meets its contract. Each weight that is not 0 names one entry.
 use native.Mathlib.Omega.{arith}
-use borrow.Author.Rules.{rules}
 use Rattle.ints.proofs.Bits.{read}
 use Rattle.report.proofs.Witness.{at_most_one, counted}
 use Rattle.answer_line.proofs.entries.count_named.Goals as goal

@@ -1,6 +1,5 @@
 -- `answer_line::line::append_best` meets its contract. Word, pair and counts in turn.
 use native.Mathlib.Omega.{arith}
-use borrow.Author.Rules.{rules}
 use Rattle.report.specs.Line.{best}
 use Rattle.text.proofs.Put.{followed}
 use Rattle.answer_line.proofs.line.append_best.Goals as goal

@@ -1,6 +1,5 @@
 -- `answer_line::line::append_counts` meets its contract. Two numbers in turn.
 use native.Mathlib.Omega.{arith}
-use borrow.Author.Rules.{rules}
 use Rattle.report.specs.Line.{counts}
 use Rattle.text.proofs.Put.{followed}
 use Rattle.answer_line.proofs.line.append_counts.Goals as goal

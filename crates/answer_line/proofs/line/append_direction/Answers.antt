@@ -1,6 +1,5 @@
 -- `answer_line::line::append_direction` meets its contract. Two numbers in turn, each read back whole from its bits.
 use native.Mathlib.Omega.{arith}
-use borrow.Author.Rules.{rules}
 use Rattle.report.specs.Line.{direction}
 use Rattle.text.proofs.Put.{followed}
 use Rattle.text.proofs.Integer.{whole}

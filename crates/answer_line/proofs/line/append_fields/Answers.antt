@@ -1,7 +1,6 @@
 -- `answer_line::line::append_fields` meets its contract. Each arm of the match is given the answer that it is for.
 use mathlib.Core.Path.{ap, sym}
 use native.Mathlib.Omega.{arith}
-use borrow.Author.Rules.{rules}
 use Rattle.report.specs.Line.{answer_fields}
 use Rattle.text.proofs.Put.{spelt, roomier}
 use Rattle.answer_line.proofs.line.append_fields.Goals as goal

@@ -1,6 +1,5 @@
 -- `answer_line::line::append_impossible` meets its contract. Word, place, counts and witness in turn.
 use native.Mathlib.Omega.{arith}
-use borrow.Author.Rules.{rules}
 use Rattle.report.specs.Line.{impossible}
 use Rattle.text.proofs.Put.{followed}
 use Rattle.answer_line.proofs.line.append_impossible.Goals as goal

@@ -1,7 +1,6 @@
 -- `answer_line::line::append_plan` meets its contract. Each arm of the match is given the outcome that it is for.
 use mathlib.Core.Path.{ap, sym}
 use native.Mathlib.Omega.{arith}
-use borrow.Author.Rules.{rules}
 use Rattle.report.specs.Line.{fields}
 use Rattle.text.proofs.Put.{spelt, roomier}
 use Rattle.answer_line.proofs.line.append_plan.Goals as goal

@@ -1,6 +1,5 @@
 -- `answer_line::line::append_unlimited` meets its contract. Word, pair, direction and counts in turn.
 use native.Mathlib.Omega.{arith}
-use borrow.Author.Rules.{rules}
 use Rattle.report.specs.Line.{unlimited}
 use Rattle.text.proofs.Put.{followed}
 use Rattle.answer_line.proofs.line.append_unlimited.Goals as goal

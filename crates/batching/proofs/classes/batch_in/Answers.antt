@@ -2,7 +2,6 @@
 use mathlib.Core.List.{[]}
 use lib.ListN.{take}
 use lib.Seq.{length-take-le}
-use borrow.Author.Rules.{rules}
 use Rattle.records.specs.Layout.{v2}
 use Rattle.records.specs.Header.{count_of}
 use Rattle.book.proofs.Said.{said-refused}

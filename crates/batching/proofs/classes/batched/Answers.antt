@@ -1,6 +1,5 @@
 -- `batching::classes::batched` meets its contract: by what the objectives were answered.
 use mathlib.Core.Path.{sym, ap}
-use borrow.Author.Rules.{rules}
 use Rattle.batching.specs.Asked.{batched_by}
 use Rattle.batching.proofs.classes.batched.Goals as goal
 

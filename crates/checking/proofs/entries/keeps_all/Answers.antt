@@ -1,8 +1,7 @@
 -- `checking::entries::keeps_all` meets its contract.
 use mathlib.Core.Path.{sym, ◌∙◌}
 use Prim.Native.Nat.{◌-◌}
-use native.Mathlib.Omega.{arith}
-use Rattle.slip.proofs.Passes.{Kept, kept-start, kept_asks, kept_step, kept-stop, kept-end, entry-room}
+use Rattle.slip.proofs.Passes.{kept-start, kept_asks, kept_step, kept-stop, kept-end, entry-room}
 use Rattle.checking.proofs.entries.keeps_all.Goals as goal
 
 pub loop-i-init : goal.loop-i-init

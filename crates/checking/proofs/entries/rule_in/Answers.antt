@@ -1,7 +1,6 @@
 -- `checking::entries::rule_in` meets its contract: the rule in a record.
 use mathlib.Core.Path.{sym}
 use native.Mathlib.Omega.{arith}
-use borrow.Author.Rules.{rules}
 use lib.Seq.{length-take-le}
 use Rattle.checking.proofs.Naming.{named-at, named-nowhere}
 use Rattle.checking.proofs.entries.rule_in.Goals as goal

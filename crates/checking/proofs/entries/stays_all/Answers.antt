@@ -1,8 +1,7 @@
 -- `checking::entries::stays_all` meets its contract.
 use mathlib.Core.Path.{sym, ◌∙◌}
 use Prim.Native.Nat.{◌-◌}
-use native.Mathlib.Omega.{arith}
-use Rattle.slip.proofs.Passes.{Stayed, stayed_start, stayed_asks, stayed_step, stayed_stop, stayed_end, entry-room}
+use Rattle.slip.proofs.Passes.{stayed_start, stayed_asks, stayed_step, stayed_stop, stayed_end, entry-room}
 use Rattle.checking.proofs.entries.stays_all.Goals as goal
 
 pub loop-i-init : goal.loop-i-init

@@ -1,5 +1,4 @@
 -- `checking::exact::pair_in_range` meets its contract.
-use borrow.Author.Rules.{rules}
 use mathlib.Core.Path.{◌∙◌, ap}
 use mathlib.Core.Bool.{◌&&◌}
 use lib.IntN.{pos, negsuc}

@@ -1,5 +1,4 @@
 -- `checking::exact::scaled` meets its contract: a sum that is scale times a part.
-use borrow.Author.Rules.{rules}
 use mathlib.Core.Path.{◌∙◌}
 use Rattle.lp.specs.Document.{same}
 use Rattle.slip.proofs.Sizes.{unread, scaled_fits, scaled_args, scaled_read}

@@ -1,5 +1,4 @@
 -- `checking::facts::allowed` meets its contract: a pair that keeps both floors and every rule.
-use borrow.Author.Rules.{rules}
 use mathlib.Core.Path.{sym, ◌∙◌, subst}
 use Rattle.lp.specs.Range.{SmallConstraint}
 use Rattle.slip.proofs.Shares.{floor_x-small, floor_y-small}

@@ -1,5 +1,4 @@
 -- `checking::facts::best` meets its contract: what is said of a slip with a best pair.
-use borrow.Author.Rules.{rules}
 use mathlib.Core.Path.{◌∙◌, ap}
 use lib.IntN.{pos}
 use Rattle.slip.proofs.Sizes.{unread}

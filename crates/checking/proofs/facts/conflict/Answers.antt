@@ -1,5 +1,4 @@
 -- `checking::facts::conflict` meets its contract: what is said of a slip of an impossible book.
-use borrow.Author.Rules.{rules}
 use mathlib.Core.Path.{sym, ◌∙◌, ap, subst}
 use lib.IntN.{pos}
 use Rattle.slip.proofs.Sizes.{unread}

@@ -1,5 +1,4 @@
 -- `checking::facts::judged` meets its contract: what is said of a slip for a chain.
-use borrow.Author.Rules.{rules}
 use mathlib.Core.Path.{sym, ◌∙◌}
 use Rattle.slip.specs.Runs.{indices, entries}
 use Rattle.slip.proofs.Judging.{judged-same}

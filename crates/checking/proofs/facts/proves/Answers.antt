@@ -1,5 +1,4 @@
 -- `checking::facts::proves` meets its contract: the facts of a best pair.
-use borrow.Author.Rules.{rules}
 use mathlib.Core.Path.{◌∙◌}
 use Rattle.ints.proofs.Machine.{within-read}
 use Rattle.slip.specs.Runs.{entries}

@@ -1,8 +1,7 @@
 -- `checking::facts::unlimited` meets its contract: what is said of a slip of an unlimited book.
-use borrow.Author.Rules.{rules}
 use mathlib.Core.Path.{sym, ◌∙◌}
 use Rattle.slip.proofs.Shares.{both}
-use Rattle.slip.specs.Runs.{indices, entries, SmallDirection}
+use Rattle.slip.specs.Runs.{indices, entries}
 use Rattle.slip.proofs.Judging.{pair_small, ray-small, unlimited-said, unlimited-refused}
 use Rattle.checking.proofs.facts.unlimited.Goals as goal
 

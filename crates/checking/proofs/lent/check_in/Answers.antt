@@ -1,5 +1,4 @@
 -- `checking::lent::check_in` meets its contract: the book is read, and a slip for an accepted one is judged.
-use borrow.Author.Rules.{rules}
 use Rattle.slip.proofs.Read.{judged_asks, accepted-verdict, refused-verdict}
 use Rattle.checking.proofs.lent.check_in.Goals as goal
 

@@ -1,5 +1,4 @@
 -- `checking::named::apart` meets its contract.
-use borrow.Author.Rules.{rules}
 use mathlib.Core.Path.{◌∙◌}
 use mathlib.Core.Bool.{not, ◌&&◌, ◌||◌}
 use lib.IntN.{pos}

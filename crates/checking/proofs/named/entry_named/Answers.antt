@@ -1,5 +1,4 @@
 -- `checking::named::entry_named` meets its contract: a floor, a rule of the chain, or nothing.
-use borrow.Author.Rules.{rules}
 use Rattle.slip.proofs.Slots.{below-names-nothing, names_floor_x, names_floor_y, names-rule}
 use Rattle.checking.proofs.named.entry_named.Goals as goal
 

@@ -1,5 +1,4 @@
 -- `checking::named::looked_up` meets its contract.
-use borrow.Author.Rules.{rules}
 use mathlib.Core.Path.{◌∙◌}
 use mathlib.Core.Bool.{◌&&◌}
 use lib.IntN.{pos}

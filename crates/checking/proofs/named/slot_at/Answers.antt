@@ -1,5 +1,4 @@
 -- `checking::named::slot_at` meets its contract.
-use borrow.Author.Rules.{rules}
 use mathlib.Core.Path.{sym, ◌∙◌, ap}
 use mathlib.Core.Bool.{Bool}
 use Rattle.slip.proofs.Sizes.{unread}

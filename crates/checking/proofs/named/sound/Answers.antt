@@ -1,5 +1,4 @@
 -- `checking::named::sound` meets its contract.
-use borrow.Author.Rules.{rules}
 use mathlib.Core.Path.{ap}
 use mathlib.Core.Bool.{◌&&◌}
 use Rattle.checking.proofs.named.sound.Goals as goal

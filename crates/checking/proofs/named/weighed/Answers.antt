@@ -1,5 +1,4 @@
 -- `checking::named::weighed` meets its contract.
-use borrow.Author.Rules.{rules}
 use mathlib.Core.Path.{sym, ◌∙◌, ap}
 use mathlib.Core.Bool.{Bool, true, false, cond}
 use Rattle.slip.proofs.Sizes.{unread}

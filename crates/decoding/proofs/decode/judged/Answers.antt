@@ -3,7 +3,6 @@ use mathlib.Core.Path.{ap, ◌∙◌}
 use lib.Dec.{eqb}
 use Rattle.records.specs.declared.Rule.{Rule}
 use Rattle.records.specs.Record.{decoded_with}
-use borrow.Author.Rules.{rules}
 use Rattle.decoding.proofs.decode.judged.Goals as goal
 
 pub returns : goal.returns

@@ -1,5 +1,4 @@
 -- `engine::between::end_point` meets its contract: the end of the new edge in the direction in which its line is walked.
-use borrow.Author.Rules.{rules}
 use Rattle.engine.proofs.between.end_point.Goals as goal
 
 pub returns-then-up : goal.returns-then-up

@@ -1,5 +1,4 @@
 -- `engine::between::improved_at` meets its contract.
-use borrow.Author.Rules.{rules}
 use mathlib.Core.Path.{sym, ◌∙◌}
 use Rattle.engine.proofs.Steps.{asked-keeps}
 use Rattle.engine.proofs.between.improved_at.Goals as goal

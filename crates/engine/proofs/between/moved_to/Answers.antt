@@ -1,5 +1,4 @@
 -- `engine::between::moved_to` meets its contract: the optimum moves to an end of the new edge, or a pass is made.
-use borrow.Author.Rules.{rules}
 use mathlib.Core.Path.{sym, ◌∙◌, ap, subst}
 use lib.IntN.{pos}
 use lib.Signed.{lt_z}

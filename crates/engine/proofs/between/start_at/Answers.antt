@@ -1,5 +1,4 @@
 -- `engine::between::start_at` meets its contract: the start point stays, or moves to an end of the new edge, or a pass is made.
-use borrow.Author.Rules.{rules}
 use mathlib.Core.Path.{refl, sym, ◌∙◌, ap, subst}
 use lib.IntN.{pos}
 use lib.Signed.{lt_z}

@@ -1,5 +1,4 @@
 -- `engine::between::step_at` meets its contract: what the walk holds after one more constraint h, at index n, which has cut the ring.
-use borrow.Author.Rules.{rules}
 use mathlib.Core.Path.{sym, subst}
 use native.Mathlib.Omega.{arith}
 use Rattle.model.specs.Bounds.{SmallCone}

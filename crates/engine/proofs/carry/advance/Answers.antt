@@ -1,5 +1,4 @@
 -- `engine::carry::advance` meets its contract: one more rule enters the ring, and the walk takes its step.
-use borrow.Author.Rules.{rules}
 use mathlib.Core.Path.{◌∙◌, ap}
 use Prim.Native.Nat.{◌-◌}
 use native.Mathlib.Omega.{arith}

@@ -1,12 +1,9 @@
 -- `engine::carry::carry_in` meets its contract: the walk from some rule on, with the ring carried along.
-use borrow.Author.Rules.{rules}
-use mathlib.Core.Path.{◌≡◌, refl, ◌∙◌}
+use mathlib.Core.Path.{◌≡◌}
 use Prim.Native.Nat.{◌+◌, ◌-◌}
-use native.Mathlib.Omega.{arith}
 use lib.ListN.{length}
 use Rattle.engine.specs.Rings.{Holding}
-use Rattle.engine.proofs.Walks.{walked-room, walked_step, walked_stop, answering, walked_end}
-use Rattle.engine.proofs.Carried.{Onward, carrying-walked, carry_growing, carry_advancing}
+use Rattle.engine.proofs.Carried.{Onward}
 use Rattle.engine.proofs.carry.carry_in.Given as goal
 
 abbrev pub invariant-loop-i : goal.invariant-loop-i

@@ -1,5 +1,4 @@
 -- `engine::cone::gaining` meets its contract: a ray of the cone along which the objective gains: the flatter of the two if it does.
-use borrow.Author.Rules.{rules}
 use mathlib.Core.Path.{sym, ◌∙◌}
 use Rattle.model.specs.Step.{gaining}
 use Rattle.engine.proofs.Steps.{cone_rays}

@@ -1,5 +1,4 @@
 -- `engine::cone::narrow` meets its contract.
-use borrow.Author.Rules.{rules}
 use mathlib.Core.Path.{sym, ◌∙◌}
 use Rattle.engine.proofs.Steps.{cone_rays}
 use Rattle.engine.proofs.cone.narrow.Goals as goal

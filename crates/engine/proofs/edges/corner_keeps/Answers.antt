@@ -1,5 +1,4 @@
 -- `engine::edges::corner_keeps` meets its contract.
-use borrow.Author.Rules.{rules}
 use mathlib.Core.Path.{◌∙◌, ap, ap₂}
 use Rattle.lp.specs.Outcome.{meet, keeps}
 use Rattle.engine.proofs.Rows.{at-point, meet-small, read_small}

@@ -1,5 +1,4 @@
 -- `engine::edges::is_between` meets its contract.
-use borrow.Author.Rules.{rules}
 use mathlib.Core.Path.{◌∙◌, sym, ap}
 use mathlib.Core.Bool.{◌&&◌}
 use lib.IntN.{pos}

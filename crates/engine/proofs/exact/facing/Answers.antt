@@ -1,5 +1,4 @@
 -- `engine::exact::facing` meets its contract: a constraint as it stands, or the same line with the other side allowed.
-use borrow.Author.Rules.{rules}
 use Rattle.ints.proofs.Machine.{within-read, weaken}
 use mathlib.Core.Path.{◌∙◌, sym, ap}
 use Rattle.model.specs.Scan.{facing}

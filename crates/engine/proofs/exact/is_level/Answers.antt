@@ -1,5 +1,4 @@
 -- `engine::exact::is_level` meets its contract: a rule with a = b = 0, which has no line.
-use borrow.Author.Rules.{rules}
 use mathlib.Core.Path.{◌∙◌, sym}
 use Rattle.lp.specs.Certificate.{is_zero}
 use Rattle.witness.proofs.Witnesses.{both_left, both_right}

@@ -3,7 +3,6 @@ use mathlib.Core.Path.{◌∙◌, ap}
 use lib.IntN.{pos}
 use lib.Signed.{le_z}
 use Rattle.fraction.proofs.Quotients.{unread}
-use borrow.Author.Rules.{rules}
 use Rattle.engine.proofs.exact.keeps.Goals as goal
 
 pub returns : goal.returns

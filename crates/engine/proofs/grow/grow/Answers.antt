@@ -1,10 +1,8 @@
 -- `engine::grow::grow` meets its contract: the ring of the first m entries.
-use mathlib.Core.Path.{◌≡◌, refl, ◌∙◌}
-use Prim.Native.Nat.{◌-◌, ◌/◌, ◌≤◌}
-use borrow.Author.Rules.{rules}
+use mathlib.Core.Path.{refl, ◌∙◌}
+use Prim.Native.Nat.{◌-◌, ◌/◌}
 use native.Mathlib.Omega.{arith}
 use lib.ListN.{length, length-set}
-use Rattle.engine.specs.Rings.{Holding}
 use Rattle.engine.proofs.Carried.{seeded-length, grow-start, grow-size, grow-taken, grow-end}
 use Rattle.engine.proofs.Carried.{holding_inserting, holding-next}
 use Rattle.engine.proofs.grow.grow.Goals as goal

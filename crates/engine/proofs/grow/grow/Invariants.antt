@@ -1,12 +1,8 @@
 -- `engine::grow::grow` meets its contract: the ring of the first m entries.
-use mathlib.Core.Path.{◌≡◌, refl, ◌∙◌}
-use Prim.Native.Nat.{◌-◌, ◌/◌, ◌≤◌}
-use borrow.Author.Rules.{rules}
-use native.Mathlib.Omega.{arith}
-use lib.ListN.{length, length-set}
+use mathlib.Core.Path.{◌≡◌}
+use Prim.Native.Nat.{◌-◌, ◌≤◌}
+use lib.ListN.{length}
 use Rattle.engine.specs.Rings.{Holding}
-use Rattle.engine.proofs.Carried.{seeded-length, grow-start, grow-size, grow-taken, grow-end}
-use Rattle.engine.proofs.Carried.{holding_inserting, holding-next}
 use Rattle.engine.proofs.grow.grow.Given as goal
 
 abbrev pub invariant-loop-k : goal.invariant-loop-k

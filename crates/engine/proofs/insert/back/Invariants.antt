@@ -1,7 +1,5 @@
 -- `engine::insert::back` meets its contract: the edges at the back are dropped whose earlier corner is broken.
-use mathlib.Core.Path.{sym, ◌∙◌}
-use native.Mathlib.Omega.{arith}
-use Rattle.engine.proofs.Drops.{Back, back_start, back-pair, back-stop, back_step, back_end}
+use Rattle.engine.proofs.Drops.{Back}
 use Rattle.engine.proofs.insert.back.Given as goal
 
 abbrev pub invariant-loop-k : goal.invariant-loop-k

@@ -1,5 +1,4 @@
 -- `engine::insert::cut` meets its contract: both ends are cut, and the new edge is put before what is left.
-use borrow.Author.Rules.{rules}
 use Rattle.engine.proofs.Drops.{cut-none, cut-cutting, cut-put}
 use Rattle.engine.proofs.insert.cut.Goals as goal
 

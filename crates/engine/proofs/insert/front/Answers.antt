@@ -2,7 +2,7 @@
 use mathlib.Core.Path.{sym, ◌∙◌}
 use Prim.Native.Nat.{◌-◌}
 use native.Mathlib.Omega.{arith}
-use Rattle.engine.proofs.Drops.{Front, front-start, front-pair, front-stop, front-step, front-end}
+use Rattle.engine.proofs.Drops.{front-start, front-pair, front-stop, front-step, front-end}
 use Rattle.engine.proofs.insert.front.Goals as goal
 
 pub loop-i-init : goal.loop-i-init

@@ -1,8 +1,6 @@
 -- `engine::insert::front` meets its contract: the edges at the front are dropped whose later corner is broken.
-use mathlib.Core.Path.{sym, ◌∙◌}
 use Prim.Native.Nat.{◌-◌}
-use native.Mathlib.Omega.{arith}
-use Rattle.engine.proofs.Drops.{Front, front-start, front-pair, front-stop, front-step, front-end}
+use Rattle.engine.proofs.Drops.{Front}
 use Rattle.engine.proofs.insert.front.Given as goal
 
 abbrev pub invariant-loop-i : goal.invariant-loop-i

@@ -1,5 +1,4 @@
 -- `engine::insert::insert` meets its contract: a constraint enters the ring.
-use borrow.Author.Rules.{rules}
 use mathlib.Core.Path.{refl}
 use native.Mathlib.Omega.{arith}
 use Rattle.engine.proofs.Insertions.{inserted_none, insert-seeking, insert-pair, insert-seen, insert-same}

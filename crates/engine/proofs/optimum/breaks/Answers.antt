@@ -1,5 +1,4 @@
 -- `engine::optimum::breaks` meets its contract: a best pair that does not keep the new constraint.
-use borrow.Author.Rules.{rules}
 use Rattle.amounts.proofs.Sizes.{kept-distance}
 use Rattle.engine.proofs.Steps.{best-point}
 use Rattle.engine.proofs.optimum.breaks.Goals as goal

@@ -1,5 +1,4 @@
 -- `engine::optimum::improved` meets its contract.
-use borrow.Author.Rules.{rules}
 use mathlib.Core.Path.{sym, ◌∙◌, ap}
 use Rattle.model.specs.declared.Best.TheVariants.{At}
 use Rattle.engine.proofs.Steps.{asked-keeps, same_point}

@@ -1,5 +1,4 @@
 -- `engine::optimum::moved` meets its contract.
-use borrow.Author.Rules.{rules}
 use mathlib.Core.Path.{sym, ◌∙◌, ap, subst}
 use Rattle.lp.specs.Outcome.{gain_order}
 use Rattle.lp.specs.Range.{SmallConstraint}

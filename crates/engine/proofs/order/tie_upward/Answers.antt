@@ -1,5 +1,4 @@
 -- `engine::order::tie_upward` meets its contract: upward by the tie alone.
-use borrow.Author.Rules.{rules}
 use mathlib.Core.Path.{sym, ◌∙◌}
 use mathlib.Core.List.{[], ◌∷◌}
 use Rattle.engine.proofs.Steps.{above-gains, above-loses, above-level, above-last}

@@ -1,5 +1,4 @@
 -- `engine::order::upward` meets its contract: upward by the objective, then by the tie.
-use borrow.Author.Rules.{rules}
 use mathlib.Core.Path.{sym, ◌∙◌}
 use Rattle.lp.specs.Outcome.{tie_order}
 use Rattle.engine.proofs.Steps.{above-gains, above-loses, above-level}

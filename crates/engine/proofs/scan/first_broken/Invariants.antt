@@ -1,8 +1,6 @@
 -- `engine::scan::first_broken` meets its contract: the first of n entries that a point breaks.
-use mathlib.Core.Path.{sym, ◌∙◌}
 use Prim.Native.Nat.{◌-◌}
-use native.Mathlib.Omega.{arith}
-use Rattle.engine.proofs.Passes.{Unbroken, unbroken_start, entry-room, checking, unbroken_step, unbroken_stop, unbroken_end}
+use Rattle.engine.proofs.Passes.{Unbroken}
 use Rattle.engine.proofs.scan.first_broken.Given as goal
 
 abbrev pub invariant-loop-i : goal.invariant-loop-i

@@ -1,5 +1,4 @@
 -- `engine::scan::tighter` meets its contract: entry m, at index i, is met along the line, and before the point held so far.
-use borrow.Author.Rules.{rules}
 use mathlib.Core.Path.{sym, ◌∙◌, ap}
 use lib.IntN.{pos}
 use lib.Signed.{lt_z}

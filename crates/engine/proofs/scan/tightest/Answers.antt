@@ -1,7 +1,6 @@
 -- `engine::scan::tightest` meets its contract: the tightest point on a line among the first n entries.
 use Prim.Native.Nat.{◌-◌}
-use native.Mathlib.Omega.{arith}
-use Rattle.engine.proofs.Passes.{Tightest, tightest-start, entry-room, tightening, tightest-step, tightest-end}
+use Rattle.engine.proofs.Passes.{tightest-start, entry-room, tightening, tightest-step, tightest-end}
 use Rattle.engine.proofs.scan.tightest.Goals as goal
 
 pub at_infinity-held-requires : goal.at_infinity-held-requires

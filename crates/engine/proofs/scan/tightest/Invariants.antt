@@ -1,7 +1,6 @@
 -- `engine::scan::tightest` meets its contract: the tightest point on a line among the first n entries.
 use Prim.Native.Nat.{◌-◌}
-use native.Mathlib.Omega.{arith}
-use Rattle.engine.proofs.Passes.{Tightest, tightest-start, entry-room, tightening, tightest-step, tightest-end}
+use Rattle.engine.proofs.Passes.{Tightest}
 use Rattle.engine.proofs.scan.tightest.Given as goal
 
 abbrev pub invariant-loop-i : goal.invariant-loop-i

@@ -1,6 +1,6 @@
 -- `engine::seeking::first_place` meets its contract: a place of the constraint, or none.
 use mathlib.Core.Path.{◌∙◌, sym}
-use Prim.Native.Nat.{◌+◌, ◌-◌, ◌<◌}
+use Prim.Native.Nat.{◌+◌, ◌-◌}
 use native.Mathlib.Omega.{arith}
 use Rattle.engine.proofs.Places.{sought-inner, sought-none}
 use Rattle.engine.proofs.Rows.{ring-place}

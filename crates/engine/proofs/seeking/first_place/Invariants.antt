@@ -1,9 +1,5 @@
 -- `engine::seeking::first_place` meets its contract: a place of the constraint, or none.
-use mathlib.Core.Path.{◌∙◌, sym}
-use Prim.Native.Nat.{◌+◌, ◌-◌, ◌<◌}
-use native.Mathlib.Omega.{arith}
-use Rattle.engine.proofs.Places.{sought-inner, sought-none}
-use Rattle.engine.proofs.Rows.{ring-place}
+use Prim.Native.Nat.{◌-◌, ◌<◌}
 use Rattle.engine.proofs.seeking.first_place.Given as goal
 
 abbrev pub invariant-loop-k : goal.invariant-loop-k

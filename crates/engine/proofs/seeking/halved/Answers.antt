@@ -1,5 +1,5 @@
 -- `engine::seeking::halved` meets its contract: an edge of the ring.
-use Prim.Native.Nat.{◌+◌, ◌-◌, ◌/◌, ◌≤◌, ◌<◌}
+use Prim.Native.Nat.{◌+◌, ◌-◌, ◌/◌}
 use native.Mathlib.Omega.{arith}
 use Rattle.engine.proofs.Rows.{at-point, meet-small, read_small, ring-at, ring-small}
 use Rattle.engine.proofs.seeking.halved.Goals as goal

@@ -1,7 +1,5 @@
 -- `engine::seeking::halved` meets its contract: an edge of the ring.
-use Prim.Native.Nat.{◌+◌, ◌-◌, ◌/◌, ◌≤◌, ◌<◌}
-use native.Mathlib.Omega.{arith}
-use Rattle.engine.proofs.Rows.{at-point, meet-small, read_small, ring-at, ring-small}
+use Prim.Native.Nat.{◌-◌, ◌≤◌, ◌<◌}
 use Rattle.engine.proofs.seeking.halved.Given as goal
 
 abbrev pub invariant-loop-from : goal.invariant-loop-from

@@ -1,5 +1,4 @@
 -- `engine::seeking::seek` meets its contract: a place of the constraint, or none.
-use borrow.Author.Rules.{rules}
 use mathlib.Core.Path.{◌∙◌, sym}
 use Prim.Native.Nat.{◌+◌, ◌-◌}
 use native.Mathlib.Omega.{arith}

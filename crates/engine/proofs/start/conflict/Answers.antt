@@ -1,5 +1,4 @@
 -- `engine::start::conflict` meets its contract: h at index n, k at j, which meets its line first, and m at i, which that point breaks.
-use borrow.Author.Rules.{rules}
 use mathlib.Core.Path.{sym, ◌∙◌, ap, subst}
 use Rattle.lp.specs.Outcome.{det}
 use Rattle.lp.specs.Range.{SmallConstraint}

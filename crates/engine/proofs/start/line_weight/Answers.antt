@@ -1,5 +1,4 @@
 -- `engine::start::line_weight` meets its contract: the weight of the rule whose line is walked as it stands or turned round.
-use borrow.Author.Rules.{rules}
 use mathlib.Core.Path.{sym, ◌∙◌, ap}
 use Rattle.model.specs.Step.{line_weight}
 use Rattle.fraction.proofs.Quotients.{unread}

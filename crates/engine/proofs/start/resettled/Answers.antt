@@ -1,5 +1,4 @@
 -- `engine::start::resettled` meets its contract: the tightest point on the line, if it keeps every entry.
-use borrow.Author.Rules.{rules}
 use mathlib.Core.Path.{sym, ◌∙◌}
 use Rattle.engine.proofs.Passes.{found-parts, broken-small}
 use Rattle.engine.proofs.start.resettled.Goals as goal

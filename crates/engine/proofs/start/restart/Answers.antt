@@ -1,5 +1,4 @@
 -- `engine::start::restart` meets its contract.
-use borrow.Author.Rules.{rules}
 use mathlib.Core.Path.{sym, ◌∙◌, subst}
 use Rattle.model.specs.Step.{restart}
 use Rattle.model.specs.Bounds.{SmallRay}

@@ -1,5 +1,4 @@
 -- `engine::start::start` meets its contract: the start point stays where it keeps the new constraint; no entry is looked at then.
-use borrow.Author.Rules.{rules}
 use Rattle.engine.proofs.start.start.Goals as goal
 
 pub returns-then-kept : goal.returns-then-kept

@@ -1,7 +1,6 @@
 -- `engine::turning::backwards` meets its contract: the ring is turned until edge k is its last.
-use borrow.Author.Rules.{rules}
 use native.Mathlib.Omega.{arith}
-use Rattle.engine.proofs.Turns.{Backed, backed_start, backed_room, backed_step, backed_end}
+use Rattle.engine.proofs.Turns.{backed_start, backed_room, backed_step, backed_end}
 use Rattle.engine.proofs.turning.backwards.Goals as goal
 
 pub overflow_add-end : goal.overflow_add-end

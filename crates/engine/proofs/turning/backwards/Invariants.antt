@@ -1,7 +1,5 @@
 -- `engine::turning::backwards` meets its contract: the ring is turned until edge k is its last.
-use borrow.Author.Rules.{rules}
-use native.Mathlib.Omega.{arith}
-use Rattle.engine.proofs.Turns.{Backed, backed_start, backed_room, backed_step, backed_end}
+use Rattle.engine.proofs.Turns.{Backed}
 use Rattle.engine.proofs.turning.backwards.Given as goal
 
 abbrev pub invariant-loop-at : goal.invariant-loop-at

@@ -1,8 +1,7 @@
 -- `engine::turning::forwards` meets its contract: the ring is turned until edge k is its last.
-use borrow.Author.Rules.{rules}
-use Prim.Native.Nat.{◌-◌, ◌+◌}
+use Prim.Native.Nat.{◌-◌}
 use native.Mathlib.Omega.{arith}
-use Rattle.engine.proofs.Turns.{Forth, forth_start, forth_room, forth_step, forth_end}
+use Rattle.engine.proofs.Turns.{forth_start, forth_room, forth_step, forth_end}
 use Rattle.engine.proofs.turning.forwards.Goals as goal
 
 pub overflow_add-end : goal.overflow_add-end

@@ -1,5 +1,4 @@
 -- `engine::verdict::said` meets its contract: the outcome of a feasible system.
-use borrow.Author.Rules.{rules}
 use mathlib.Core.Path.{sym, ◌∙◌}
 use Rattle.engine.proofs.verdict.said.Goals as goal
 

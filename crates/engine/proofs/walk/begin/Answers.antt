@@ -1,5 +1,4 @@
 -- `engine::walk::begin` meets its contract: before the first rule: the floors' corner, and the two axes.
-use borrow.Author.Rules.{rules}
 use Rattle.engine.proofs.Walks.{begun_open, begun-best}
 use Rattle.engine.proofs.walk.begin.Goals as goal
 

@@ -1,5 +1,4 @@
 -- `engine::walk::counted` meets its contract: one more, if so.
-use borrow.Author.Rules.{rules}
 use mathlib.Core.Path.{sym, ◌∙◌, ap}
 use Prim.Native.Nat.{◌+◌}
 use native.Mathlib.Nat.{add-zero}

@@ -1,5 +1,4 @@
 -- `engine::walk::step` meets its contract: what the walk holds after one more constraint h, at index n.
-use borrow.Author.Rules.{rules}
 use mathlib.Core.Path.{sym, subst}
 use Rattle.model.specs.Bounds.{SmallCone}
 use Rattle.model.proofs.Bounds.{narrow-small}

@@ -7,7 +7,7 @@ use Prim.Native.Nat.{◌+◌, ◌-◌}
 use native.Mathlib.Omega.{arith}
 use lib.Dec.{leb, ltb}
 use Rattle.amounts.proofs.Tests.{both}
-use Rattle.engine.proofs.Walks.{Walked, walked_start, walked-room, stepping, walked_step, walked_stop, answering, walked_end}
+use Rattle.engine.proofs.Walks.{walked_start, walked-room, stepping, walked_step, walked_stop, answering, walked_end}
 use Rattle.engine.proofs.Carried.{walked-carrying}
 use Rattle.engine.proofs.walk.walk_rules.Goals as goal
 

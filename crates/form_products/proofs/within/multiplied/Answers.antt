@@ -1,6 +1,5 @@
 -- `form_products::within::multiplied` meets its contract. The tests say which of the two is a constant.
 use mathlib.Core.Path.{sym, ◌∙◌}
-use borrow.Author.Rules.{rules}
 use Rattle.forms.specs.Value.{multiplied}
 use Rattle.forms.proofs.Values.{constant-is, same-value}
 use Rattle.form_products.proofs.within.multiplied.Goals as goal

@@ -1,5 +1,4 @@
 -- `form_products::within::scaled` meets its contract. Each number is that of the product, read back from its bits.
-use borrow.Author.Rules.{rules}
 use Rattle.forms.proofs.Values.{limited-form, form-is, cross-is, product_is}
 use Rattle.form_products.proofs.within.scaled.Goals as goal
 

@@ -1,5 +1,4 @@
 -- `form_sums::within::add_forms` meets its contract. Each number is that of the two, read back from its bits.
-use borrow.Author.Rules.{rules}
 use Rattle.forms.proofs.Values.{form-is, add_is}
 use Rattle.form_sums.proofs.within.add_forms.Goals as goal
 

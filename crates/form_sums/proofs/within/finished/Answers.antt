@@ -1,6 +1,5 @@
 -- `form_sums::within::finished` meets its contract. Two differences make up the written rule, whose numbers are tested.
 use mathlib.Core.Path.{ap}
-use borrow.Author.Rules.{rules}
 use Rattle.forms.specs.declared.Form.{Form}
 use Rattle.forms.proofs.Values.{less-is, written_is, final-yes, final_no}
 use Rattle.form_sums.proofs.within.finished.Goals as goal

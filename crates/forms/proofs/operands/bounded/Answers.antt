@@ -1,7 +1,6 @@
 -- `forms::operands::bounded` meets its contract. Three tests, of which the first that fails decides.
 use mathlib.Core.Path.{sym, ◌∙◌}
 use mathlib.Core.Bool.{◌&&◌}
-use borrow.Author.Rules.{rules}
 use Rattle.forms.specs.Value.{inside}
 use Rattle.forms.proofs.Values.{inside-read, and_last, and_first}
 use Rattle.forms.proofs.operands.bounded.Goals as goal

@@ -1,6 +1,5 @@
 -- `forms::operands::held` meets its contract. A form is tested, and a refusal goes through.
 use mathlib.Core.Path.{sym, ap}
-use borrow.Author.Rules.{rules}
 use Rattle.forms.specs.Value.{held}
 use Rattle.forms.proofs.Values.{same-value, refused}
 use Rattle.forms.proofs.operands.held.Goals as goal

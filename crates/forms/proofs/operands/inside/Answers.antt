@@ -1,6 +1,5 @@
 -- `forms::operands::inside` meets its contract.
 use Rattle.forms.proofs.Values.{inside_is}
-use borrow.Author.Rules.{rules}
 use Rattle.forms.proofs.operands.inside.Goals as goal
 
 pub returns : goal.returns

@@ -1,5 +1,4 @@
 -- `forms::operands::limited` meets its contract. The test picks the case.
-use borrow.Author.Rules.{rules}
 use Rattle.forms.proofs.Values.{limited-yes, limited_no}
 use Rattle.forms.proofs.operands.limited.Goals as goal
 

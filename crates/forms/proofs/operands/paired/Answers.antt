@@ -1,6 +1,5 @@
 -- `forms::operands::paired` meets its contract. A refusal goes through, the left one's first.
 use mathlib.Core.Path.{sym, ◌∙◌}
-use borrow.Author.Rules.{rules}
 use Rattle.forms.proofs.Values.{small-form}
 use Rattle.forms.proofs.operands.paired.Goals as goal
 

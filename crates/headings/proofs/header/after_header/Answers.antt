@@ -1,5 +1,4 @@
 -- `headings::header::after_header` meets its contract: the division is by the version's width.
-use borrow.Author.Rules.{rules}
 use Rattle.headings.proofs.header.after_header.Goals as goal
 
 pub returns-in-One : goal.returns-in-One

@@ -1,5 +1,4 @@
 -- `headings::header::bad_length` meets its contract: the numbers are the version's.
-use borrow.Author.Rules.{rules}
 use Rattle.headings.proofs.header.bad_length.Goals as goal
 
 pub returns-in-One : goal.returns-in-One

@@ -1,13 +1,9 @@
 -- `headings::header::fault` meets its contract: each way out is one case of `header_fault`, in the order of the table.
-use Prim.Native.Nat.{◌-◌, ◌/◌}
+use Prim.Native.Nat.{◌-◌}
 use mathlib.Core.Path.{◌≡◌, ap, sym, ◌∙◌}
-use mathlib.Core.Bool.{false}
-use lib.ListN.{length}
 use mir.Syntax.{w16}
 use mir.Val.{to_z, of_z}
-use Rattle.records.specs.Layout.{layout_of, width}
 use Rattle.records.specs.Record.{is_least}
-use Rattle.records.specs.Header.{bad_length}
 use Rattle.headings.proofs.HeaderTests.{wrong-length, other-version, set-padding, other-count, least-p, least-q, set-tail, no_fault}
 use borrow.Author.Rules.{rules}
 use Rattle.headings.proofs.header.fault.Goals as goal

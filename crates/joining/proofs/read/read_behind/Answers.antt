@@ -1,8 +1,5 @@
 use borrow.Author.Rules.{rules}
 use Rattle.joining.proofs.Behind.{reads-behind}
-use Rattle.joining.proofs.read.read_behind.Reads as reads
-use Rattle.joining.proofs.read.read_behind.Lts as lts
-use Rattle.reading.proofs.read.Reads as read-reads
 use Rattle.joining.proofs.read.read_behind.Goals as goal
 
 -- src/read.rt:17:18

@@ -1,5 +1,4 @@
 -- `joining::read::read_both` meets its contract: the tenant's chain stands behind the site's (`reads_both`).
-use borrow.Author.Rules.{rules}
 use Rattle.joining.proofs.Both.{behind-site, reads_both}
 use Rattle.joining.proofs.read.read_both.Goals as goal
 

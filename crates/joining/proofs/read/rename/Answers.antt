@@ -1,10 +1,8 @@
 -- `joining::read::rename` meets its contract: the loop's invariant is `Halfway`.
 use native.Mathlib.Omega.{arith}
-use Prim.Native.Nat.{◌+◌, ◌-◌, ◌≤◌}
-use mathlib.Core.Path.{◌≡◌, refl}
-use lib.ListN.{length}
-use Rattle.joining.specs.Running.{Renaming}
-use Rattle.joining.proofs.Renames.{Halfway, halfway_start, halfway_step, halfway_end}
+use Prim.Native.Nat.{◌-◌}
+use mathlib.Core.Path.{refl}
+use Rattle.joining.proofs.Renames.{halfway_start, halfway_step, halfway_end}
 use Rattle.joining.proofs.read.rename.Goals as goal
 
 pub overflow_add-end : goal.overflow_add-end

@@ -1,10 +1,8 @@
 -- `joining::read::rename` meets its contract: the loop's invariant is `Halfway`.
-use native.Mathlib.Omega.{arith}
 use Prim.Native.Nat.{◌+◌, ◌-◌, ◌≤◌}
-use mathlib.Core.Path.{◌≡◌, refl}
-use lib.ListN.{length}
+use mathlib.Core.Path.{◌≡◌}
 use Rattle.joining.specs.Running.{Renaming}
-use Rattle.joining.proofs.Renames.{Halfway, halfway_start, halfway_step, halfway_end}
+use Rattle.joining.proofs.Renames.{Halfway}
 use Rattle.joining.proofs.read.rename.Given as goal
 
 abbrev pub invariant-loop-i : goal.invariant-loop-i

@@ -2,7 +2,6 @@
 use native.Mathlib.Omega.{arith}
 use mathlib.Core.Path.{sym, ap, ◌∙◌}
 use Prim.Native.Nat.{◌+◌}
-use borrow.Author.Rules.{rules}
 use Rattle.lp.specs.declared.Terms.{Terms}
 use Rattle.engine.specs.Solving.{solved_of}
 use Rattle.joining.proofs.Joins.{site-turned, tenant-turned, rules-few, renames, never-outside, joined-planned}

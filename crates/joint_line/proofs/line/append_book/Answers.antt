@@ -1,7 +1,6 @@
 -- `joint_line::line::append_book` meets its contract.
 use native.Mathlib.Omega.{arith}
 use mathlib.Core.Path.{sym, ap}
-use borrow.Author.Rules.{rules}
 use Rattle.text.proofs.Put.{roomier, spelt}
 use Rattle.joint_line.specs.JointLine.{book_name}
 use Rattle.joint_line.proofs.line.append_book.Goals as goal

@@ -1,6 +1,5 @@
 -- `joint_line::line::append_turned` meets its contract. The word, the book's name and two numbers in turn.
 use native.Mathlib.Omega.{arith}
-use borrow.Author.Rules.{rules}
 use Rattle.text.proofs.Put.{followed}
 use Rattle.joint_line.specs.JointLine.{turned}
 use Rattle.joint_line.proofs.line.append_turned.Goals as goal

@@ -2,7 +2,6 @@
 use mathlib.Core.Path.{sym, ◌∙◌}
 use Rattle.records.specs.Layout.{layout_of}
 use Rattle.book.proofs.Leading.{again-passed, again-other}
-use borrow.Author.Rules.{rules}
 use Rattle.judging.proofs.again.again.Goals as goal
 
 pub returns-then-passed : goal.returns-then-passed

@@ -1,12 +1,8 @@
 -- `judging::again::passed` meets its contract: after k turns it stands at the record that k links lead to, and has compared those on the way.
-use native.Mathlib.Omega.{arith}
 use Prim.Native.Nat.{◌-◌, ◌≤◌}
-use mathlib.Core.Path.{◌≡◌, refl, ap, ◌∙◌}
+use mathlib.Core.Path.{◌≡◌}
 use Rattle.records.specs.Layout.{layout_of}
-use Rattle.records.specs.declared.fields.Fields.{Fields}
 use Rattle.book.specs.Judging.{record_after, is_passed}
-use Rattle.book.proofs.Leading.{after_more, passed-more}
-use borrow.Author.Rules.{rules}
 use Rattle.judging.proofs.again.passed.Given as goal
 
 abbrev pub invariant-loop-k : goal.invariant-loop-k

@@ -1,6 +1,5 @@
 -- `judging::tables::note` meets its contract: a bit that is not set is added, and the word keeps to its 64 bits. A number beyond the table
 -- has no bit.
-use borrow.Author.Rules.{rules}
 use native.Mathlib.Omega.{arith}
 use Prim.Native.Nat.{ℕ, ◌+◌, ◌/◌, ◌%◌, ◌^◌, ◌<◌}
 use mathlib.Core.Path.{sym, ap, subst⁻¹}

@@ -1,6 +1,5 @@
 -- `judging::tables::noted` meets its contract: the shift is a division by the bit's power of two, and a number beyond the table was not
 -- noted.
-use borrow.Author.Rules.{rules}
 use mathlib.Core.Path.{refl, sym}
 use Rattle.book.specs.Tables.{is_noted}
 use Rattle.book.proofs.TableLaws.{noted-out}

@@ -1,9 +1,8 @@
 -- `laying::order::count_rules` meets its contract: after i turns the first i places count from 2 on.
-use borrow.Author.Rules.{rules}
 use native.Mathlib.Omega.{arith}
-use Prim.Native.Nat.{◌-◌, ◌+◌, ◌≤◌}
+use Prim.Native.Nat.{◌-◌, ◌+◌}
 use mathlib.Core.Path.{◌≡◌, refl, sym, ap, ◌∙◌}
-use lib.ListN.{length, length-set, take}
+use lib.ListN.{length, length-set}
 use lib.Seq.{take_all}
 use Rattle.region.proofs.Theorems.{places}
 use Rattle.laying.proofs.Orders.{counted-rules}

@@ -1,12 +1,8 @@
 -- `laying::order::count_rules` meets its contract: after i turns the first i places count from 2 on.
-use borrow.Author.Rules.{rules}
-use native.Mathlib.Omega.{arith}
-use Prim.Native.Nat.{◌-◌, ◌+◌, ◌≤◌}
-use mathlib.Core.Path.{◌≡◌, refl, sym, ap, ◌∙◌}
-use lib.ListN.{length, length-set, take}
-use lib.Seq.{take_all}
+use Prim.Native.Nat.{◌-◌, ◌≤◌}
+use mathlib.Core.Path.{◌≡◌}
+use lib.ListN.{length, take}
 use Rattle.region.proofs.Theorems.{places}
-use Rattle.laying.proofs.Orders.{counted-rules}
 use Rattle.laying.proofs.order.count_rules.Given as goal
 
 abbrev pub invariant-loop-i : goal.invariant-loop-i

@@ -1,5 +1,4 @@
 -- `laying::order::frame` meets its contract: nothing leaves 64 bits.
-use borrow.Author.Rules.{rules}
 use Rattle.ints.proofs.Machine.{sizes}
 use Rattle.region.proofs.Meets.{size-c-first, size-c-second}
 use Rattle.laying.proofs.order.frame.Goals as goal

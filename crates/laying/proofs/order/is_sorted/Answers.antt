@@ -1,5 +1,4 @@
 -- `laying::order::is_sorted` meets its contract: whatever the sample comes to, the rules stay.
-use borrow.Author.Rules.{rules}
 use mathlib.Core.Path.{refl}
 use lib.ListN.{length}
 use Rattle.laying.specs.Asked.{untouched}

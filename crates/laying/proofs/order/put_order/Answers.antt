@@ -1,5 +1,4 @@
 -- `laying::order::put_order` meets its contract: sorting keeps the members.
-use borrow.Author.Rules.{rules}
 use native.Mathlib.Omega.{arith}
 use mathlib.Core.Path.{ap, ◌∙◌}
 use lib.ListN.{length}

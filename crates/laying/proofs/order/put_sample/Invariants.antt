@@ -1,8 +1,7 @@
 -- `laying::order::put_sample` meets its contract: no more rules are taken than there are.
-use native.Mathlib.Omega.{arith}
 use Prim.Native.Nat.{◌-◌, ◌+◌, ◌/◌, ◌≤◌}
-use mathlib.Core.Path.{◌≡◌, refl, ◌∙◌}
-use lib.ListN.{length, length-set}
+use mathlib.Core.Path.{◌≡◌}
+use lib.ListN.{length}
 use Rattle.laying.proofs.order.put_sample.Given as goal
 
 abbrev pub invariant-loop-at : goal.invariant-loop-at

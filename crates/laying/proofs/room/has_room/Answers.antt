@@ -1,5 +1,4 @@
 -- `laying::room::has_room` meets its contract.
-use borrow.Author.Rules.{rules}
 use borrow.Author.Tests.{le-leb, lt-leb}
 use Rattle.laying.proofs.room.has_room.Goals as goal
 

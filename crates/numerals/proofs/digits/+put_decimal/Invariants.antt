@@ -1,6 +1,4 @@
-use Rattle.std.proofs.Common.{[], ◌∷◌, length, ◌≡◌, ℕ, ◌+◌, ◌-◌, ◌*◌, ◌<◌, ◌≤◌}
-use Rattle.text.specs.Number.{two_digits, decimal}
-use Rattle.text.specs.Append.{HasRoom, HasRoomForTwo, Appended}
+use Rattle.std.proofs.Common.{◌-◌}
 use Rattle.numerals.proofs.digits.+put_decimal.Given as goal
 
 -- proposed from what the function passes where it calls itself

@@ -1,5 +1,4 @@
 -- `numerals::digits::append_two` meets its contract. Two digits in turn.
-use borrow.Author.Rules.{rules}
 use Rattle.text.proofs.Put.{followed}
 use Rattle.numerals.proofs.digits.append_two.Goals as goal
 

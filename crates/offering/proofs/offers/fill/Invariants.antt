@@ -1,19 +1,13 @@
 -- `offering::offers::fill` meets its contract: after i turns the first i answers are written (`one_more`).
-use native.Mathlib.Omega.{arith}
-use Prim.Native.Nat.{◌+◌, ◌-◌, ◌*◌, ◌/◌, ◌≤◌}
-use mathlib.Core.Path.{◌≡◌, refl, sym, ap, ◌∙◌, subst}
-use mathlib.Core.List.{◌++◌}
-use lib.ListN.{length, drop}
-use lib.Seq.{paste, paste-zero}
+use Prim.Native.Nat.{◌-◌, ◌*◌, ◌/◌, ◌≤◌}
+use mathlib.Core.Path.{◌≡◌}
+use lib.ListN.{length}
+use lib.Seq.{paste}
 use Rattle.lp.specs.Outcome.{tie_order}
 use Rattle.lp.specs.Document as document
-use Rattle.lp.specs.Range.{SmallFunctional}
 use Rattle.objectives.specs.Objectives.{objectives_of}
 use Rattle.offering.specs.Listed.{points_from, first_by, offer_in, answers_by}
 use Rattle.offering.specs.Asked.{Filling}
-use Rattle.objectives.proofs.Sound.{objective-there, objective-small, whole-objectives}
-use Rattle.offering.proofs.Written.{one_more, all-written}
-use Rattle.offering.proofs.Orders.{idle-small, idle-first}
 use Rattle.offering.proofs.offers.fill.Given as goal
 
 abbrev pub invariant-loop-i : goal.invariant-loop-i

@@ -1,5 +1,4 @@
 -- `offering::offers::offered` meets its contract: no corner, a ray that gains, or the best corner.
-use borrow.Author.Rules.{rules}
 use native.Mathlib.Omega.{arith}
 use Rattle.offering.proofs.Planned.{offer-none, offer-unlimited, offer-best}
 use Rattle.offering.proofs.offers.offered.Goals as goal

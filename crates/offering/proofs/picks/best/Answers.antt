@@ -5,7 +5,7 @@ use native.Mathlib.Omega.{arith}
 use Rattle.lp.specs.Outcome.{gain_order}
 use Rattle.lp.specs.Document as document
 use Rattle.model.specs.Bounds.{SmallPoint}
-use Rattle.offering.proofs.Passes.{point-room, Picked, picked-start, picked-step, picked-end, none-picked}
+use Rattle.offering.proofs.Passes.{point-room, picked-start, picked-step, picked-end, none-picked}
 use Rattle.offering.proofs.picks.best.Goals as goal
 
 pub returns-then-count-eq0 : goal.returns-then-count-eq0

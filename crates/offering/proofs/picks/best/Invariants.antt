@@ -1,11 +1,8 @@
 -- `offering::picks::best` meets its contract: one pass over the listed corners.
 use Prim.Native.Nat.{◌-◌}
-use mathlib.Core.Path.{sym, subst}
-use native.Mathlib.Omega.{arith}
 use Rattle.lp.specs.Outcome.{gain_order}
 use Rattle.lp.specs.Document as document
-use Rattle.model.specs.Bounds.{SmallPoint}
-use Rattle.offering.proofs.Passes.{point-room, Picked, picked-start, picked-step, picked-end, none-picked}
+use Rattle.offering.proofs.Passes.{Picked}
 use Rattle.offering.proofs.picks.best.Given as goal
 
 abbrev pub invariant-loop-i : goal.invariant-loop-i

@@ -1,5 +1,4 @@
 -- `offering::picks::chosen` meets its contract: w if it goes before v.
-use borrow.Author.Rules.{rules}
 use mathlib.Core.Path.{sym, ◌∙◌, ap}
 use mathlib.Core.Bool.{true, false}
 use Rattle.offering.proofs.picks.chosen.Goals as goal

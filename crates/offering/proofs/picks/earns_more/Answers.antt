@@ -1,5 +1,4 @@
 -- `offering::picks::earns_more` meets its contract: fractions are compared.
-use borrow.Author.Rules.{rules}
 use Rattle.offering.proofs.Sizes.{weighed}
 use Rattle.offering.proofs.picks.earns_more.Goals as goal
 

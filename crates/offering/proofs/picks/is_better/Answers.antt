@@ -1,5 +1,4 @@
 -- `offering::picks::is_better` meets its contract: the objective decides, or else the tie.
-use borrow.Author.Rules.{rules}
 use Rattle.lp.specs.Outcome.{tie_order}
 use Rattle.lp.specs.Document as document
 use Rattle.offering.proofs.Orders.{more-first, less-last, level-next}

@@ -1,5 +1,4 @@
 -- `offering::rays::narrow` meets its contract.
-use borrow.Author.Rules.{rules}
 use mathlib.Core.Path.{sym, ◌∙◌}
 use Rattle.engine.proofs.Steps.{cone_rays}
 use Rattle.offering.proofs.rays.narrow.Goals as goal

@@ -1,7 +1,7 @@
 -- `offering::rays::rays` meets its contract: each rule in turn narrows the quadrant.
-use Prim.Native.Nat.{◌+◌, ◌-◌}
+use Prim.Native.Nat.{◌-◌}
 use native.Mathlib.Omega.{arith}
-use Rattle.offering.proofs.Passes.{Narrowed, narrowed-start, narrowed-room, narrowing, narrowed-step, narrowed-end}
+use Rattle.offering.proofs.Passes.{narrowed-start, narrowed-room, narrowing, narrowed-step, narrowed-end}
 use Rattle.offering.proofs.rays.rays.Goals as goal
 
 pub overflow_add-end : goal.overflow_add-end

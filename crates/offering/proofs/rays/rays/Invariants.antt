@@ -1,7 +1,6 @@
 -- `offering::rays::rays` meets its contract: each rule in turn narrows the quadrant.
 use Prim.Native.Nat.{◌+◌, ◌-◌}
-use native.Mathlib.Omega.{arith}
-use Rattle.offering.proofs.Passes.{Narrowed, narrowed-start, narrowed-room, narrowing, narrowed-step, narrowed-end}
+use Rattle.offering.proofs.Passes.{Narrowed}
 use Rattle.offering.proofs.rays.rays.Given as goal
 
 abbrev pub invariant-loop-i : goal.invariant-loop-i

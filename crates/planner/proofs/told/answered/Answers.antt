@@ -1,8 +1,6 @@
 -- `planner::told::answered` meets its contract: a plan where nothing is turned back, else the refusal.
 use mathlib.Core.Path.{sym, ap, ◌∙◌}
 use mathlib.Core.Bool.{Bool, cond}
-use lib.Dec.{eqb}
-use borrow.Author.Rules.{rules}
 use borrow.Author.Tests.{eq-eqb, ne_eqb}
 use Rattle.answers.specs.declared.Answer.TheVariants.{Refused, Planned}
 use Rattle.plans.specs.Planning.{plan_of}

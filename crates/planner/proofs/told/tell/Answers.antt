@@ -1,6 +1,5 @@
 -- `planner::told::tell` meets its contract: by its length a book has no more rules than the runs have room for.
 use native.Mathlib.Omega.{arith}
-use borrow.Author.Rules.{rules}
 use Rattle.planner.proofs.Classes.{short-width, few-by-length}
 use Rattle.planner.proofs.told.tell.Goals as goal
 

@@ -1,6 +1,5 @@
 -- `planner::told::tell_few` meets its contract: by its length a short book has no more rules than the short runs have room for.
 use native.Mathlib.Omega.{arith}
-use borrow.Author.Rules.{rules}
 use Rattle.planner.proofs.Classes.{short-width, few-by-length}
 use Rattle.planner.proofs.told.tell_few.Goals as goal
 

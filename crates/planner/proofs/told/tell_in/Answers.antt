@@ -1,7 +1,6 @@
 -- `planner::told::tell_in` meets its contract: the answer, the view and the panel of one run.
 use mathlib.Core.Path.{sym}
 use lib.Seq.{length-take-le}
-use borrow.Author.Rules.{rules}
 use Rattle.records.specs.Layout.{layout_of}
 use Rattle.planner.proofs.Runs.{runs_by}
 use Rattle.planner.proofs.Tellings.{run-noted, told-shown, told_unshown}

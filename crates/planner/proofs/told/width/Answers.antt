@@ -1,6 +1,5 @@
 -- `planner::told::width` meets its contract: the bytes of a record of the version.
 use mathlib.Core.Path.{sym, ap}
-use borrow.Author.Rules.{rules}
 use Rattle.records.specs.declared.Version.{Version}
 use Rattle.records.specs.Layout.{layout_of, width}
 use Rattle.planner.proofs.told.width.Goals as goal

@@ -1,7 +1,6 @@
 -- `reading::put::put_record` meets its contract: beyond the run nothing is set.
 use mathlib.Core.Path.{sym}
 use lib.Seq.{set_out}
-use borrow.Author.Rules.{rules}
 use Rattle.reading.proofs.put.put_record.Goals as goal
 
 pub returns-else-k-run : goal.returns-else-k-run

@@ -1,17 +1,7 @@
 -- `reading::walk::walk` meets its contract: the loop's invariant is `Underway`. The measure is the records that are not visited.
-use native.Mathlib.Omega.{arith}
-use Prim.Native.Nat.{◌-◌, ◌<◌}
-use mathlib.Core.Path.{◌≡◌, ap, ◌∙◌}
-use Rattle.records.specs.declared.Heading.{Heading}
+use Prim.Native.Nat.{◌-◌}
 use Rattle.records.specs.Layout.{layout_of}
-use Rattle.records.specs.Number.{Bytes}
-use Rattle.records.specs.Header.{count_of}
-use Rattle.book.specs.declared.Judged.{Judged}
-use Rattle.book.specs.Runs.{put_entry}
-use Rattle.book.specs.Judging.{labels_after}
-use Rattle.book.proofs.Leading.{NewRule, Leads, leads-to}
-use Rattle.book.proofs.Underway.{Underway, few-records, starts, finished, same-indices, same-rules, chain-ends, chain_length, more_room, count-few, steps}
-use borrow.Author.Rules.{rules}
+use Rattle.book.proofs.Underway.{Underway}
 use Rattle.reading.proofs.walk.walk.Given as goal
 
 abbrev pub invariant-loop-link : goal.invariant-loop-link

@@ -1,5 +1,4 @@
 -- `records::bytes::byte_at` meets its contract: past the end the list gives zero, as the code does.
-use borrow.Author.Rules.{rules}
 use mathlib.Core.Path.{sym}
 use lib.ListN.{get_or-eq_default}
 use Rattle.records.proofs.bytes.byte_at.Goals as goal

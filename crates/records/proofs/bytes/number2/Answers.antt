@@ -1,7 +1,6 @@
 -- `records::bytes::number2` meets its contract: two bytes make the number of two bytes (`two_bytes`).
 use mathlib.Core.Path.{◌∙◌}
 use Rattle.records.proofs.Numbers.{two_bytes}
-use borrow.Author.Rules.{rules}
 use Rattle.records.proofs.bytes.number2.Goals as goal
 
 pub returns : goal.returns

@@ -1,7 +1,6 @@
 -- `records::bytes::number4` meets its contract: four bytes make the number of four bytes (`four_bytes`).
 use mathlib.Core.Path.{◌∙◌}
 use Rattle.records.proofs.Numbers.{four_bytes}
-use borrow.Author.Rules.{rules}
 use Rattle.records.proofs.bytes.number4.Goals as goal
 
 pub returns : goal.returns

@@ -1,8 +1,8 @@
 -- `records::bytes::window` meets its contract: after i turns the first i bytes are copied.
 use native.Mathlib.Omega.{arith}
-use Prim.Native.Nat.{ℕ, ◌+◌, ◌-◌, ◌≤◌, ◌<◌, ◌^◌}
-use mathlib.Core.Path.{◌≡◌, ◌∙◌}
-use lib.ListN.{length, length-set, get_or, set}
+use Prim.Native.Nat.{◌-◌}
+use mathlib.Core.Path.{◌∙◌}
+use lib.ListN.{length-set}
 use Rattle.records.proofs.Offsets.{copied_more}
 use borrow.Author.Rules.{rules}
 use Rattle.records.proofs.bytes.window.Goals as goal

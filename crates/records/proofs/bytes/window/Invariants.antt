@@ -1,10 +1,7 @@
 -- `records::bytes::window` meets its contract: after i turns the first i bytes are copied.
-use native.Mathlib.Omega.{arith}
 use Prim.Native.Nat.{ℕ, ◌+◌, ◌-◌, ◌≤◌, ◌<◌, ◌^◌}
-use mathlib.Core.Path.{◌≡◌, ◌∙◌}
-use lib.ListN.{length, length-set, get_or, set}
-use Rattle.records.proofs.Offsets.{copied_more}
-use borrow.Author.Rules.{rules}
+use mathlib.Core.Path.{◌≡◌}
+use lib.ListN.{length, get_or}
 use Rattle.records.proofs.bytes.window.Given as goal
 
 abbrev pub invariant-loop-i : goal.invariant-loop-i

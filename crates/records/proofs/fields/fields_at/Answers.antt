@@ -1,6 +1,5 @@
 -- `records::fields::fields_at` meets its contract: both ways of reading fields say the same.
 use mathlib.Core.Path.{sym, ◌∙◌}
-use borrow.Author.Rules.{rules}
 use Rattle.records.proofs.fields.fields_at.Goals as goal
 
 pub fields_inside-requires : goal.fields_inside-requires

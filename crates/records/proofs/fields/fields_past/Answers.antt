@@ -1,7 +1,6 @@
 -- `records::fields::fields_past` meets its contract: a copy with zeros for what is missing has the same fields.
 use mathlib.Core.Path.{◌∙◌}
 use lib.Dec.{lit≤}
-use borrow.Author.Rules.{rules}
 use Rattle.records.specs.Layout.{v1, v2}
 use Rattle.records.specs.Record.{record_at}
 use Rattle.records.proofs.Offsets.{fields_copied}

@@ -1,6 +1,5 @@
 -- `records::fields::is_inside` meets its contract: the record's end is compared with the book's.
 use mathlib.Core.Path.{refl}
-use borrow.Author.Rules.{rules}
 use Rattle.records.proofs.fields.is_inside.Goals as goal
 
 pub returns-in-One : goal.returns-in-One

@@ -1,7 +1,6 @@
 -- `records::layouts::fields_inside` meets its contract: the bytes that each version's fields take are there.
 use mathlib.Core.Path.{◌≡◌, subst}
 use mathlib.Core.Bool.{true}
-use borrow.Author.Rules.{rules}
 use borrow.Author.Tests.{leb-true}
 use Rattle.records.specs.declared.Version.{Version}
 use Rattle.records.specs.Layout.{layout_of}

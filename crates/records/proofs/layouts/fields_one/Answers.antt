@@ -4,7 +4,6 @@ use mathlib.Core.Path.{sym}
 use Rattle.records.specs.Layout.{v1}
 use Rattle.records.proofs.Numbers.{one_byte, number-none}
 use Rattle.records.proofs.Offsets.{fields_read}
-use borrow.Author.Rules.{rules}
 use Rattle.records.proofs.layouts.fields_one.Goals as goal
 
 pub overflow_cast-result : goal.overflow_cast-result

@@ -2,7 +2,6 @@
 use Rattle.records.specs.Layout.{v2}
 use Rattle.records.proofs.Numbers.{one_byte}
 use Rattle.records.proofs.Offsets.{fields_read}
-use borrow.Author.Rules.{rules}
 use Rattle.records.proofs.layouts.fields_two.Goals as goal
 
 pub returns : goal.returns

@@ -1,5 +1,4 @@
 -- `region::edges::at_place` meets its contract.
-use borrow.Author.Rules.{rules}
 use mathlib.Core.Path.{◌∙◌, sym, ap}
 use mathlib.Core.Bool.{◌&&◌}
 use Rattle.boundary.specs.Ring.{keeps_at}

@@ -1,5 +1,4 @@
 -- `region::edges::corner_keeps` meets its contract.
-use borrow.Author.Rules.{rules}
 use mathlib.Core.Path.{◌∙◌, ap₂}
 use Rattle.boundary.specs.Ring.{keeps_at}
 use Rattle.region.proofs.Meets.{meeting-read}

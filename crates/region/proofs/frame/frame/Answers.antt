@@ -1,6 +1,5 @@
 -- `region::frame::frame` meets its contract: the floors before the rules, and the horizon after them.
 use mathlib.Core.Path.{◌∙◌}
-use borrow.Author.Rules.{rules}
 use native.Mathlib.Omega.{arith}
 use Rattle.engine.proofs.Tests.{floors-laid}
 use Rattle.region.proofs.Frames.{framed-by}

@@ -1,5 +1,4 @@
 -- `region::frame::put_entry` meets its contract.
-use borrow.Author.Rules.{rules}
 use native.Mathlib.Omega.{arith}
 use lib.ListN.{length-set}
 use Rattle.region.proofs.frame.put_entry.Goals as goal

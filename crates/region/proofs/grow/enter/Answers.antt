@@ -1,9 +1,6 @@
 -- `region::grow::enter` meets its contract: the entries that the order names enter the ring.
-use borrow.Author.Rules.{rules}
 use Prim.Native.Nat.{◌-◌}
-use native.Mathlib.Omega.{arith}
-use lib.ListN.{length}
-use Rattle.region.proofs.Growth.{Enter, enter-start, enter_inserting, enter_step, enter-end}
+use Rattle.region.proofs.Growth.{enter-start, enter_inserting, enter_step, enter-end}
 use Rattle.region.proofs.grow.enter.Goals as goal
 
 pub loop-i-init : goal.loop-i-init

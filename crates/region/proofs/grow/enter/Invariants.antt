@@ -1,9 +1,7 @@
 -- `region::grow::enter` meets its contract: the entries that the order names enter the ring.
-use borrow.Author.Rules.{rules}
 use Prim.Native.Nat.{◌-◌}
-use native.Mathlib.Omega.{arith}
 use lib.ListN.{length}
-use Rattle.region.proofs.Growth.{Enter, enter-start, enter_inserting, enter_step, enter-end}
+use Rattle.region.proofs.Growth.{Enter}
 use Rattle.region.proofs.grow.enter.Given as goal
 
 abbrev pub invariant-loop-i : goal.invariant-loop-i

@@ -1,5 +1,4 @@
 -- `region::grow::grow` meets its contract: the ring of the rules that the order names.
-use borrow.Author.Rules.{rules}
 use native.Mathlib.Omega.{arith}
 use lib.ListN.{length-set}
 use mathlib.Core.Path.{◌∙◌}

@@ -1,7 +1,7 @@
 -- `region::insert::back` meets its contract: the edges at the back are dropped whose earlier corner is broken.
 use mathlib.Core.Path.{sym, ◌∙◌}
 use native.Mathlib.Omega.{arith}
-use Rattle.region.proofs.Loops.{Back, back_start, back-pair, back-stop, back_step, back_end}
+use Rattle.region.proofs.Loops.{back_start, back-pair, back-stop, back_step, back_end}
 use Rattle.region.proofs.insert.back.Goals as goal
 
 pub loop-k-init : goal.loop-k-init

@@ -1,5 +1,4 @@
 -- `region::insert::cut` meets its contract: both ends are cut, and the new edge is put before what is left.
-use borrow.Author.Rules.{rules}
 use Rattle.region.proofs.Cuts.{cut-none, cut-cutting, cut-put}
 use Rattle.region.proofs.insert.cut.Goals as goal
 

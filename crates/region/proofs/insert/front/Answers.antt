@@ -2,7 +2,7 @@
 use mathlib.Core.Path.{sym, ◌∙◌}
 use Prim.Native.Nat.{◌-◌}
 use native.Mathlib.Omega.{arith}
-use Rattle.region.proofs.Loops.{Front, front-start, front-pair, front-stop, front-step, front-end}
+use Rattle.region.proofs.Loops.{front-start, front-pair, front-stop, front-step, front-end}
 use Rattle.region.proofs.insert.front.Goals as goal
 
 pub loop-i-init : goal.loop-i-init

@@ -1,5 +1,4 @@
 -- `region::insert::insert` meets its contract: a constraint enters the ring.
-use borrow.Author.Rules.{rules}
 use Rattle.region.proofs.Cuts.{insert-few, insert-seeking, insert-pair, insert-kept, insert_putting, insert-cut}
 use Rattle.region.proofs.insert.insert.Goals as goal
 

@@ -1,7 +1,5 @@
 -- `region::insert::seek` meets its contract: the ring is turned to the place of a constraint.
-use mathlib.Core.Path.{sym, ◌∙◌}
-use native.Mathlib.Omega.{arith}
-use Rattle.region.proofs.Loops.{Seek, seek-start, seek-place, seek-turning, seek_stop, seek-step, seek-end}
+use Rattle.region.proofs.Loops.{Seek}
 use Rattle.region.proofs.insert.seek.Given as goal
 
 abbrev pub invariant-loop-left : goal.invariant-loop-left

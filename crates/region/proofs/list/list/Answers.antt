@@ -3,8 +3,7 @@ use mathlib.Core.Path.{◌∙◌}
 use Prim.Native.Nat.{◌+◌, ◌-◌}
 use native.Mathlib.Omega.{arith}
 use Rattle.region.proofs.Rows.{ring-at}
-use Rattle.region.proofs.Cuts.{arc}
-use Rattle.region.proofs.Listings.{Walk, list-none, walk_start, walk_at, walk-noting, walk_step, walk-last, walk_first}
+use Rattle.region.proofs.Listings.{list-none, walk_start, walk_at, walk-noting, walk_step, walk-last, walk_first}
 use Rattle.region.proofs.Listings.{walk-closing, walk_end}
 use Rattle.region.proofs.list.list.Goals as goal
 

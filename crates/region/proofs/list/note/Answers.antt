@@ -1,5 +1,4 @@
 -- `region::list::note` meets its contract: one corner, if it is a point.
-use borrow.Author.Rules.{rules}
 use mathlib.Core.Path.{sym, ◌∙◌, ap}
 use lib.IntN.{pos}
 use lib.Signed.{lt_z}

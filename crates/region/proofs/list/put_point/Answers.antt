@@ -1,5 +1,4 @@
 -- `region::list::put_point` meets its contract.
-use borrow.Author.Rules.{rules}
 use native.Mathlib.Omega.{arith}
 use lib.ListN.{length-set}
 use Rattle.region.proofs.list.put_point.Goals as goal

@@ -1,5 +1,4 @@
 -- `region::range::floors_in_range` meets its contract.
-use borrow.Author.Rules.{rules}
 use mathlib.Core.Bool.{◌&&◌}
 use Rattle.amounts.proofs.Tests.{passed}
 use Rattle.region.proofs.range.floors_in_range.Goals as goal

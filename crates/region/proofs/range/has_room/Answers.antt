@@ -1,5 +1,4 @@
 -- `region::range::has_room` meets its contract.
-use borrow.Author.Rules.{rules}
 use native.Mathlib.Omega.{arith}
 use Rattle.region.proofs.Testing.{out-room, room-few, room-run, room-ring, room_out}
 use Rattle.region.proofs.range.has_room.Goals as goal

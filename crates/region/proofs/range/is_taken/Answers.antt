@@ -1,5 +1,4 @@
 -- `region::range::is_taken` meets its contract.
-use borrow.Author.Rules.{rules}
 use Rattle.region.proofs.Testing.{taken_no_room, taken_testing, taken_no_floors, taken_no_rules, taken-by}
 use Rattle.region.proofs.range.is_taken.Goals as goal
 

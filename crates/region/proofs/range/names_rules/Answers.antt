@@ -1,9 +1,7 @@
 -- `region::range::names_rules` meets its contract.
-use borrow.Author.Rules.{rules}
 use Prim.Native.Nat.{◌-◌}
 use native.Mathlib.Omega.{arith}
-use lib.ListN.{length}
-use Rattle.region.proofs.Testing.{Names, names-start, names-step, names-stop, names-end}
+use Rattle.region.proofs.Testing.{names-start, names-step, names-stop, names-end}
 use Rattle.region.proofs.range.names_rules.Goals as goal
 
 pub loop-i-init : goal.loop-i-init

@@ -1,8 +1,7 @@
 -- `region::range::rules_in_range` meets its contract.
-use borrow.Author.Rules.{rules}
-use Prim.Native.Nat.{◌+◌, ◌-◌}
+use Prim.Native.Nat.{◌-◌}
 use native.Mathlib.Omega.{arith}
-use Rattle.region.proofs.Testing.{Ranged, ranged-start, ranged-room, ranged-step, ranged-stop, ranged-end}
+use Rattle.region.proofs.Testing.{ranged-start, ranged-room, ranged-step, ranged-stop, ranged-end}
 use Rattle.region.proofs.range.rules_in_range.Goals as goal
 
 pub overflow_add-end : goal.overflow_add-end

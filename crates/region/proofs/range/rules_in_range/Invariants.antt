@@ -1,8 +1,6 @@
 -- `region::range::rules_in_range` meets its contract.
-use borrow.Author.Rules.{rules}
 use Prim.Native.Nat.{◌+◌, ◌-◌}
-use native.Mathlib.Omega.{arith}
-use Rattle.region.proofs.Testing.{Ranged, ranged-start, ranged-room, ranged-step, ranged-stop, ranged-end}
+use Rattle.region.proofs.Testing.{Ranged}
 use Rattle.region.proofs.range.rules_in_range.Given as goal
 
 abbrev pub invariant-loop-i : goal.invariant-loop-i

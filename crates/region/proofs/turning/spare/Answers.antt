@@ -1,5 +1,4 @@
 -- `region::turning::spare` meets its contract: there is room for one more index.
-use borrow.Author.Rules.{rules}
 use Rattle.region.proofs.Loops.{spared-moved}
 use Rattle.region.proofs.turning.spare.Goals as goal
 

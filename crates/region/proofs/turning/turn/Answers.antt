@@ -1,5 +1,4 @@
 -- `region::turning::turn` meets its contract: the first edge is put behind the last.
-use borrow.Author.Rules.{rules}
 use Rattle.region.proofs.Loops.{turned}
 use Rattle.region.proofs.turning.turn.Goals as goal
 

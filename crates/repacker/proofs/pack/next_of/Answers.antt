@@ -1,5 +1,4 @@
 -- `repacker::pack::next_of` meets its contract: the last record's link is 0.
-use borrow.Author.Rules.{rules}
 use borrow.Author.Tests.{lt-ltb, le-ltb}
 use Rattle.repacker.proofs.pack.next_of.Goals as goal
 

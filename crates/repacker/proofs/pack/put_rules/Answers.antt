@@ -6,7 +6,7 @@ use mathlib.Core.Path.{◌≡◌, refl, ap, ◌∙◌}
 use lib.ListN.{length, take}
 use lib.Seq.{paste, paste-zero}
 use Rattle.records.specs.Layout.{v2, layout_of}
-use Rattle.repacker.specs.Repacking.{chain_bytes, rules_at, OutputRoom}
+use Rattle.repacker.specs.Repacking.{chain_bytes, rules_at}
 use Rattle.repacker.proofs.Packed.{paste-next, rule-copied, length-chain_bytes, length-rules}
 use Rattle.repacker.proofs.pack.put_rules.Goals as goal
 

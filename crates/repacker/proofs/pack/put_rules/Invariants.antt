@@ -1,13 +1,11 @@
 -- `repacker::pack::put_rules` meets its contract: after k turns the first k rules are copied; each turn copies one record more
 -- (`paste-next`).
-use native.Mathlib.Omega.{arith}
-use Prim.Native.Nat.{◌+◌, ◌-◌, ◌*◌, ◌≤◌}
-use mathlib.Core.Path.{◌≡◌, refl, ap, ◌∙◌}
+use Prim.Native.Nat.{◌-◌, ◌*◌, ◌≤◌}
+use mathlib.Core.Path.{◌≡◌}
 use lib.ListN.{length, take}
-use lib.Seq.{paste, paste-zero}
+use lib.Seq.{paste}
 use Rattle.records.specs.Layout.{v2, layout_of}
 use Rattle.repacker.specs.Repacking.{chain_bytes, rules_at, OutputRoom}
-use Rattle.repacker.proofs.Packed.{paste-next, rule-copied, length-chain_bytes, length-rules}
 use Rattle.repacker.proofs.pack.put_rules.Given as goal
 
 abbrev pub invariant-loop-k : goal.invariant-loop-k

@@ -1,5 +1,4 @@
 -- `session_lines::digits::after` meets its contract: the place after a byte.
-use borrow.Author.Rules.{rules}
 use Rattle.session_lines.proofs.Places.{after-here, after-end}
 use Rattle.session_lines.proofs.digits.after.Goals as goal
 

@@ -1,5 +1,4 @@
 -- `session_lines::numbers::field` meets its contract: the number in a field.
-use borrow.Author.Rules.{rules}
 use Rattle.session_lines.proofs.Signs.{field-minus, field_plain}
 use Rattle.session_lines.proofs.numbers.field.Goals as goal
 

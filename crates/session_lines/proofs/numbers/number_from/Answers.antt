@@ -1,5 +1,4 @@
 -- `session_lines::numbers::number_from` meets its contract: the number behind a space.
-use borrow.Author.Rules.{rules}
 use Rattle.session_lines.proofs.Signs.{number_unspaced, number-there, number_undigited}
 use Rattle.session_lines.proofs.numbers.number_from.Goals as goal
 

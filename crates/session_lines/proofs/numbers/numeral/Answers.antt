@@ -1,5 +1,4 @@
 -- `session_lines::numbers::numeral` meets its contract: a number up to the greatest.
-use borrow.Author.Rules.{rules}
 use Rattle.session_lines.proofs.Signs.{numeral-small, numeral-beyond}
 use Rattle.session_lines.proofs.numbers.numeral.Goals as goal
 

@@ -1,5 +1,4 @@
 -- `session_lines::numbers::signed` meets its contract: a sign and a size.
-use borrow.Author.Rules.{rules}
 use Rattle.session_lines.proofs.Signs.{opposite-fits, signed-minus, signed-plain}
 use Rattle.session_lines.proofs.numbers.signed.Goals as goal
 

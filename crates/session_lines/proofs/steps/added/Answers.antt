@@ -1,5 +1,4 @@
 -- `session_lines::steps::added` meets its contract: five numbers and no more.
-use borrow.Author.Rules.{rules}
 use Rattle.session_lines.proofs.Taken.{rule-read, rule-other}
 use Rattle.session_lines.proofs.steps.added.Goals as goal
 

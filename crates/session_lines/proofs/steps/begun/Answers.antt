@@ -1,10 +1,8 @@
 -- `session_lines::steps::begun` meets its contract: numbers of sixteen bits.
-use mathlib.Core.Path.{◌≡◌, ◌∙◌}
-use mathlib.Core.Bool.{true}
+use mathlib.Core.Path.{◌∙◌}
 use mir.Syntax.{w16}
 use mir.Facts.{to_z-of_z}
-use borrow.Author.Rules.{rules, sfits_of}
-use Rattle.session_lines.specs.Lines.{sixteens}
+use borrow.Author.Rules.{sfits_of}
 use Rattle.session_lines.proofs.Taken.{begun-fits, begun-read, begun-other}
 use Rattle.session_lines.proofs.steps.begun.Goals as goal
 

@@ -1,12 +1,10 @@
 -- `session_lines::steps::ruled` meets its contract: every number has room in its field.
 use native.Mathlib.Omega.{arith}
-use mathlib.Core.Path.{◌≡◌, ◌∙◌}
-use mathlib.Core.Bool.{true}
+use mathlib.Core.Path.{◌∙◌}
 use mir.Syntax.{w16, w32}
 use mir.Facts.{to_z-of_z}
-use borrow.Author.Rules.{rules, sfits_of}
+use borrow.Author.Rules.{sfits_of}
 use Rattle.session_lines.specs.Fields.{fits}
-use Rattle.session_lines.specs.Lines.{sixteens}
 use Rattle.session_lines.proofs.Signs.{under}
 use Rattle.session_lines.proofs.Taken.{ruled-fits, ruled-read, ruled-other}
 use Rattle.session_lines.proofs.steps.ruled.Goals as goal

@@ -1,5 +1,4 @@
 -- `session_lines::steps::started` meets its contract: four numbers and no more.
-use borrow.Author.Rules.{rules}
 use Rattle.session_lines.proofs.Taken.{start-read, start-other}
 use Rattle.session_lines.proofs.steps.started.Goals as goal
 

@@ -1,6 +1,5 @@
 -- `session_lines::steps::typed` meets its contract: a label and a text.
 use mathlib.Core.Path.{ap, sym, ◌∙◌}
-use borrow.Author.Rules.{rules}
 use Rattle.session_lines.specs.Lines.{typed_of}
 use Rattle.session_lines.proofs.Taken.{whole, typed-read, typed_unspaced, typed_unlabelled}
 use Rattle.session_lines.proofs.steps.typed.Goals as goal

@@ -1,6 +1,5 @@
 -- `session_lines::steps::typed_under` meets its contract: what a text reads as.
 use mathlib.Core.Path.{sym}
-use borrow.Author.Rules.{rules}
 use Rattle.session_lines.proofs.Taken.{ranged, read-rule, read-refused}
 use Rattle.session_lines.proofs.steps.typed_under.Goals as goal
 

@@ -1,9 +1,6 @@
 -- `session_lines::words::begins` meets its contract: byte by byte.
-use native.Mathlib.Omega.{arith}
 use Prim.Native.Nat.{◌-◌}
-use lib.ListN.{length}
-use borrow.Author.Rules.{rules}
-use Rattle.session_lines.proofs.Spelling.{Spelling, spelling_start, spelling_more, spelling_other, spelling_end}
+use Rattle.session_lines.proofs.Spelling.{spelling_start, spelling_more, spelling_other, spelling_end}
 use Rattle.session_lines.proofs.words.begins.Goals as goal
 
 pub loop-i-init : goal.loop-i-init

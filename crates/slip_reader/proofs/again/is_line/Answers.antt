@@ -1,5 +1,4 @@
 -- `slip_reader::again::is_line` meets its contract.
-use borrow.Author.Rules.{rules}
 use Rattle.slip_reader.proofs.Saying.{count_low, count-high, count-within, never, judged}
 use Rattle.slip_reader.proofs.again.is_line.Goals as goal
 

@@ -1,7 +1,6 @@
 -- `slip_reader::again::is_text` meets its contract: the slip is written again with a line feed after it, and compared without and with
 -- it.
 use native.Mathlib.Omega.{arith}
-use borrow.Author.Rules.{rules}
 use mathlib.Core.Path.{refl, sym}
 use lib.Seq.{length-take-le}
 use Rattle.slip_reader.proofs.Comparing.{text_alike, line_alike}

@@ -1,8 +1,7 @@
 -- `slip_reader::again::same` meets its contract: whether two texts are the same.
-use native.Mathlib.Omega.{arith}
 use Prim.Native.Nat.{◌-◌}
 use lib.ListN.{length}
-use Rattle.slip_reader.proofs.Comparing.{Together, together-start, together-more, lengths_differ, bytes-differ, all_alike}
+use Rattle.slip_reader.proofs.Comparing.{Together}
 use Rattle.slip_reader.proofs.again.same.Given as goal
 
 abbrev pub invariant-loop-i : goal.invariant-loop-i

@@ -1,5 +1,4 @@
 -- `slip_reader::fields::after` meets its contract: the place after a byte.
-use borrow.Author.Rules.{rules}
 use Rattle.slip_reader.proofs.Places.{after-here, after-end}
 use Rattle.slip_reader.proofs.fields.after.Goals as goal
 

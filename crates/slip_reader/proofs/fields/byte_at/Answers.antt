@@ -1,5 +1,4 @@
 -- `slip_reader::fields::byte_at` meets its contract: the byte at a place, or 0 at the end.
-use borrow.Author.Rules.{rules}
 use Rattle.slip_reader.proofs.Places.{first-here, first-end}
 use Rattle.slip_reader.proofs.fields.byte_at.Goals as goal
 

@@ -1,5 +1,4 @@
 -- `slip_reader::fields::code` meets its contract: the code of an entry.
-use borrow.Author.Rules.{rules}
 use Rattle.slip_reader.proofs.Pieces.{code-x, code-y, code-record}
 use Rattle.slip_reader.proofs.fields.code.Goals as goal
 

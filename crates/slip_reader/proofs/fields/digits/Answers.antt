@@ -2,9 +2,7 @@
 use native.Mathlib.Omega.{arith}
 use mathlib.Core.Path.{sym, ◌∙◌}
 use Prim.Native.Nat.{◌-◌}
-use lib.ListN.{length}
-use borrow.Author.Rules.{rules}
-use Rattle.slip_reader.proofs.Places.{Running, run-start, run_more, run-stop, run_end}
+use Rattle.slip_reader.proofs.Places.{run-start, run_more, run-stop, run_end}
 use Rattle.slip_reader.proofs.fields.digits.Goals as goal
 
 pub loop-i-init : goal.loop-i-init

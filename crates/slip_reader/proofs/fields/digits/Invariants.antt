@@ -1,10 +1,7 @@
 -- `slip_reader::fields::digits` meets its contract: as many digits as there are up to the field's end.
-use native.Mathlib.Omega.{arith}
-use mathlib.Core.Path.{sym, ◌∙◌}
 use Prim.Native.Nat.{◌-◌}
 use lib.ListN.{length}
-use borrow.Author.Rules.{rules}
-use Rattle.slip_reader.proofs.Places.{Running, run-start, run_more, run-stop, run_end}
+use Rattle.slip_reader.proofs.Places.{Running}
 use Rattle.slip_reader.proofs.fields.digits.Given as goal
 
 abbrev pub invariant-loop-i : goal.invariant-loop-i

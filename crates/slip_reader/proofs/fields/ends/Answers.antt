@@ -1,5 +1,5 @@
 -- `slip_reader::fields::ends` meets its contract.
-use mathlib.Core.Path.{refl, sym, ap, ◌∙◌}
+use mathlib.Core.Path.{sym, ap}
 use mathlib.Core.Bool.{◌||◌}
 use lib.Dec.{eqb}
 use borrow.Author.Tests.{eq-eqb, ne_eqb}

@@ -1,7 +1,6 @@
 -- `slip_reader::fields::grow` meets its contract: a number with a digit more.
 use mathlib.Core.Path.{ap}
 use Prim.Native.Nat.{ℕ, ◌+◌, ◌*◌}
-use borrow.Author.Rules.{rules}
 use borrow.Author.Tests.{le-leb, lt-leb}
 use Rattle.slip_reader.proofs.fields.grow.Goals as goal
 

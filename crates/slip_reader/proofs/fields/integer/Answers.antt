@@ -1,5 +1,4 @@
 -- `slip_reader::fields::integer` meets its contract: the number in a field.
-use borrow.Author.Rules.{rules}
 use Rattle.slip_reader.proofs.Pieces.{integer-minus, integer-plain}
 use Rattle.slip_reader.proofs.fields.integer.Goals as goal
 

@@ -1,5 +1,4 @@
 -- `slip_reader::fields::signed` meets its contract: the number of a sign and a size, as far as 64 bits go.
-use borrow.Author.Rules.{rules}
 use Rattle.slip_reader.proofs.Values.{opposite-fits, signed-minus, signed-plain, signed-least, signed-most}
 use Rattle.slip_reader.proofs.fields.signed.Goals as goal
 

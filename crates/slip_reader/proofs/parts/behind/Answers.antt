@@ -1,5 +1,4 @@
 -- `slip_reader::parts::behind` meets its contract: the place after a word.
-use borrow.Author.Rules.{rules}
 use Rattle.slip_reader.proofs.Places.{behind-here, behind-end}
 use Rattle.slip_reader.proofs.parts.behind.Goals as goal
 

@@ -1,5 +1,4 @@
 -- `slip_reader::parts::best` meets its contract.
-use borrow.Author.Rules.{rules}
 use Rattle.slip_reader.proofs.Pieces.{best-read}
 use Rattle.slip_reader.proofs.parts.best.Goals as goal
 

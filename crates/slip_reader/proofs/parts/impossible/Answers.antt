@@ -1,5 +1,4 @@
 -- `slip_reader::parts::impossible` meets its contract.
-use borrow.Author.Rules.{rules}
 use Rattle.slip_reader.proofs.Pieces.{impossible-read}
 use Rattle.slip_reader.proofs.parts.impossible.Goals as goal
 

@@ -1,5 +1,4 @@
 -- `slip_reader::parts::pair_at` meets its contract: X, Y and D.
-use borrow.Author.Rules.{rules}
 use Rattle.slip_reader.proofs.Pieces.{pair_read}
 use Rattle.slip_reader.proofs.parts.pair_at.Goals as goal
 

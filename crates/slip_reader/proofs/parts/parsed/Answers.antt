@@ -1,5 +1,4 @@
 -- `slip_reader::parts::parsed` meets its contract: the slip of any bytes.
-use borrow.Author.Rules.{rules}
 use Rattle.slip_reader.proofs.Pieces.{parsed-best, parsed-unlimited, parsed-impossible}
 use Rattle.slip_reader.proofs.parts.parsed.Goals as goal
 

@@ -1,5 +1,4 @@
 -- `slip_reader::parts::slot_at` meets its contract: an entry and its weight, if they count.
-use borrow.Author.Rules.{rules}
 use Rattle.slip_reader.proofs.Pieces.{slot_counts, slot_none}
 use Rattle.slip_reader.proofs.parts.slot_at.Goals as goal
 

@@ -1,5 +1,4 @@
 -- `slip_reader::parts::unlimited` meets its contract.
-use borrow.Author.Rules.{rules}
 use Rattle.slip_reader.proofs.Pieces.{unlimited-read}
 use Rattle.slip_reader.proofs.parts.unlimited.Goals as goal
 

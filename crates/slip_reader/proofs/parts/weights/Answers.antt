@@ -1,5 +1,4 @@
 -- `slip_reader::parts::weights` meets its contract: the number of entries, and each with its weight.
-use borrow.Author.Rules.{rules}
 use Rattle.slip_reader.proofs.Pieces.{weights-read}
 use Rattle.slip_reader.proofs.parts.weights.Goals as goal
 

@@ -1,5 +1,4 @@
 -- `slips::exact::tight` meets its contract.
-use borrow.Author.Rules.{rules}
 use mathlib.Core.Path.{◌∙◌, ap}
 use Rattle.lp.specs.Certificate.{is_zero}
 use Rattle.slip.proofs.Sizes.{placed-distance, distance_read}

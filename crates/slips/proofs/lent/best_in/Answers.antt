@@ -1,5 +1,4 @@
 -- `slips::lent::best_in` meets its contract: the weights of a best pair, with the runs lent.
-use borrow.Author.Rules.{rules}
 use Rattle.slip.proofs.Sizes.{unread}
 use Rattle.slips.proofs.Sizes.{normal-read}
 use Rattle.slips.proofs.Lending.{passing_of, weighing_of, best_of}

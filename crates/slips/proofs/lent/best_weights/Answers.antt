@@ -1,5 +1,4 @@
 -- `slips::lent::best_weights` meets its contract: by its length a short book has at most 30 rules.
-use borrow.Author.Rules.{rules}
 use Rattle.slip.proofs.Read.{few-by-length}
 use Rattle.slips.proofs.lent.best_weights.Goals as goal
 

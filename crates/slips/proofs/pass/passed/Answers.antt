@@ -2,7 +2,7 @@
 use Prim.Native.Nat.{◌-◌}
 use native.Mathlib.Omega.{arith}
 use Rattle.slip.proofs.Sizes.{unread}
-use Rattle.slips.proofs.Sizes.{Turned, passing_flooring, normal-read, turned-start}
+use Rattle.slips.proofs.Sizes.{passing_flooring, normal-read, turned-start}
 use Rattle.slips.proofs.Sizes.{turned-room, turned_asks, turned-step, turned-end}
 use Rattle.slips.proofs.pass.passed.Goals as goal
 

@@ -1,9 +1,6 @@
 -- `slips::pass::passed` meets its contract: what the pass over a chain holds in the end.
 use Prim.Native.Nat.{◌-◌}
-use native.Mathlib.Omega.{arith}
-use Rattle.slip.proofs.Sizes.{unread}
-use Rattle.slips.proofs.Sizes.{Turned, passing_flooring, normal-read, turned-start}
-use Rattle.slips.proofs.Sizes.{turned-room, turned_asks, turned-step, turned-end}
+use Rattle.slips.proofs.Sizes.{Turned}
 use Rattle.slips.proofs.pass.passed.Given as goal
 
 abbrev pub invariant-loop-i : goal.invariant-loop-i

@@ -1,5 +1,4 @@
 -- `slips::pass::side_at` meets its contract: the entry at a place of the runs.
-use borrow.Author.Rules.{rules}
 use native.Mathlib.Omega.{arith}
 use lib.ListN.{get_or}
 use Rattle.slips.specs.Pass.{side}

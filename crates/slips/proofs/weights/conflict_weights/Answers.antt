@@ -1,5 +1,4 @@
 -- `slips::weights::conflict_weights` meets its contract.
-use borrow.Author.Rules.{rules}
 use mathlib.Core.Path.{◌∙◌}
 use lib.IntN.{pos}
 use Rattle.slip.proofs.Sizes.{unread}

@@ -1,5 +1,4 @@
 -- `slips::weights::optimum_weights` meets its contract.
-use borrow.Author.Rules.{rules}
 use mathlib.Core.Path.{◌∙◌}
 use Rattle.slips.proofs.Sizes.{lt_z-read}
 use Rattle.slips.proofs.Chosen.{chosen-level, chosen-two, chosen_none}

@@ -1,5 +1,4 @@
 -- `slips::weights::used` meets its contract.
-use borrow.Author.Rules.{rules}
 use mathlib.Core.Path.{sym, ◌∙◌, ap}
 use Rattle.lp.specs.Certificate.{is_zero}
 use Rattle.slip.proofs.Sizes.{unread}

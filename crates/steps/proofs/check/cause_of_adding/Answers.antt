@@ -1,7 +1,6 @@
 -- `steps::check::cause_of_adding` meets its contract: 8, 9, 10, then 12. That the rule's fields fit their types is told of the argument
 -- itself.
 use mathlib.Core.Path.{ap, ◌∙◌}
-use borrow.Author.Rules.{rules}
 use Rattle.records.specs.Record.{number_of}
 use Rattle.sessions.proofs.Led.{rule-turned, label-turned, none-turned}
 use Rattle.steps.proofs.check.cause_of_adding.Goals as goal

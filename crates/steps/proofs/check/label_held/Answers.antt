@@ -1,9 +1,6 @@
 -- `steps::check::label_held` meets its contract: no rule passed has the label.
 use native.Mathlib.Omega.{arith}
-use Prim.Native.Nat.{ℕ, ◌-◌, ◌≤◌, ◌<◌}
-use mathlib.Core.Path.{◌≡◌}
-use lib.ListN.{get_or}
-use Rattle.sessions.specs.Sessions.{no_rule}
+use Prim.Native.Nat.{◌-◌}
 use Rattle.sessions.proofs.Labels.{label-there, label-absent, one_more}
 use Rattle.steps.proofs.check.label_held.Goals as goal
 

@@ -1,6 +1,5 @@
 -- `steps::check::lawful_objective` meets its contract.
 use mathlib.Core.Path.{sym, ◌∙◌}
-use borrow.Author.Rules.{rules}
 use Rattle.sessions.proofs.Checks.{least-read, one-least, other-least, none-least}
 use Rattle.steps.proofs.check.lawful_objective.Goals as goal
 

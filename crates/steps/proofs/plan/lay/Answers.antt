@@ -1,8 +1,7 @@
 -- `steps::plan::lay` meets its contract: after i turns the first i rules are laid out.
 use native.Mathlib.Omega.{arith}
-use Prim.Native.Nat.{◌-◌, ◌≤◌}
+use Prim.Native.Nat.{◌-◌}
 use mathlib.Core.Path.{◌≡◌, refl, ap, sym, ◌∙◌}
-use lib.ListN.{length}
 use Rattle.sessions.specs.Laying.{laid_from}
 use Rattle.sessions.proofs.Laid.{laid_next}
 use Rattle.steps.proofs.plan.lay.Goals as goal

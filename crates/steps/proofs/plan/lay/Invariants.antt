@@ -1,10 +1,8 @@
 -- `steps::plan::lay` meets its contract: after i turns the first i rules are laid out.
-use native.Mathlib.Omega.{arith}
 use Prim.Native.Nat.{◌-◌, ◌≤◌}
-use mathlib.Core.Path.{◌≡◌, refl, ap, sym, ◌∙◌}
+use mathlib.Core.Path.{◌≡◌}
 use lib.ListN.{length}
 use Rattle.sessions.specs.Laying.{laid_from}
-use Rattle.sessions.proofs.Laid.{laid_next}
 use Rattle.steps.proofs.plan.lay.Given as goal
 
 abbrev pub invariant-loop-i : goal.invariant-loop-i

@@ -1,7 +1,6 @@
 -- `steps::plan::plan_held` meets its contract: the rules held are planned as the chain of a book.
 use mathlib.Core.Path.{sym, ◌∙◌}
 use mathlib.Core.Path.{refl}
-use borrow.Author.Rules.{rules}
 use Rattle.sessions.proofs.Held.{never-outside, session-shown}
 use Rattle.steps.proofs.plan.plan_held.Goals as goal
 

@@ -1,7 +1,6 @@
 -- `steps::plan::put` meets its contract: three numbers in their places.
 use native.Mathlib.Omega.{arith}
 use lib.ListN.{length-set}
-use borrow.Author.Rules.{rules}
 use Rattle.steps.proofs.plan.put.Goals as goal
 
 pub bounds-run-at : goal.bounds-run-at

@@ -3,7 +3,6 @@ use Rattle.text.proofs.Put.{followed}
 use Rattle.text.proofs.Integer.{whole}
 use Rattle.typed_line.specs.Typed.{rule_fields}
 use native.Mathlib.Omega.{arith}
-use borrow.Author.Rules.{rules}
 use Rattle.typed_line.proofs.written.append_rule.Goals as goal
 
 pub returns : goal.returns

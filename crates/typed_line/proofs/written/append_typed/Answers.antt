@@ -3,7 +3,6 @@ use mathlib.Core.Path.{ap, sym}
 use native.Mathlib.Omega.{arith}
 use Rattle.text.proofs.Put.{spelt, roomier}
 use Rattle.typed_line.specs.Typed.{typed_fields}
-use borrow.Author.Rules.{rules}
 use Rattle.typed_line.proofs.written.append_typed.Goals as goal
 
 pub returns-in-Rule : goal.returns-in-Rule

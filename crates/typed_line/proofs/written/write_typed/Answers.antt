@@ -1,6 +1,5 @@
 -- `typed_line::written::write_typed` meets its contract. A small buffer is left alone; else the fields and the line feed make up the line.
 use native.Mathlib.Omega.{arith}
-use borrow.Author.Rules.{rules}
 use Rattle.typed_line.specs.Typed.{typed_line, typed_room}
 use Rattle.text.proofs.Put.{too_small, filled, followed}
 use Rattle.typed_line.proofs.written.write_typed.Goals as goal

@@ -2,7 +2,6 @@
 use mathlib.Core.Path.{subst}
 use Rattle.typed_rules.specs.Promises.{Placed}
 use Rattle.typed_rules.proofs.Reading.{closed-yes, closed_no, closed-fail}
-use borrow.Author.Rules.{rules}
 use Rattle.typed_rules.proofs.readers.closed.Goals as goal
 
 pub lex-l-requires : goal.lex-l-requires

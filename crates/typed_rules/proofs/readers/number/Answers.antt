@@ -1,6 +1,5 @@
 -- `typed_rules::readers::number` meets its contract: a number of at most 10 digits.
 use Rattle.typed_rules.proofs.Reading.{number-yes, number_no}
-use borrow.Author.Rules.{rules}
 use Rattle.typed_rules.proofs.readers.number.Goals as goal
 
 pub returns-then-end-at-le10 : goal.returns-then-end-at-le10

@@ -1,6 +1,5 @@
 -- `typed_rules::readers::opposed` meets its contract: the factor after a minus, which is within the limit.
 use mathlib.Core.Path.{ap, subst, ◌∙◌}
-use borrow.Author.Rules.{rules}
 use Rattle.forms.specs.declared.Value.{Value}
 use Rattle.forms.specs.Value.{negated}
 use Rattle.forms.proofs.Held.{held_small}

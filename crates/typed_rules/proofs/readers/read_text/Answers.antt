@@ -1,7 +1,6 @@
 -- `typed_rules::readers::read_text` meets its contract: a whole text of any length.
 use Rattle.typed_rules.proofs.Places.{follows}
 use Rattle.typed_rules.proofs.Whole.{text-got, text_fails}
-use borrow.Author.Rules.{rules}
 use Rattle.typed_rules.proofs.readers.read_text.Goals as goal
 
 pub relation-requires : goal.relation-requires

@@ -1,6 +1,5 @@
 -- `typed_rules::readers::relation` meets its contract: the relation and the right side, after a left side whose value is v.
 use Rattle.typed_rules.proofs.Whole.{judges-most, judges-least, judges-other}
-use borrow.Author.Rules.{rules}
 use Rattle.typed_rules.proofs.readers.relation.Goals as goal
 
 pub returns-then-l-eq60 : goal.returns-then-l-eq60

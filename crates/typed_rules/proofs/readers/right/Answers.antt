@@ -5,7 +5,6 @@ use native.Mathlib.Omega.{arith}
 use Rattle.forms.specs.Value.{conclude}
 use Rattle.typed_rules.proofs.Places.{follows, plainly}
 use Rattle.typed_rules.proofs.Whole.{byte_inside, right-more, right-ends, right_fails, right_no}
-use borrow.Author.Rules.{rules}
 use Rattle.typed_rules.proofs.readers.right.Goals as goal
 
 pub side-requires : goal.side-requires

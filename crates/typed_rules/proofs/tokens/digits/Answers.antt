@@ -2,10 +2,9 @@
 use native.Mathlib.Omega.{arith}
 use mathlib.Core.Path.{sym, ◌∙◌}
 use Prim.Native.Nat.{◌-◌}
-use lib.ListN.{length}
 use borrow.Author.Rules.{rules}
 use Rattle.language.proofs.Digits.{digit_range}
-use Rattle.typed_rules.proofs.Bytes.{Running, run-start, run_more, run-stop, run_end}
+use Rattle.typed_rules.proofs.Bytes.{run-start, run_more, run-stop, run_end}
 use Rattle.typed_rules.proofs.tokens.digits.Goals as goal
 
 pub loop-i-init : goal.loop-i-init

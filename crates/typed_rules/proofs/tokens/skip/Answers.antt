@@ -1,8 +1,7 @@
 -- `typed_rules::tokens::skip` meets its contract: the first place that has no space.
 use native.Mathlib.Omega.{arith}
 use Prim.Native.Nat.{◌-◌}
-use lib.ListN.{length}
-use Rattle.typed_rules.proofs.Bytes.{Skipping, skip-start, skip-more, skip_stop, skip-end}
+use Rattle.typed_rules.proofs.Bytes.{skip-start, skip-more, skip_stop, skip-end}
 use Rattle.typed_rules.proofs.tokens.skip.Goals as goal
 
 pub loop-i-init : goal.loop-i-init
