@@ -1,4 +1,4 @@
-// What a program reads into a lent buffer, and where a line in one ends. No memory is allocated.
+// What a program reads into a lent buffer. No memory is allocated.
 
 #![tactic(auto)]
 
