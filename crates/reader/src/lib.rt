@@ -1,5 +1,5 @@
-// A reader of a book: it holds on to the lent book while it goes from record to record. Its functions are proved by hand, so they are
-// few, and each takes the reader apart and calls a function of the slice and the index.
+// A reader of a book: it holds on to the lent book while it goes from record to record. Its functions are few, and each takes the reader
+// apart and calls a function of the slice and the index.
 
 #![tactic(auto)]
 
