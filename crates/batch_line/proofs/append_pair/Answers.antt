@@ -8,21 +8,15 @@ use Rattle.batch_line.proofs.append_pair.Goals as goal
 pub returns : goal.returns
 unfolding pair_line
 returns c =
-    let feed = c in
-    let d = feed in
-    let y = d in
-    let x = y in
-    let word = x in
-    let start = word in
-    let v = start.args.v in
-    let free = start.requires.free in
-    let first = word.append_word-x.ensures.fits (omega (arith, free)) in
-    let second = x.append_integer-y.ensures.fits (omega (arith, free)) in
-    let third = y.append_integer-d.ensures.fits (omega (arith, free)) in
-    let fourth = d.append_integer-end.ensures.fits (omega (arith, free)) in
-    let last = feed.append_word.ensures.fits (omega (arith, free)) in
+    let v = c.args.v in
+    let free = c.requires.free in
+    let first = c.append_word-x.ensures.fits (omega (arith, free)) in
+    let second = c.append_integer-y.ensures.fits (omega (arith, free)) in
+    let third = c.append_integer-d.ensures.fits (omega (arith, free)) in
+    let fourth = c.append_integer-end.ensures.fits (omega (arith, free)) in
+    let last = c.append_word.ensures.fits (omega (arith, free)) in
     roomier (omega arith)
     (followed first
-    (followed (whole v.x (record { sfits = x.struct_told-1.given.0.1 }) second)
-    (followed (whole v.y (record { sfits = y.struct_told-2-1.given.1.0.1 }) third)
-    (followed (whole v.d (record { sfits = d.struct_told-3-1.given.1.1.0.1 }) fourth) last))))
+    (followed (whole v.x (record { sfits = c.struct_told-1.given.0.1 }) second)
+    (followed (whole v.y (record { sfits = c.struct_told-2-1.given.1.0.1 }) third)
+    (followed (whole v.d (record { sfits = c.struct_told-3-1.given.1.1.0.1 }) fourth) last))))

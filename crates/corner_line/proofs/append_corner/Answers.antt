@@ -12,20 +12,16 @@ returns-then-lacks_room c = no_room c.lacks_room.result c.lacks_room.ensures c.i
 pub returns : goal.returns
 unfolding corner_line
 returns c =
-    let six = c in
-    let twelve = six in
-    let eighteen = twelve in
-    let start = eighteen in
-    let v = start.args.v in
-    let room = eighteen.lacks_room in
-    let enough = free start.args.out.now start.args.at 64 room.result room.ensures
-    eighteen.if-lacks_room.false in
-    let first = twelve.append_first-y.ensures.fits (omega arith) in
-    let second = twelve.append_integer-d.ensures.fits (omega arith) in
-    let third = six.append_integer-end.ensures.fits (omega arith) in
+    let v = c.args.v in
+    let room = c.lacks_room in
+    let enough = free c.args.out.now c.args.at 64 room.result room.ensures
+    c.if-lacks_room.false in
+    let first = c.append_first-y.ensures.fits (omega arith) in
+    let second = c.append_integer-d.ensures.fits (omega arith) in
+    let third = c.append_integer-end.ensures.fits (omega arith) in
     let last = c.append_word.ensures.fits (omega arith) in
     appends enough
     (roomier (omega arith)
-    (followed (whole-signed v.x (record { sfits = eighteen.struct_told-1.given.0.1 }) first)
-    (followed (whole v.y (record { sfits = twelve.struct_told-2-1.given.1.0.1 }) second)
-    (followed (whole v.d (record { sfits = six.struct_told-3-1.given.1.1.0.1 }) third) last))))
+    (followed (whole-signed v.x (record { sfits = c.struct_told-1.given.0.1 }) first)
+    (followed (whole v.y (record { sfits = c.struct_told-2-1.given.1.0.1 }) second)
+    (followed (whole v.d (record { sfits = c.struct_told-3-1.given.1.1.0.1 }) third) last))))

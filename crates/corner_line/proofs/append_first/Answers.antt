@@ -9,28 +9,23 @@ returns-then-lacks_room c = no_room c.lacks_room.result c.lacks_room.ensures c.i
 
 pub returns-then-z-lt0 : goal.returns-then-z-lt0
 returns-then-z-lt0 c =
-    let six = c in
-    let twelve = six in
-    let start = twelve in
-    let room = twelve.lacks_room in
-    let counted = six.magnitude-digits in
-    let enough = free start.args.out.now start.args.at 21 room.result room.ensures
-    six.if-lacks_room.false in
-    let sign = six.append_word-next.ensures.fits (omega arith) in
+    let room = c.lacks_room in
+    let counted = c.magnitude-digits in
+    let enough = free c.args.out.now c.args.at 21 room.result room.ensures
+    c.if-lacks_room.false in
+    let sign = c.append_word-next.ensures.fits (omega arith) in
     let digits = c.append_decimal.ensures.fits (omega arith) in
     appends enough
-    (spelt (with_minus start.args.z counted.result start.ranges.z counted.ensures six.if-z-lt0.true)
+    (spelt (with_minus c.args.z counted.result c.ranges.z counted.ensures c.if-z-lt0.true)
     (roomier (omega arith) (followed sign digits)))
 
 pub returns-else-z-lt0 : goal.returns-else-z-lt0
 returns-else-z-lt0 c =
-    let six = c in
-    let start = six in
-    let room = six.lacks_room in
+    let room = c.lacks_room in
     let counted = c.magnitude-digits in
-    let enough = free start.args.out.now start.args.at 21 room.result room.ensures six.if-lacks_room.false in
+    let enough = free c.args.out.now c.args.at 21 room.result room.ensures c.if-lacks_room.false in
     let digits = c.append_decimal-else-z-lt0.ensures.fits (omega arith) in
     appends enough
-    (spelt (without_sign start.args.z counted.result start.ranges.z counted.ensures
+    (spelt (without_sign c.args.z counted.result c.ranges.z counted.ensures
     c.if-z-lt0.false)
     (roomier (omega arith) digits))

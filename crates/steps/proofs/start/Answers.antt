@@ -4,23 +4,20 @@ use Rattle.steps.proofs.start.Goals as goal
 
 pub taken-requires : goal.taken-requires
 taken-requires c =
-    let start = c in
-    begun-session start.args.p start.args.q start.args.lx start.args.ly start.ranges.p start.ranges.q start.ranges.lx
-    start.ranges.ly c.lawful_objective.ensures c.if-lawful_objective.true c.begun.ensures
+    begun-session c.args.p c.args.q c.args.lx c.args.ly c.ranges.p c.ranges.q c.ranges.lx
+    c.ranges.ly c.lawful_objective.ensures c.if-lawful_objective.true c.begun.ensures
 
 pub taken-requires-else-lawful_objective : goal.taken-requires-else-lawful_objective
 taken-requires-else-lawful_objective c = empty-session c.begun-else-lawful_objective.ensures
 
 pub returns-then-lawful_objective : goal.returns-then-lawful_objective
 returns-then-lawful_objective c =
-    let start = c in
-    starts start.args.p start.args.q start.args.lx start.args.ly start.ranges.p start.ranges.q start.ranges.lx
-    start.ranges.ly c.lawful_objective.ensures c.if-lawful_objective.true c.begun.ensures c.taken.result
+    starts c.args.p c.args.q c.args.lx c.args.ly c.ranges.p c.ranges.q c.ranges.lx
+    c.ranges.ly c.lawful_objective.ensures c.if-lawful_objective.true c.begun.ensures c.taken.result
     c.taken.ensures
 
 pub returns-else-lawful_objective : goal.returns-else-lawful_objective
 returns-else-lawful_objective c =
-    let start = c in
-    starts-refused start.args.p start.args.q start.args.lx start.args.ly start.ranges.p start.ranges.q
-    start.ranges.lx start.ranges.ly c.lawful_objective.ensures c.if-lawful_objective.false c.begun-else-lawful_objective.ensures
+    starts-refused c.args.p c.args.q c.args.lx c.args.ly c.ranges.p c.ranges.q
+    c.ranges.lx c.ranges.ly c.lawful_objective.ensures c.if-lawful_objective.false c.begun-else-lawful_objective.ensures
     c.taken-else-lawful_objective.result c.taken-else-lawful_objective.ensures

@@ -6,7 +6,7 @@ pub returns-then-n-eq0 : goal.returns-then-n-eq0
 returns-then-n-eq0 c = no_bytes c.args.input.now c.if-n-eq0.true
 
 pub returns-then-input-n-eq10 : goal.returns-then-input-n-eq10
-returns-then-input-n-eq10 c = let start = c in feed_dropped start.args.input.now c.if-input-n-eq10.true
+returns-then-input-n-eq10 c = feed_dropped c.args.input.now c.if-input-n-eq10.true
 
 pub returns-else-input-n-eq10 : goal.returns-else-input-n-eq10
-returns-else-input-n-eq10 c = let start = c in all-kept start.args.input.now c.if-input-n-eq10.false
+returns-else-input-n-eq10 c = all-kept c.args.input.now c.if-input-n-eq10.false

@@ -4,12 +4,10 @@ use Rattle.session_lines.proofs.numbers.field.Goals as goal
 
 pub returns-then-byte_at-eq45 : goal.returns-then-byte_at-eq45
 returns-then-byte_at-eq45 c =
-    let start = c in
-    field-minus start.args.text.now start.args.at c.after-sign.ensures
+    field-minus c.args.text.now c.args.at c.after-sign.ensures
     c.byte_at.ensures c.if-byte_at-eq45.true c.after-from.ensures c.number_from.ensures
 
 pub returns-else-byte_at-eq45 : goal.returns-else-byte_at-eq45
 returns-else-byte_at-eq45 c =
-    let start = c in
-    field_plain start.args.text.now start.args.at c.after-sign.ensures c.byte_at.ensures
+    field_plain c.args.text.now c.args.at c.after-sign.ensures c.byte_at.ensures
     c.if-byte_at-eq45.false c.number_from-else-byte_at-eq45.ensures

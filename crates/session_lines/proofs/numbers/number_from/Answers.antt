@@ -4,22 +4,17 @@ use Rattle.session_lines.proofs.numbers.number_from.Goals as goal
 
 pub returns-then-byte_at-ne32 : goal.returns-then-byte_at-ne32
 returns-then-byte_at-ne32 c =
-    let start = c in
-    number_unspaced start.args.negative start.args.text.now start.args.at start.args.from
+    number_unspaced c.args.negative c.args.text.now c.args.at c.args.from
     c.digits-run.ensures c.byte_at.ensures c.if-byte_at-ne32.true c.no_number-number.ensures
 
 pub returns-then-digit : goal.returns-then-digit
 returns-then-digit c =
-    let place = c in
-    let start = place in
-    number-there start.args.negative start.args.text.now start.args.at start.args.from
-    place.digits-run.ensures place.byte_at.ensures place.if-byte_at-ne32.false
+    number-there c.args.negative c.args.text.now c.args.at c.args.from
+    c.digits-run.ensures c.byte_at.ensures c.if-byte_at-ne32.false
     c.byte_at-2.ensures c.digit.ensures c.if-digit.true c.numeral-number.ensures
 
 pub returns-else-digit : goal.returns-else-digit
 returns-else-digit c =
-    let place = c in
-    let start = place in
-    number_undigited start.args.negative start.args.text.now start.args.at start.args.from
-    place.digits-run.ensures place.byte_at.ensures place.if-byte_at-ne32.false
+    number_undigited c.args.negative c.args.text.now c.args.at c.args.from
+    c.digits-run.ensures c.byte_at.ensures c.if-byte_at-ne32.false
     c.byte_at-2.ensures c.digit.ensures c.if-digit.false c.no_number-number-else-digit.ensures

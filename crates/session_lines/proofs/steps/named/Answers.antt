@@ -10,32 +10,27 @@ overflow_cast-result c = kind8 _ c.requires.ranged.kind
 
 pub overflow_cast-result-2 : goal.overflow_cast-result-2
 overflow_cast-result-2 c =
-    let start = c in
-    cast_fits w16 (within64 _ (omega (arith, start.requires.ranged.a))) refl (within16 start.args.w.a start.requires.ranged.a)
+    cast_fits w16 (within64 _ (omega (arith, c.requires.ranged.a))) refl (within16 c.args.w.a c.requires.ranged.a)
 
 pub overflow_cast-result-3 : goal.overflow_cast-result-3
 overflow_cast-result-3 c =
-    let start = c in
-    cast_fits w16 (within64 _ (omega (arith, start.requires.ranged.b))) refl (within16 start.args.w.b start.requires.ranged.b)
+    cast_fits w16 (within64 _ (omega (arith, c.requires.ranged.b))) refl (within16 c.args.w.b c.requires.ranged.b)
 
 pub overflow_cast-result-4 : goal.overflow_cast-result-4
 overflow_cast-result-4 c =
-    let start = c in
-    cast_fits w32 (within64 _ start.requires.ranged.c) refl (within32 start.args.w.c start.requires.ranged.c)
+    cast_fits w32 (within64 _ c.requires.ranged.c) refl (within32 c.args.w.c c.requires.ranged.c)
 
 pub overflow_cast-result-5 : goal.overflow_cast-result-5
 overflow_cast-result-5 c =
-    let start = c in
-    record { fits = omega (arith, under start.args.label 65535 start.requires.fitting) }
+    record { fits = omega (arith, under c.args.label 65535 c.requires.fitting) }
 
 pub returns : goal.returns
 returns c =
-    let start = c in
-    let r = start.requires.ranged in
+    let r = c.requires.ranged in
     λ i. record {
-      kind = start.args.w.kind;
-      a = cast_value w16 (within64 start.args.w.a (omega (arith, r.a))) refl (within16 start.args.w.a r.a) i;
-      b = cast_value w16 (within64 start.args.w.b (omega (arith, r.b))) refl (within16 start.args.w.b r.b) i;
-      c = cast_value w32 (within64 start.args.w.c r.c) refl (within32 start.args.w.c r.c) i;
-      label = start.args.label.size;
+      kind = c.args.w.kind;
+      a = cast_value w16 (within64 c.args.w.a (omega (arith, r.a))) refl (within16 c.args.w.a r.a) i;
+      b = cast_value w16 (within64 c.args.w.b (omega (arith, r.b))) refl (within16 c.args.w.b r.b) i;
+      c = cast_value w32 (within64 c.args.w.c r.c) refl (within32 c.args.w.c r.c) i;
+      label = c.args.label.size;
     }

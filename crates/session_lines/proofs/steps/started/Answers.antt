@@ -4,14 +4,10 @@ use Rattle.session_lines.proofs.steps.started.Goals as goal
 
 pub returns-then-ly-text : goal.returns-then-ly-text
 returns-then-ly-text c =
-    let f = c in
-    let start = f in
-    start-read start.args.text.now f.behind.ensures f.field-p.ensures
-    f.field-q.ensures f.field-lx.ensures f.field-ly.ensures c.if-ly-text.true c.begun.ensures
+    start-read c.args.text.now c.behind.ensures c.field-p.ensures
+    c.field-q.ensures c.field-lx.ensures c.field-ly.ensures c.if-ly-text.true c.begun.ensures
 
 pub returns-else-ly-text : goal.returns-else-ly-text
 returns-else-ly-text c =
-    let f = c in
-    let start = f in
-    start-other start.args.text.now f.behind.ensures f.field-p.ensures
-    f.field-q.ensures f.field-lx.ensures f.field-ly.ensures c.if-ly-text.false
+    start-other c.args.text.now c.behind.ensures c.field-p.ensures
+    c.field-q.ensures c.field-lx.ensures c.field-ly.ensures c.if-ly-text.false

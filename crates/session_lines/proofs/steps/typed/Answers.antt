@@ -9,23 +9,17 @@ typed_under-requires c = sym c.fits.ensures ∙ c.if-fits.true
 
 pub returns-then-byte_at-eq32 : goal.returns-then-byte_at-eq32
 returns-then-byte_at-eq32 c =
-    let f = c in
-    let start = f in
-    let label = f.field-label.result in
-    typed-read start.args.text.now f.behind.ensures f.field-label.ensures f.fits.ensures
+    let label = c.field-label.result in
+    typed-read c.args.text.now c.behind.ensures c.field-label.ensures c.fits.ensures
     c.if-fits.true c.byte_at.ensures c.if-byte_at-eq32.true
-    (c.typed_under.ensures ∙ ap (typed_of label.number) (whole start.args.text.now label.next))
+    (c.typed_under.ensures ∙ ap (typed_of label.number) (whole c.args.text.now label.next))
 
 pub returns-else-byte_at-eq32 : goal.returns-else-byte_at-eq32
 returns-else-byte_at-eq32 c =
-    let f = c in
-    let start = f in
-    typed_unspaced start.args.text.now f.behind.ensures f.field-label.ensures
-    f.fits.ensures c.if-fits.true c.byte_at.ensures c.if-byte_at-eq32.false
+    typed_unspaced c.args.text.now c.behind.ensures c.field-label.ensures
+    c.fits.ensures c.if-fits.true c.byte_at.ensures c.if-byte_at-eq32.false
 
 pub returns-else-fits : goal.returns-else-fits
 returns-else-fits c =
-    let f = c in
-    let start = f in
-    typed_unlabelled start.args.text.now f.behind.ensures f.field-label.ensures
-    f.fits.ensures c.if-fits.false
+    typed_unlabelled c.args.text.now c.behind.ensures c.field-label.ensures
+    c.fits.ensures c.if-fits.false

@@ -9,15 +9,13 @@ loop-i-init c =
 
 pub returns-then-byte_at-word : goal.returns-then-byte_at-word
 returns-then-byte_at-word c =
-    let l = c in
-    spelling_other _ _ l.loop-i.i c.loop-i-test.true c.byte_at.ensures c.if-byte_at-word.true
-    l.loop-i.invariant
+    spelling_other _ _ c.loop-i.i c.loop-i-test.true c.byte_at.ensures c.if-byte_at-word.true
+    c.loop-i.invariant
 
 pub loop-i-preserved : goal.loop-i-preserved
 loop-i-preserved c =
-    let l = c in
-    spelling_more _ _ l.loop-i.i c.loop-i-test.true c.byte_at.ensures c.if-byte_at-word.false
-    l.loop-i.invariant
+    spelling_more _ _ c.loop-i.i c.loop-i-test.true c.byte_at.ensures c.if-byte_at-word.false
+    c.loop-i.invariant
 
 pub returns : goal.returns
 returns c = spelling_end _ _ c.loop-i.i c.loop-i-test.false c.loop-i.invariant

@@ -7,22 +7,19 @@ use Rattle.steps.proofs.check.cause_of_adding.Goals as goal
 
 pub returns-then-number-ne0 : goal.returns-then-number-ne0
 returns-then-number-ne0 c =
-    let start = c in
-    rule-turned start.args.session start.args.rule
+    rule-turned c.args.session c.args.rule
     (c.number_of-number.ensures ∙ ap number_of c.decoded.ensures) c.if-number-ne0.true
 
 pub returns-then-label_held : goal.returns-then-label_held
 returns-then-label_held c =
-    let start = c in
-    label-turned start.args.session start.args.rule
+    label-turned c.args.session c.args.rule
     (c.number_of-number.ensures ∙ ap number_of c.decoded.ensures)
     c.if-number-ne0.false c.label_held.ensures c.if-label_held.true
 
 pub returns : goal.returns
 returns c =
-    let start = c in
-    let told = start.well_formed.1.0.1.1 in
-    none-turned start.args.session start.args.rule
+    let told = c.well_formed.1.0.1.1 in
+    none-turned c.args.session c.args.rule
     (c.number_of-number.ensures ∙ ap number_of c.decoded.ensures)
     c.if-number-ne0.false (record { sfits = told.1.0.1 }) (record { sfits = told.1.1.0.1 }) told.1.1.1.1.0.1
     c.label_held.ensures c.if-label_held.false

@@ -17,9 +17,8 @@ bounds-rules-i c =
 
 pub returns-then-rule-label : goal.returns-then-rule-label
 returns-then-rule-label c =
-    let start = c in
     let l = c.loop-i in
-    label-there start.args.session start.args.label (omega (arith, start.requires.count, start.requires.size)) l.i
+    label-there c.args.session c.args.label (omega (arith, c.requires.count, c.requires.size)) l.i
     c.loop-i-test.true c.if-rule-label.true
 
 pub overflow_add-i : goal.overflow_add-i
@@ -32,16 +31,14 @@ loop-i-smaller c =
 
 pub loop-i-preserved : goal.loop-i-preserved
 loop-i-preserved c =
-    let start = c in
     let l = c.loop-i in (
       omega (arith, c.loop-i-test.true),
       l.invariant.1,
-      one_more start.args.session.rules start.args.label l.i l.invariant.2 c.if-rule-label.false,
+      one_more c.args.session.rules c.args.label l.i l.invariant.2 c.if-rule-label.false,
     )
 
 pub returns : goal.returns
 returns c =
-    let start = c in
     let l = c.loop-i in
-    label-absent start.args.session start.args.label (omega (arith, start.requires.count, start.requires.size))
+    label-absent c.args.session c.args.label (omega (arith, c.requires.count, c.requires.size))
     (λ k h. l.invariant.2 k (omega (arith, c.loop-i-test.false)))

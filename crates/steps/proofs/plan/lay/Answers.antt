@@ -33,13 +33,12 @@ loop-i-smaller c =
 
 pub loop-i-preserved : goal.loop-i-preserved
 loop-i-preserved c =
-    let start = c in
     let l = c.loop-i in
     let put = c.put in (
       omega (arith, c.loop-i-test.true),
       l.invariant.1,
       put.auto.run ∙ l.invariant.2,
-      laid_next start.args.run.now start.args.session.rules l.i l.invariant.3 c.constraint.ensures put.ensures,
+      laid_next c.args.run.now c.args.session.rules l.i l.invariant.3 c.constraint.ensures put.ensures,
     )
 
 pub shape_of-run : goal.shape_of-run
@@ -47,7 +46,6 @@ shape_of-run c = c.loop-i.invariant.2 ∙ sym c.requires.room
 
 pub returns : goal.returns
 returns c =
-    let start = c in
     let l = c.loop-i in
-    let all : l.i ≡ start.args.session.n = omega (arith, c.loop-i-test.false) in
-    l.invariant.3 ∙ ap (laid_from start.args.run.now start.args.session.rules) all
+    let all : l.i ≡ c.args.session.n = omega (arith, c.loop-i-test.false) in
+    l.invariant.3 ∙ ap (laid_from c.args.run.now c.args.session.rules) all

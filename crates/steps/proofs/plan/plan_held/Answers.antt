@@ -6,13 +6,11 @@ use Rattle.steps.proofs.plan.plan_held.Goals as goal
 
 pub returns-in-Outside : goal.returns-in-Outside
 returns-in-Outside c =
-    let start = c in
     absurd
-    (never-outside start.args.session start.requires _ refl c.lay.ensures
+    (never-outside c.args.session c.requires _ refl c.lay.ensures
     (sym c.in-Outside.is ∙ c.solve.ensures.answer))
 
 pub returns-in-Walked : goal.returns-in-Walked
 returns-in-Walked c =
-    let start = c in
-    session-shown start.args.session start.requires _ refl c.lay.ensures c.places-names.ensures
+    session-shown c.args.session c.requires _ refl c.lay.ensures c.places-names.ensures
     (sym c.in-Walked.is ∙ c.solve.ensures.answer) c.plan_of.ensures

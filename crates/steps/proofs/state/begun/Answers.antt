@@ -22,7 +22,6 @@ overflow_cast-floors-2 c =
 
 pub returns : goal.returns
 returns c =
-    let start = c in
     λ i. record {
       rules = replicate 64 (c.no_rule-rules.ensures i);
       n = 0;
@@ -30,13 +29,13 @@ returns c =
           record {
             objective =
                 record {
-                  p = widened-read start.args.p start.ranges.p i;
-                  q = widened-read start.args.q start.ranges.q i;
+                  p = widened-read c.args.p c.ranges.p i;
+                  q = widened-read c.args.q c.ranges.q i;
                 };
             floors =
                 record {
-                  lx = widened-read start.args.lx start.ranges.lx i;
-                  ly = widened-read start.args.ly start.ranges.ly i;
+                  lx = widened-read c.args.lx c.ranges.lx i;
+                  ly = widened-read c.args.ly c.ranges.ly i;
                 };
           };
     }

@@ -8,13 +8,11 @@ use Rattle.typed_line.proofs.written.append_typed.Goals as goal
 pub returns-in-Rule : goal.returns-in-Rule
 unfolding typed_fields
 returns-in-Rule c =
-    let line = c in
-    spelt (ap typed_fields (sym line.in-Rule.is)) line.append_rule.ensures
+    spelt (ap typed_fields (sym c.in-Rule.is)) c.append_rule.ensures
 
 pub returns-in-Refused : goal.returns-in-Refused
 unfolding typed_fields
 returns-in-Refused c =
-    let line = c in
     spelt
-    (ap typed_fields (sym line.in-Refused.is))
-    (roomier (omega arith) (line.append_refused.ensures.fits (omega arith)))
+    (ap typed_fields (sym c.in-Refused.is))
+    (roomier (omega arith) (c.append_refused.ensures.fits (omega arith)))

@@ -6,13 +6,10 @@ use Rattle.typed_line.proofs.written.write_typed.Goals as goal
 
 pub returns-then-out-lt96 : goal.returns-then-out-lt96
 returns-then-out-lt96 c =
-    let start = c in
-    too_small (typed_line start.args.t) typed_room start.args.out.now (omega arith)
+    too_small (typed_line c.args.t) typed_room c.args.out.now (omega arith)
 
 pub returns : goal.returns
 unfolding typed_line
 returns c =
-    let feed = c in
-    let fields = feed in
-    let last = feed.append_word.ensures.fits (omega arith) in
-    filled {room = typed_room} (omega arith) (omega arith) (followed fields.append_typed-end.ensures last)
+    let last = c.append_word.ensures.fits (omega arith) in
+    filled {room = typed_room} (omega arith) (omega arith) (followed c.append_typed-end.ensures last)
