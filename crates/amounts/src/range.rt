@@ -9,7 +9,7 @@ pub fn up_to(n: u32, z: i64) -> bool
     ensures { result ≡ up_to n z }
 {
     let most = n as i64;
-    (0 - most <= z) & (z <= most)
+    (-most <= z) & (z <= most)
 }
 
 pub fn rule_in_range(r: Constraint) -> bool

@@ -90,7 +90,7 @@ pub fn append_fields(naming: Naming, answer: Answer, out: &mut [u8]) -> usize
     ensures { Appended out.old 0 (answer_fields naming answer) 223 out.new result }
 {
     match answer {
-        Answer::Refused(refusal) => append_refused(refusal.number, refusal.at, out, 0),
-        Answer::Planned(plan) => append_plan(naming, plan, out),
+        Err(refusal) => append_refused(refusal.number, refusal.at, out, 0),
+        Ok(plan) => append_plan(naming, plan, out),
     }
 }

@@ -1,9 +1,9 @@
--- What is said of a refusal and a plan: the refusal if its number is not 0, else the plan.
-use Rattle.std.specs.Prelude.{cond, eqb}
+-- What is said of a plan and a refusal, if there is one: the refusal, or else the plan.
+use Rattle.std.specs.Prelude.{Option, Some, None, Ok, Err}
 use Rattle.answers.specs.declared.Plan.{Plan}
 use Rattle.answers.specs.declared.Refusal.{Refusal}
-use Rattle.answers.specs.declared.Answer.{Answer}
-use Rattle.answers.specs.declared.Answer.TheVariants.{Planned, Refused}
+use Rattle.answers.specs.Answer.{Answer}
 
-abbrev pub said_of : Refusal → Plan → Answer
-said_of refusal plan = cond (eqb refusal.number 0) (Planned plan) (Refused refusal)
+abbrev pub said_of : Option Refusal → Plan → Answer
+said_of (Some refusal) plan = Err refusal
+said_of None plan = Ok plan

@@ -28,20 +28,15 @@ pub struct Plan {
     pub witness: Certificate,
 }
 
-// Refused, or planned.
-#[derive(Clone, Copy)]
-pub enum Answer {
-    Refused(Refusal),
-    Planned(Plan),
-}
+// What is said of a book: its plan, or else its refusal.
+pub type Answer = Result<Plan, Refusal>;
 
-// What is said of a refusal and a plan of which one counts: the refusal, if it turns something back, and else the plan.
-pub fn said(refusal: Refusal, plan: Plan) -> Answer
+// What is said of a plan and a refusal, if there is one: the refusal, where something is turned back, and else the plan.
+pub fn said(refusal: Option<Refusal>, plan: Plan) -> Answer
     ensures { result ≡ said_of refusal plan }
 {
-    if refusal.number == 0 {
-        Answer::Planned(plan)
-    } else {
-        Answer::Refused(refusal)
+    match refusal {
+        Some(refusal) => Err(refusal),
+        None => Ok(plan),
     }
 }

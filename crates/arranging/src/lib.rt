@@ -6,7 +6,7 @@ ghost use Rattle.std.specs.Prelude.{◌≡◌, ◌≤◌, length};
 ghost use Rattle.sorting.specs.Keys.{comes_at};
 ghost use Rattle.arranging.specs.Arranging.{indices, kept_run, Kept, Stepped, Stepping, Arranged};
 
-use sorting::keys::{By, comes};
+use sorting::keys::{ByPlace, Order};
 use sorting::sort;
 
 // The run counts 0, 1, 2 and so on.
@@ -14,10 +14,8 @@ fn count_up(run: &mut [u16])
     requires { length run.old ≤ 4098 }
     ensures { run.new ≡ indices 0 (length run.old) }
 {
-    let mut i: u16 = 0;
-    while (i as usize) < run.len() {
-        run[i as usize] = i;
-        i += 1;
+    for (i, place) in run.iter_mut().enumerate() {
+        *place = i as u16;
     }
 }
 
@@ -28,7 +26,8 @@ fn keep_next(keys: &[i64], run: &mut [u16], i: usize, k: usize) -> usize
 {
     let last = run[k - 1];
     let next = run[i];
-    if comes(By::Place, keys, last, next) {
+    let order = ByPlace { keys };
+    if order.comes(last, next) {
         run[k] = next;
         k + 1
     } else {
@@ -43,11 +42,9 @@ fn keep_distinct(keys: &[i64], run: &mut [u16]) -> usize
     if run.len() == 0 {
         return 0;
     }
-    let mut i = 1;
     let mut k = 1;
-    while i < run.len() {
+    for i in 1..run.len() {
         k = keep_next(keys, &mut *run, i, k);
-        i += 1;
     }
     k
 }
@@ -61,6 +58,6 @@ pub fn arrange(keys: &[i64], run: &mut [u16]) -> usize
         return 0;
     }
     count_up(&mut *run);
-    sort(By::Place, keys, &mut *run);
+    sort(&ByPlace { keys }, &mut *run);
     keep_distinct(keys, run)
 }

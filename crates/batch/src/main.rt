@@ -5,8 +5,7 @@
 
 #![tactic(auto)]
 
-use answers::Answer;
-use files::{Taken, load};
+use files::load;
 use std::io;
 
 // The line of one answer.
@@ -27,22 +26,20 @@ fn show_all(rt: &HostRuntime, answers: &[u8]) -> io::Result<()> {
 // What a batch comes to: its refusal's line, or its answers' lines.
 fn answer(rt: &HostRuntime, book: &[u8], objectives: &[u8]) -> io::Result<()> {
     let mut out = [0u8; 1024];
-    let done = batching::batch(book, objectives, &mut out);
-    let refusal = done.refusal;
-    let number = refusal.number;
-    if number == 0 {
-        show_all(rt, &out[..done.filled])
-    } else {
-        let mut line = [0u8; 256];
-        let end = answer_line::write_line(Answer::Refused(refusal), &mut line);
-        rt.write_all(&line[..end])
+    match batching::batch(book, objectives, &mut out) {
+        Ok(filled) => show_all(rt, &out[..filled]),
+        Err(refusal) => {
+            let mut line = [0u8; 256];
+            let end = answer_line::write_line(Err(refusal), &mut line);
+            rt.write_all(&line[..end])
+        }
     }
 }
 
 fn main(rt: HostRuntime) -> io::Result<()> {
     let mut book = [0u8; 57345];
     let mut objectives = [0u8; 129];
-    let Taken::Bytes(n) = load(&rt, 1, b"batch BOOK", &mut book) else {
+    let Some(n) = load(&rt, 1, b"batch BOOK", &mut book) else {
         return Ok(());
     };
     let m = streams::read_full(&mut rt.stdin(), &mut objectives)?;

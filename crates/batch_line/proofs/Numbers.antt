@@ -1,52 +1,23 @@
--- Eight bytes as two halves, sixty-four bits as a signed number, and the line of a pair that was read from them.
-use Prim.Native.Nat.{ℕ, zero, suc, ◌+◌, ◌-◌, ◌*◌, ◌≤◌, ◌<◌}
-use mathlib.Core.Path.{◌≡◌, refl, ap, ◌∙◌, subst}
+-- Eight bytes of a copy as a number, and the line of a pair that was read from them.
+use Prim.Native.Nat.{ℕ, ◌≤◌}
+use mathlib.Core.Path.{◌≡◌, ap, ◌∙◌, subst}
 use mathlib.Core.List.{List}
-use native.Mathlib.Omega.{arith}
-use borrow.Author.Tests.{le-ltb}
+use native.Mathlib.Nat.{le_refl, add-zero}
 use lib.ListN.{drop}
-use lib.IntN.{ℤ, pos, negsuc, ◌-ℤ◌}
 use mir.Syntax.{w64}
-use mir.Val.{to_z}
-use mir.ValLaws.{to_z_pos}
+use Rattle.std.specs.Int.{from_le_bytes}
 use Rattle.lp.specs.declared.Point.{Point}
-use Rattle.records.specs.Number.{number}
-use Rattle.records.proofs.Numbers.{number_step, number-none}
+use Rattle.records.specs.Number.{number, Copied}
+use Rattle.records.proofs.Numbers.{eight_bytes}
+use Rattle.records.proofs.Offsets.{copied-number}
 use Rattle.text.specs.Append.{Appended}
 use Rattle.text.proofs.Put.{roomier}
 use Rattle.batch_line.specs.Line.{pair_line}
 
--- two numbers of four bytes are one of eight
-pub halves : (s : List ℕ) (at : ℕ) → number 4 (drop at s) + 4294967296 * number 4 (drop (at + 4) s) ≡ number 8 (drop at s)
-halves s at =
-    let four : at + 4 ≡ suc (suc (suc (suc at))) = omega arith in
-    let high = ap (λ (n : ℕ). number 4 (drop n s)) four in
-    omega (
-      arith,
-      high,
-      number_step 7 at s,
-      number_step 6 (suc at) s,
-      number_step 5 (suc (suc at)) s,
-      number_step 4 (suc (suc (suc at))) s,
-      number_step 3 at s,
-      number_step 2 (suc at) s,
-      number_step 1 (suc (suc at)) s,
-      number_step 0 (suc (suc (suc at))) s,
-      number-none (drop (suc (suc (suc (suc at)))) s),
-    )
-
--- −1 − m
-below : (m : ℕ) → negsuc 0 -ℤ pos m ≡ negsuc m
-below zero = refl
-below (suc m) = let e : suc (0 + m) ≡ suc m = omega arith in ap negsuc e
-
-pub upper_half : (n : ℕ) → 9223372036854775808 ≤ n → n < 18446744073709551616 →
-    negsuc 0 -ℤ to_z w64 (18446744073709551615 - n) ≡ to_z w64 n
-upper_half n high fits =
-    let m : 18446744073709551616 - suc n ≡ 18446744073709551615 - n = omega arith in
-    ap (λ (z : ℤ). negsuc 0 -ℤ z) (to_z_pos w64 (18446744073709551615 - n) (omega arith))
-    ∙ below (18446744073709551615 - n)
-    ∙ rw (le-ltb n 9223372036854775808 high, m)
+-- a copy's eight bytes, as the library adds them up, are the number at that place
+pub cell-copied : {s w : List ℕ} {at : ℕ} → Copied s at 8 w → from_le_bytes w64 w ≡ number 8 (drop at s)
+cell-copied {s} {w} {at} k =
+    eight_bytes w ∙ copied-number k 8 0 (le_refl 8) ∙ ap (λ (i : ℕ). number 8 (drop i s)) (add-zero at)
 
 -- the line of a pair that is another's
 pub as_read : (word : List ℕ) {before after : List ℕ} {at next i j : ℕ} {v w : Point} →

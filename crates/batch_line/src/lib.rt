@@ -3,10 +3,8 @@
 
 #![tactic(auto)]
 
-ghost use Rattle.std.specs.Prelude.{◌≡◌, ◌+◌, ◌*◌, ◌≤◌, length, get_or, drop};
-ghost use Rattle.std.specs.Int.{w64};
-ghost use Rattle.std.proofs.Common.{to_z};
-ghost use Rattle.records.specs.Number.{number};
+ghost use Rattle.std.specs.Prelude.{◌≡◌, ◌+◌, ◌≤◌, length, get_or};
+ghost use Rattle.records.specs.Number.{Copied};
 ghost use Rattle.text.specs.Append.{HasRoom, Appended, Appends};
 ghost use Rattle.batch_line.specs.Line.{cell_in, point_in, corner_in, pair_line, answer_line};
 
@@ -18,39 +16,16 @@ use text::append_word;
 fn byte_at(s: &[u8], at: usize) -> u8
     ensures { result ≡ get_or s.now at 0 }
 {
-    if at < s.len() { s[at] } else { 0 }
+    s.get(at).copied().unwrap_or(0)
 }
 
-// Four bytes as a number, the one that counts least first.
-fn quad(b0: u8, b1: u8, b2: u8, b3: u8) -> u32
-    ensures { result ≡ b0 + 256 * (b1 + 256 * (b2 + 256 * b3)) }
+// Eight bytes from a place on, with zeros for those that are not there. Crate `records` copies its records so,
+// but a public function may not ask for a bound on the place, so each crate has its own.
+fn window(s: &[u8], at: usize) -> [u8; 8]
+    requires { at ≤ 24 }
+    ensures { Copied s.now at 8 result }
 {
-    b0 as u32 + 256 * (b1 as u32 + 256 * (b2 as u32 + 256 * b3 as u32))
-}
-
-// The number of four bytes from a place on.
-fn four(s: &[u8], at: usize) -> u32
-    requires { at ≤ 28 }
-    ensures { result ≡ number 4 (drop at s.now) }
-{
-    quad(
-        byte_at(s, at),
-        byte_at(s, at + 1),
-        byte_at(s, at + 2),
-        byte_at(s, at + 3),
-    )
-}
-
-// Two halves of sixty-four bits as a signed number in two's complement.
-fn signed(low: u32, high: u32) -> i64
-    ensures { result ≡ to_z w64 (low + 4294967296 * high) }
-{
-    let bits = low as u64 + 4294967296 * high as u64;
-    if high < 2147483648 {
-        bits as i64
-    } else {
-        -1 - (18446744073709551615 - bits) as i64
-    }
+    std::array::from_fn(|i| byte_at(s, at + i))
 }
 
 // The number in eight bytes from a place on.
@@ -58,7 +33,7 @@ fn cell(s: &[u8], at: usize) -> i64
     requires { at ≤ 24 }
     ensures { result ≡ cell_in s.now at }
 {
-    signed(four(s, at), four(s, at + 4))
+    i64::from_le_bytes(window(s, at))
 }
 
 // The corner in 24 bytes: X, Y and D in eight bytes each.

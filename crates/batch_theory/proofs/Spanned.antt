@@ -1,4 +1,5 @@
 -- The rays that one pass over the rules leaves are those of the system, whatever the objective.
+use Rattle.std.specs.Prelude.{Option}
 use mathlib.Core.Path.{subst}
 use mathlib.Core.List.{List, [], ◌∷◌, ◌++◌, append-nil, append_assoc}
 use lib.IntN.{pos}
@@ -6,7 +7,7 @@ use Rattle.lp.specs.declared.Constraint.{Constraint}
 use Rattle.lp.specs.declared.Floors.{Floors}
 use Rattle.lp.specs.Program.{functional, system}
 use Rattle.lp.specs.Document.{tie}
-use Rattle.model.specs.declared.Cone.{Cone}
+use Rattle.lp.specs.declared.Ray.{Ray}
 use Rattle.model.specs.Step.{narrow}
 use Rattle.theory.proofs.Ties.{tie_good}
 use Rattle.theory.proofs.Extension.{extended}
@@ -15,7 +16,7 @@ use Rattle.theory.proofs.Begin.{floors-quadrant, standing_at_first}
 use Rattle.batch_theory.specs.Rays.{narrow_all, axes, rays_of}
 
 module _ (floors : Floors) where
-  spans-from : (done rest : List Constraint) (cone : Cone) →
+  spans-from : (done rest : List Constraint) (cone : Option (Ray × Ray)) →
       Spans (system floors done) cone →
       Spans (system floors (done ++ rest)) (narrow_all rest cone)
   spans-from done [] cone s = subst (λ l. Spans (system floors l) cone) (mathlib.Core.Path.sym (append-nil done)) s

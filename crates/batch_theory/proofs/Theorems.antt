@@ -1,6 +1,7 @@
 -- The outcome of an objective from the corners of the region and its rays: no corner, impossible; a ray that gains, unlimited with the
 -- first corner by the tie; else best, with the first corner by gain and then the tie. Any list with exactly the corners as its members
 -- will do.
+use Rattle.std.specs.Prelude.{None, Some}
 use mathlib.Core.Path.{◌≡◌, refl, sym, ◌∙◌, ap, subst}
 use mathlib.Core.List.Memᴰ
 use mathlib.Core.List.{List, [], ◌∷◌, Memᴰ}
@@ -15,7 +16,6 @@ use Rattle.lp.specs.declared.Outcome.TheVariants as outcome
 use Rattle.lp.specs.Program.{system}
 use Rattle.lp.specs.Outcome.{pick, better, decide, tie_order, gain_order}
 use Rattle.lp.specs.Outcome as defined
-use Rattle.model.specs.declared.Gain.TheVariants as gain
 use Rattle.model.specs.Step.{gaining}
 use Rattle.theory.proofs.Ties.{GoodTie, tie-upward, gain-upward}
 use Rattle.theory.proofs.Cone.{Flattest, Gains, gaining-gains}
@@ -71,7 +71,7 @@ module _ (t : Tie) (good : GoodTie t) (floors : Floors) (f : Functional) (rules 
 
       -- a ray that gains
       pub gaining-unlimited : (d : Ray) →
-          gaining f (rays_of rules) ≡ gain.Along d →
+          gaining f (rays_of rules) ≡ Some d →
           (d' : Ray) × (defined.outcome t floors f rules ≡ outcome.Unbounded (pick (better (tie_order t)) v rest) d')
       gaining-unlimited d g = some (λ w ws q. go w ws q (lawful_rays S f) refl)
         where
@@ -93,7 +93,7 @@ module _ (t : Tie) (good : GoodTie t) (floors : Floors) (f : Functional) (rules 
           )
 
       -- none
-      pub resting_best : gaining f (rays_of rules) ≡ gain.Nowhere →
+      pub resting_best : gaining f (rays_of rules) ≡ None →
           defined.outcome t floors f rules ≡ outcome.Optimal (pick (better (gain_order f t)) v rest)
       resting_best g =
           some (λ w ws q.

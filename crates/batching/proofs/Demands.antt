@@ -1,6 +1,7 @@
 -- What a batch's promise means: for all bytes of a book s, of objectives and of an output, what `batch` hands back for them, r, and the
 -- output after it. Of the code each theorem takes the promise of that call, `Batches s objectives out r after`, and nothing else.
-use Prim.Native.Nat.{ℕ, ◌+◌, ◌*◌, ◌/◌, ◌≤◌, ◌<◌}
+use Rattle.std.specs.Prelude.{Result, Ok, Err}
+use Prim.Native.Nat.{ℕ, ◌*◌, ◌/◌, ◌≤◌, ◌<◌}
 use mathlib.Core.Path.{◌≡◌, refl, sym, ap, ◌∙◌, subst}
 use mathlib.Core.Bool.{Bool, true, false}
 use mathlib.Core.List.{List, ◌++◌}
@@ -19,16 +20,15 @@ use Rattle.records.specs.Layout.{Layout, v2}
 use Rattle.book.specs.Reading.{Reading, refused, accepted, Entry, read_of, rules_of}
 use Rattle.book.specs.Causes.{Applies}
 use Rattle.book.proofs.Causes.{refusal_applies, applies_refused, accepted_no_cause, cause-number}
-use Rattle.answers.specs.declared.Answer.{Answer}
-use Rattle.answers.specs.declared.Answer.TheVariants.{Planned}
+use Rattle.answers.specs.Answer.{Answer}
+use Rattle.std.proofs.Common.{Ok}
 use Rattle.answers.specs.declared.Plan.{Plan}
 use Rattle.answers.specs.declared.Refusal.{Refusal}
-use Rattle.answers.specs.Refusal.{refusal, not_refused}
+use Rattle.answers.specs.Refusal.{refusal}
 use Rattle.theory.proofs.Ties.{tie_good}
 use Rattle.theory.proofs.Meaning.{outcome-order-free}
 use Rattle.planner.specs.Planning.{Answers}
 use Rattle.planner.proofs.Demands.{planned}
-use Rattle.batching.specs.declared.Batched.{Batched}
 use Rattle.objectives.specs.Objectives.{objective_at, objectives_of, bad_objectives}
 use Rattle.offering.specs.Offers.{offer_of, offer_bytes, answers_for}
 use Rattle.batching.specs.Promises.{Batch, declined, answered, batch_of, batched_of, output_of, Batches}
@@ -111,58 +111,57 @@ module _ (s objectives : List ℕ) (room : ℕ) where
       go (taken x e) = absurd (from-accepted x d)
 
   -- no cause has the number 0
-  declines-number : {k i : ℕ} → Declines s objectives room k i → 0 < k
+  pub declines-number : {k i : ℕ} → Declines s objectives room k i → 0 < k
   declines-number (own a) = (cause-number a).0
   declines-number (sixteen n w) = omega arith
   declines-number (eleven n w h) = omega arith
 
 -- ---- the promise
 
-module _ (s objectives out : List ℕ) (r : Batched) (after : List ℕ) (promise : Batches s objectives out r after) where
+ok_apart : {x : Refusal} {n : ℕ} → ◌≡◌ {A = Result ℕ Refusal} (Err x) (Ok n) → ⊥
+ok_apart e = cc
+
+same_refusal : {x y : Refusal} → ◌≡◌ {A = Result ℕ Refusal} (Err x) (Err y) → x ≡ y
+same_refusal e = cc
+
+same_count : {n m : ℕ} → ◌≡◌ {A = Result ℕ Refusal} (Ok n) (Ok m) → n ≡ m
+same_count e = cc
+
+module _ (s objectives out : List ℕ) (r : Result ℕ Refusal) (after : List ℕ) (promise : Batches s objectives out r after) where
   -- ---- refusals: these in this order, and no other
 
   -- a cause that applies first is handed back with its record, and the output is as it was
   pub declined-answered : (k i : ℕ) →
       Declines s objectives (length out) k i →
-      (r ≡ record { refusal = refusal k i; filled = 0 }) × (after ≡ out)
+      (r ≡ Err (refusal k i)) × (after ≡ out)
   declined-answered k i d =
       let e = declines-said s objectives (length out) k i d in
       (promise.answer ∙ ap batched_of e, promise.output ∙ ap (λ (x : Batch). output_of x out) e)
 
   -- a refusal is handed back exactly if its cause applies first
-  pub declined-exactly : (k i : ℕ) → ((0 < k) × (r.refusal ≡ refusal k i)) ↔ Declines s objectives (length out) k i
-  declined-exactly k i = (
-    (λ x. go (fate s objectives (length out)) x.0 x.1),
-    (λ d. (declines-number s objectives (length out) d, ap (λ (x : Batched). x.refusal) (declined-answered k i d).0)),
-  )
+  pub declined-exactly : (k i : ℕ) → (r ≡ Err (refusal k i)) ↔ Declines s objectives (length out) k i
+  declined-exactly k i = (go (fate s objectives (length out)), (λ d. (declined-answered k i d).0))
     where
-      go : Fate s objectives (length out) → 0 < k → r.refusal ≡ refusal k i → Declines s objectives (length out) k i
-      go (turned-back k' i' d e) h q =
-          let same : refusal k' i' ≡ refusal k i = sym (ap (λ (x : Batched). x.refusal) (promise.answer ∙ ap batched_of e)) ∙ q in
-          subst (λ (x : Refusal). Declines s objectives (length out) x.number x.at) same d
-      go (taken x e) h q =
-          let same : not_refused ≡ refusal k i = sym (ap (λ (x : Batched). x.refusal) (promise.answer ∙ ap batched_of e)) ∙ q in
-          let zero : 0 ≡ k = ap (λ (x : Refusal). x.number) same in
-          absurd (let z : ⊥ = omega arith in z)
+      go : Fate s objectives (length out) → r ≡ Err (refusal k i) → Declines s objectives (length out) k i
+      go (turned-back k' i' d e) q =
+          subst (λ (x : Refusal). Declines s objectives (length out) x.number x.at)
+          (same_refusal (sym (promise.answer ∙ ap batched_of e) ∙ q)) d
+      go (taken x e) q = absurd (ok_apart (sym q ∙ promise.answer ∙ ap batched_of e))
 
   -- no refusal is handed back exactly if no cause applies
-  pub answered-exactly : (r.refusal ≡ not_refused) ↔ ((k i : ℕ) → Declines s objectives (length out) k i → ⊥)
+  pub answered-exactly : ((n : ℕ) × (r ≡ Ok n)) ↔ ((k i : ℕ) → Declines s objectives (length out) k i → ⊥)
   answered-exactly = (
-    (λ q k i d.
-        let same : not_refused ≡ refusal k i = sym q ∙ ap (λ (x : Batched). x.refusal) (declined-answered k i d).0 in
-        let zero : 0 ≡ k = ap (λ (x : Refusal). x.number) same in
-        let z : ⊥ = omega (arith, declines-number s objectives (length out) d) in
-        z),
+    (λ x k i d. ok_apart (sym (declined-answered k i d).0 ∙ x.1)),
     (λ none. go (fate s objectives (length out)) none),
   )
     where
-      go : Fate s objectives (length out) → ((k i : ℕ) → Declines s objectives (length out) k i → ⊥) → r.refusal ≡ not_refused
+      go : Fate s objectives (length out) → ((k i : ℕ) → Declines s objectives (length out) k i → ⊥) → (n : ℕ) × (r ≡ Ok n)
       go (turned-back k i d e) none = absurd (none k i d)
-      go (taken x e) none = ap (λ (x : Batched). x.refusal) (promise.answer ∙ ap batched_of e)
+      go (taken x e) none = (_, promise.answer ∙ ap batched_of e)
 
   -- no more bytes are filled than the output has
-  pub filled_within : r.filled ≤ length out
-  filled_within = go (fate s objectives (length out))
+  pub filled_within : (n : ℕ) → r ≡ Ok n → n ≤ length out
+  filled_within n q = go (fate s objectives (length out))
     where
       few : (f : Floors) (rules : List Constraint) →
           bad_objectives objectives ≡ false →
@@ -176,11 +175,10 @@ module _ (s objectives out : List ℕ) (r : Batched) (after : List ℕ) (promise
             whole-objectives objectives e,
           )
 
-      go : Fate s objectives (length out) → r.filled ≤ length out
-      go (turned-back k i d e) = rw (ap (λ (x : Batched). x.filled) (promise.answer ∙ ap batched_of e)) (omega arith)
+      go : Fate s objectives (length out) → n ≤ length out
+      go (turned-back k i d e) = absurd (ok_apart (sym (promise.answer ∙ ap batched_of e) ∙ q))
       go (taken x e) =
-          rw (ap (λ (x : Batched). x.filled) (promise.answer ∙ ap batched_of e))
-          (few x.terms.floors (rules_of x.chain) x.sound x.fits)
+          rw (same_count (sym q ∙ promise.answer ∙ ap batched_of e)) (few x.terms.floors (rules_of x.chain) x.sound x.fits)
 
   -- ---- a batch that is not turned back
 
@@ -210,8 +208,8 @@ module _ (s objectives out : List ℕ) (r : Batched) (after : List ℕ) (promise
         )
 
     -- 32 bytes are filled for each objective, and that is handed back
-    pub filled-all : r ≡ record { refusal = not_refused; filled = 8 * length objectives }
-    filled-all = promise.answer ∙ ap batched_of comes ∙ ap (λ (n : ℕ). record { refusal = not_refused; filled = n }) bytes-long
+    pub filled-all : r ≡ Ok (8 * length objectives)
+    filled-all = promise.answer ∙ ap batched_of comes ∙ ap (λ (n : ℕ). Ok n) bytes-long
 
     -- every byte of the output: the answers in the objectives' order, and then what was there
     pub every_byte : after ≡ bytes ++ drop (8 * length objectives) out
@@ -245,7 +243,7 @@ module _ (s objectives out : List ℕ) (r : Batched) (after : List ℕ) (promise
         t'.objective ≡ objective_at objectives i →
         AlikeInRules (rules_of es') (rules_of es) →
         (p : Plan) →
-        a ≡ Planned p →
+        a ≡ Ok p →
         take 32 (drop (32 * i) after) ≡ offer_bytes (offer_of p.outcome)
     answer-is-plan i h L book a answers t' es' e floors objective alike p q =
         answer_defined i h

@@ -1,4 +1,5 @@
 -- What a batch hands back and leaves in the output, from what the book reads as.
+use Rattle.std.specs.Prelude.{Some, None, Result, Ok, Err}
 use Prim.Native.Nat.{ℕ, ◌*◌, ◌/◌, ◌≤◌, ◌<◌}
 use mathlib.Core.Path.{◌≡◌, refl, sym, ap, ◌∙◌, subst}
 use mathlib.Core.Bool.{Bool, true, false, cond}
@@ -12,14 +13,14 @@ use Rattle.records.specs.Layout.{v2}
 use Rattle.book.specs.declared.Head.{Head}
 use Rattle.book.specs.Reading.{refused, read_of, rules_of}
 use Rattle.engine.specs.Entries.{entries}
-use Rattle.batching.specs.declared.Batched.{Batched}
+use Rattle.answers.specs.declared.Refusal.{Refusal}
 use Rattle.objectives.specs.Objectives.{objectives_of, bad_objectives, cause_of}
 use Rattle.offering.specs.Offers.{answers_for}
 use Rattle.batching.specs.Promises as promised
 use Rattle.batching.specs.Promises.{Batch, declined, batch_of, batched_of, output_of, Batches}
 use Rattle.objectives.proofs.Sound.{whole-objectives}
-use Rattle.offering.specs.declared.Answered.{Answered}
-use Rattle.offering.specs.declared.Answered.TheVariants as answered
+use Rattle.offering.specs.declared.Unanswered.{Unanswered}
+use Rattle.offering.specs.declared.Unanswered.TheVariants as unanswered
 use Rattle.offering.specs.Answering.{Answers}
 use Rattle.objectives.proofs.Turned.{cause-sixteen, cause-eleven, cause-none, none-sound, none-room}
 use Rattle.offering.proofs.Written.{length-answers, length-objectives}
@@ -29,7 +30,7 @@ use Rattle.batching.proofs.Runs.{in-range}
 
 module _ (s objectives out : List ℕ) where
   -- what a batch comes to fixes what is handed back and the output
-  comes-to : (b : Batch) {r : Batched} {after : List ℕ} →
+  comes-to : (b : Batch) {r : Result ℕ Refusal} {after : List ℕ} →
       batch_of (read_of v2 s) objectives (length out) ≡ b →
       r ≡ batched_of b →
       after ≡ output_of b out →
@@ -45,7 +46,7 @@ module _ (s objectives out : List ℕ) where
 
   module _ {h : Head} {l : List ℤ} (x : Ready s h l) where
     pub batch-sixteen : bad_objectives objectives ≡ true →
-        {r : Batched} →
+        {r : Result ℕ Refusal} →
         r ≡ batched_of (declined 16 0) →
         Batches s objectives out r out
     unfolding batch_of
@@ -53,7 +54,7 @@ module _ (s objectives out : List ℕ) where
 
     pub batch-eleven : bad_objectives objectives ≡ false →
         length out < 8 * length objectives →
-        {r : Batched} →
+        {r : Result ℕ Refusal} →
         r ≡ batched_of (declined 11 0) →
         Batches s objectives out r out
     unfolding batch_of
@@ -66,7 +67,7 @@ module _ (s objectives out : List ℕ) where
         n ≡ h.n →
         {after : List ℕ} →
         after ≡ answers_for h.terms.floors (entries l 2 n) (objectives_of objectives) ++ drop (8 * length objectives) out →
-        Batches s objectives out (record { refusal = h.refusal; filled = 8 * length objectives }) after
+        Batches s objectives out (Ok (8 * length objectives)) after
     unfolding batch_of
     batch-answered e room {n} en {after} ea =
         let bytes = answers_for x.terms.floors (rules_of x.chain) (objectives_of objectives) in
@@ -81,34 +82,29 @@ module _ (s objectives out : List ℕ) where
         ap (λ (k : ℕ). answers_for h.terms.floors (entries l 2 k) (objectives_of objectives)) en
         ∙ (λ j. answers_for (x.head j).terms.floors (x.rules j) (objectives_of objectives)) in
         comes-to (promised.answered bytes) (rw (x.reads, e, le-ltb (length out) (8 * length objectives) room))
-        (λ j. record { refusal = (x.head j).refusal; filled = sym long j })
+        (ap (λ (n : ℕ). Ok n) (sym long))
         (ea ∙ (λ j. same j ++ drop (sym long j) out))
 
     -- what the objectives were answered is what the batch comes to
     module _
         {records : List ℕ} {run : List ℤ} {ring : List ℕ} {corners : List ℤ} (room : Roomy s records run ring corners)
         (order : List ℕ) (eo : length order ≡ h.n) (el : length l ≡ length run)
-        {a : Answered} {l' : List ℤ} {order' ring' : List ℕ} {corners' : List ℤ} {after : List ℕ}
+        {a : Result ℕ Unanswered} {l' : List ℤ} {order' ring' : List ℕ} {corners' : List ℤ} {after : List ℕ}
         (w : Answers h.terms.floors l order ring corners objectives out a l' order' ring' corners' after)
-        {r : Batched} (er : r ≡ batched_by a) where
-      done : cause_of objectives (length out) ≡ 0 → Batches s objectives out r after
+        {r : Result ℕ Refusal} (er : r ≡ batched_by a) where
+      done : cause_of objectives (length out) ≡ None → Batches s objectives out r after
       done none =
           let d = w.done none in
           let so = in-range s h l x room order eo el in
           let bytes = answers_for h.terms.floors (entries l 2 (length order)) (objectives_of objectives) in
-          subst (λ (z : Batched). Batches s objectives out z after)
-          (sym
-          (er
-          ∙ ap batched_by (d.answer ∙ ap (λ b. cond b (answered.Filled (8 * length objectives)) answered.Outside) so)
-          ∙ (λ j. record { refusal = (sym x.head j).refusal; filled = 8 * length objectives })))
+          subst (λ (z : Result ℕ Refusal). Batches s objectives out z after)
+          (sym (er ∙ ap batched_by (d.answer ∙ ap (λ b. cond b (Ok (8 * length objectives)) (Err unanswered.Outside)) so)))
           (batch-answered (none-sound objectives (length out) none) (none-room objectives (length out) none) eo
           (d.output ∙ ap (λ b. cond b (bytes ++ drop (8 * length objectives) out) out) so))
 
       -- a cause's number
-      turned-back : (k : ℕ) → cause_of objectives (length out) ≡ k → (k ≡ 0 → ⊥) → (r ≡ batched_of (declined k 0)) × (after ≡ out)
-      turned-back k e some =
-          let d = w.declined (λ z. some (sym e ∙ z)) in
-          (er ∙ ap batched_by d.answer ∙ ap (λ (n : ℕ). batched_of (declined n 0)) e, d.output)
+      turned-back : (k : ℕ) → cause_of objectives (length out) ≡ Some k → (r ≡ batched_of (declined k 0)) × (after ≡ out)
+      turned-back k e = let d = w.declined k e in (er ∙ ap batched_by d.answer, d.output)
 
       same-output : {b : List ℕ} → after ≡ b → Batches s objectives out r b → Batches s objectives out r after
       same-output e = subst (λ (z : List ℕ). Batches s objectives out r z) (sym e)
@@ -122,11 +118,11 @@ module _ (s objectives out : List ℕ) where
               ltb (length out) (8 * length objectives) ≡ c →
               Batches s objectives out r after
           go true e c q =
-              let t = turned-back 16 (sym (cause-sixteen objectives (length out) e)) (λ z. omega arith) in
+              let t = turned-back 16 (sym (cause-sixteen objectives (length out) e)) in
               same-output t.1 (batch-sixteen e t.0)
           go false e true q =
               let short = ltb-true (length out) (8 * length objectives) q in
-              let t = turned-back 11 (sym (cause-eleven objectives (length out) e short)) (λ z. omega arith) in
+              let t = turned-back 11 (sym (cause-eleven objectives (length out) e short)) in
               same-output t.1 (batch-eleven e short t.0)
           go false e false q =
               done (sym (cause-none objectives (length out) e (ltb-false (length out) (8 * length objectives) q)))

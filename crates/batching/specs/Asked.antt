@@ -1,14 +1,14 @@
 -- What a batch's private functions ask of the runs that they are lent, and what they hand back.
-use Rattle.std.specs.Prelude.{◌≡◌, List, ℕ, ◌+◌, ◌*◌, ◌≤◌, length, ℤ}
+use Rattle.std.specs.Prelude.{◌≡◌, List, ℕ, ◌+◌, ◌*◌, ◌≤◌, Result, Ok, Err, length, ℤ}
 use Rattle.lp.specs.declared.Floors.{Floors}
 use Rattle.lp.specs.Range.{SmallFloors, SmallSystem}
-use Rattle.answers.specs.Refusal.{refusal, not_refused}
+use Rattle.answers.specs.declared.Refusal.{Refusal}
+use Rattle.answers.specs.Refusal.{refusal}
 use Rattle.records.specs.Layout.{v2}
 use Rattle.records.specs.Header.{header_fault, count_of}
 use Rattle.engine.specs.Entries.{entries}
-use Rattle.offering.specs.declared.Answered.{Answered}
-use Rattle.offering.specs.declared.Answered.TheVariants as answered
-use Rattle.batching.specs.declared.Batched.{Batched}
+use Rattle.offering.specs.declared.Unanswered.{Unanswered}
+use Rattle.offering.specs.declared.Unanswered.TheVariants as unanswered
 
 -- n rules after the floors' places, each within its range
 pub record Laid (floors : Floors) (n : ℕ) (l : List ℤ) : Type 0 where
@@ -27,7 +27,7 @@ pub record Roomy (s records : List ℕ) (run : List ℤ) (ring : List ℕ) (corn
   pub corners-room : header_fault v2 s ≡ 0 → 3 * (count_of v2 s + 3) ≤ length corners
 
 -- what is handed back for what the objectives were answered
-abbrev pub batched_by : Answered → Batched
-batched_by answered.Outside = record { refusal = not_refused; filled = 0 }
-batched_by (answered.Declined n) = record { refusal = refusal n 0; filled = 0 }
-batched_by (answered.Filled n) = record { refusal = not_refused; filled = n }
+abbrev pub batched_by : Result ℕ Unanswered → Result ℕ Refusal
+batched_by (Err unanswered.Outside) = Ok 0
+batched_by (Err (unanswered.Declined n)) = Err (refusal n 0)
+batched_by (Ok n) = Ok n

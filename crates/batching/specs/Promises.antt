@@ -1,9 +1,9 @@
 -- What a batch comes to: the first refusal that applies, or the answers; what it hands back, and every byte of the output.
-use Rattle.std.specs.Prelude.{ℕ, ◌*◌, ◌≡◌, cond, List, ◌++◌, ltb, length, drop}
-use Rattle.answers.specs.Refusal.{refusal, not_refused}
+use Rattle.std.specs.Prelude.{ℕ, ◌*◌, ◌≡◌, cond, List, ◌++◌, Result, Ok, Err, ltb, length, drop}
+use Rattle.answers.specs.declared.Refusal.{Refusal}
+use Rattle.answers.specs.Refusal.{refusal}
 use Rattle.records.specs.Layout.{v2}
 use Rattle.book.specs.Reading.{Reading, refused, accepted, read_of, rules_of}
-use Rattle.batching.specs.declared.Batched.{Batched}
 use Rattle.objectives.specs.Objectives.{objectives_of, bad_objectives}
 use Rattle.offering.specs.Offers.{answers_for}
 
@@ -21,15 +21,15 @@ batch_of (accepted t es) objectives room =
     (answered (answers_for t.floors (rules_of es) (objectives_of objectives))))
 
 -- what is handed back, and what the output then holds
-abbrev pub batched_of : Batch → Batched
-batched_of (declined n r) = record { refusal = refusal n r; filled = 0 }
-batched_of (answered bs) = record { refusal = not_refused; filled = length bs }
+abbrev pub batched_of : Batch → Result ℕ Refusal
+batched_of (declined n r) = Err (refusal n r)
+batched_of (answered bs) = Ok (length bs)
 
 abbrev pub output_of : Batch → List ℕ → List ℕ
 output_of (declined n r) out = out
 output_of (answered bs) out = bs ++ drop (length bs) out
 
 -- the promise of `batch`
-pub record Batches (s objectives out : List ℕ) (r : Batched) (after : List ℕ) : Type 0 where
+pub record Batches (s objectives out : List ℕ) (r : Result ℕ Refusal) (after : List ℕ) : Type 0 where
   pub answer : r ≡ batched_of (batch_of (read_of v2 s) objectives (length out))
   pub output : after ≡ output_of (batch_of (read_of v2 s) objectives (length out)) out

@@ -2,32 +2,22 @@
 // what a short book takes.
 ghost use Rattle.records.specs.Layout.{v2};
 ghost use Rattle.book.specs.Runs.{Few};
-ghost use Rattle.std.specs.Prelude.{◌≡◌};
+ghost use Rattle.std.specs.Prelude.{◌≡◌, ◌+◌, ◌*◌, ◌≤◌};
 ghost use Rattle.batching.specs.Promises.{Batches};
 ghost use Rattle.batching.specs.Asked.{batched_by, Roomy};
 
-use crate::Batched;
 use answers::Refusal;
-use offering::{Answered, answer};
+use offering::{Unanswered, answer};
 use records::Version;
 
 // What a batch hands back for what its objectives were answered. An accepted book's numbers are all within their ranges.
-fn batched(answered: Answered) -> Batched
+fn batched(answered: Result<usize, Unanswered>) -> Result<usize, Refusal>
     ensures { result ≡ batched_by answered }
 {
     match answered {
-        Answered::Outside => Batched {
-            refusal: Refusal { number: 0, at: 0 },
-            filled: 0,
-        },
-        Answered::Declined(number) => Batched {
-            refusal: Refusal { number, at: 0 },
-            filled: 0,
-        },
-        Answered::Filled(filled) => Batched {
-            refusal: Refusal { number: 0, at: 0 },
-            filled,
-        },
+        Ok(filled) => Ok(filled),
+        Err(Unanswered::Outside) => Ok(0),
+        Err(Unanswered::Declined(number)) => Err(Refusal { number, at: 0 }),
     }
 }
 
@@ -41,14 +31,14 @@ fn batch_in(
     run: &mut [i64],
     ring: &mut [u16],
     corners: &mut [i64],
-) -> Batched
+) -> Result<usize, Refusal>
     requires { Roomy book.now records.old run.old ring.old corners.old }
     ensures { Batches book.now objectives.now out.old result out.new }
 {
     let head = reading::read(Version::Two, book, &mut *records, &mut run[6..]);
     let refusal = head.refusal;
     if refusal.number != 0 {
-        return Batched { refusal, filled: 0 };
+        return Err(refusal);
     }
     let terms = head.terms;
     let n = head.n;
@@ -63,54 +53,22 @@ fn batch_in(
     ))
 }
 
-// Of a book with 30 rules at most.
-pub fn batch_short(book: &[u8], objectives: &[u8], out: &mut [u8]) -> Batched
-    requires { Few v2 book.now 30 }
+// Of a book with at most RULES rules. Each size is an instance of its own.
+pub fn batch_sized<const RULES: usize, const NUMBERS: usize, const RING: usize>(
+    book: &[u8],
+    objectives: &[u8],
+    out: &mut [u8],
+) -> Result<usize, Refusal>
+    requires few { Few v2 book.now RULES }
+    requires most { RULES ≤ 4095 }
+    requires numbers { NUMBERS ≡ 3 * (RULES + 3) }
+    requires ring { RING ≡ 2 * (RULES + 4) }
     ensures { Batches book.now objectives.now out.old result out.new }
 {
-    let mut records = [0u16; 30];
-    let mut run = [0i64; 99];
-    let mut ring = [0u16; 68];
-    let mut corners = [0i64; 99];
-    batch_in(
-        book,
-        objectives,
-        out,
-        &mut records,
-        &mut run,
-        &mut ring,
-        &mut corners,
-    )
-}
-
-// Of one with 255.
-pub fn batch_middle(book: &[u8], objectives: &[u8], out: &mut [u8]) -> Batched
-    requires { Few v2 book.now 255 }
-    ensures { Batches book.now objectives.now out.old result out.new }
-{
-    let mut records = [0u16; 255];
-    let mut run = [0i64; 774];
-    let mut ring = [0u16; 518];
-    let mut corners = [0i64; 774];
-    batch_in(
-        book,
-        objectives,
-        out,
-        &mut records,
-        &mut run,
-        &mut ring,
-        &mut corners,
-    )
-}
-
-// Of one with as many as a book can have.
-pub fn batch_long(book: &[u8], objectives: &[u8], out: &mut [u8]) -> Batched
-    ensures { Batches book.now objectives.now out.old result out.new }
-{
-    let mut records = [0u16; 4095];
-    let mut run = [0i64; 12294];
-    let mut ring = [0u16; 8198];
-    let mut corners = [0i64; 12294];
+    let mut records = [0u16; RULES];
+    let mut run = [0i64; NUMBERS];
+    let mut ring = [0u16; RING];
+    let mut corners = [0i64; NUMBERS];
     batch_in(
         book,
         objectives,

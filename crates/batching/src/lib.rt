@@ -10,22 +10,16 @@ ghost use Rattle.batching.specs.Promises.{Batches};
 
 use answers::Refusal;
 
-// What a batch answers: a refusal, or how many bytes of the output were filled.
-#[derive(Clone, Copy)]
-pub struct Batched {
-    pub refusal: Refusal,
-    pub filled: usize,
-}
-
-// The answers to up to 32 objectives, 32 bytes each, at the start of the output. What is turned back leaves the output as it was.
-pub fn batch(book: &[u8], objectives: &[u8], out: &mut [u8]) -> Batched
+// The answers to up to 32 objectives, 32 bytes each, at the start of the output, and how many bytes they are. What is turned back leaves
+// the output as it was.
+pub fn batch(book: &[u8], objectives: &[u8], out: &mut [u8]) -> Result<usize, Refusal>
     ensures { Batches book.now objectives.now out.old result out.new }
 {
     if book.len() <= 434 {
-        classes::batch_short(book, objectives, out)
+        classes::batch_sized::<30, 99, 68>(book, objectives, out)
     } else if book.len() <= 3584 {
-        classes::batch_middle(book, objectives, out)
+        classes::batch_sized::<255, 774, 518>(book, objectives, out)
     } else {
-        classes::batch_long(book, objectives, out)
+        classes::batch_sized::<4095, 12294, 8198>(book, objectives, out)
     }
 }

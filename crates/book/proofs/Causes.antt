@@ -11,9 +11,10 @@ use borrow.Author.Tests.{eq-eqb, ne_eqb, ltb-true, ltb-false, eqb-true, eqb-fals
 use lib.ListN.{length, set, replicate, length-append}
 use lib.Dec.{eqb, ltb, lit≤}
 use Rattle.lp.specs.declared.Terms.{Terms}
-use Rattle.records.specs.declared.Decoded.TheVariants.{Sound, Kind, Slope, Bound}
+use Rattle.std.specs.Prelude.{Err}
+use Rattle.records.specs.declared.Fault.TheVariants.{Kind, Slope, Bound}
 use Rattle.records.specs.Layout.{Layout, width}
-use Rattle.records.specs.Record.{record_at, link_of, pad_of, rule_of, bad_kind, bad_slope, bad_bound, decoded_with, decoded_of, number_of}
+use Rattle.records.specs.Record.{sound_with, record_at, link_of, pad_of, rule_of, bad_kind, bad_slope, bad_bound, decoded_with, decoded_of, number_of}
 use Rattle.records.specs.Header.{terms_of, count_of, header_fault, bad_length, bad_version, bad_count, bad_objective, bad_tail}
 use Rattle.book.specs.Reading.{Reading, refused, accepted, Entry, Ending, entry_at, label_at, memb, walk, end_of, read_of, passed_of}
 use Rattle.book.specs.Causes.{WrongLength, WrongVersion, WrongCount, WrongObjective, WrongTail, WrongKind, WrongSlope, WrongBound, short, long, differs, Walked, header, visit, Reached, Applies, cause_1, cause_2, cause_3, cause_4, cause_5, cause_6, cause_7, cause_8, cause_9, cause_10, cause_12, Accepts, Meets}
@@ -162,7 +163,7 @@ module _ (L : Layout) (s : List ℕ) where
             bad_kind (eqb (pad_of L r) 0) (rule_of L r) ≡ a →
             bad_slope (rule_of L r) ≡ b →
             bad_bound (rule_of L r) ≡ c →
-            number_of (cond a Kind (cond b Slope (cond c Bound (Sound (rule_of L r) (link_of L r))))) ≡ 0 →
+            number_of (cond a (Err Kind) (cond b (Err Slope) (cond c (Err Bound) (sound_with (rule_of L r) (link_of L r))))) ≡ 0 →
             (WrongKind L r → ⊥) × (WrongSlope L r → ⊥) × (WrongBound L r → ⊥)
         go true b c pa pb pc e = absurd (let z : ⊥ = omega arith in z)
         go false true c pa pb pc e = absurd (let z : ⊥ = omega arith in z)
@@ -199,8 +200,8 @@ module _ (L : Layout) (s : List ℕ) where
           bad_kind (eqb (pad_of L r) 0) (rule_of L r) ≡ a →
           bad_slope (rule_of L r) ≡ b →
           bad_bound (rule_of L r) ≡ c →
-          (number_of (cond a Kind (cond b Slope (cond c Bound (Sound (rule_of L r) (link_of L r))))) ≡ 0 → ⊥) →
-          Applies L s (number_of (cond a Kind (cond b Slope (cond c Bound (Sound (rule_of L r) (link_of L r)))))) i
+          (number_of (cond a (Err Kind) (cond b (Err Slope) (cond c (Err Bound) (sound_with (rule_of L r) (link_of L r))))) ≡ 0 → ⊥) →
+          Applies L s (number_of (cond a (Err Kind) (cond b (Err Slope) (cond c (Err Bound) (sound_with (rule_of L r) (link_of L r)))))) i
       go true b c pa pb pc h = cause_8 w ((kind-test L r).holds pa)
       go false true c pa pb pc h = cause_9 w (refutes (kind-test L r) pa) ((slope-test L r).holds pb)
       go false false true pa pb pc h = cause_10 w (refutes (kind-test L r) pa) (refutes (slope-test L r) pb) ((bound-test L r).holds pc)

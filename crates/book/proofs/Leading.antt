@@ -13,8 +13,10 @@ use Rattle.records.specs.Layout.{Layout}
 use Rattle.records.specs.Number.{Bytes}
 use Rattle.records.specs.Record.{record_at, rule_of, link_of, decoded_of, number_of}
 use Rattle.records.specs.Header.{count_of}
-use Rattle.book.specs.declared.Judged.{Judged}
-use Rattle.book.specs.declared.Judged.TheVariants.{Sound, Refused}
+use Rattle.std.specs.Prelude.{Result, Ok, Err}
+use Rattle.answers.specs.declared.Refusal.{Refusal}
+use Rattle.answers.specs.Refusal.{refusal}
+use Rattle.records.specs.declared.Sound.{Sound}
 use Rattle.book.specs.Reading.{label_at, memb, refused, end_of}
 use Rattle.book.specs.Causes.{Walked, header, visit}
 use Rattle.book.specs.Tables.{is_noted}
@@ -28,19 +30,19 @@ use Rattle.book.proofs.Causes.{rule-clear, walked_next}
 -- ---- the documents' tests, one by one
 
 module _ (L : Layout) (s : List ℕ) (labels : List ℕ) (count n at i : ℕ) where
-  pub judged-over : count < i → Refused 6 at ≡ judged L s labels count n at i
+  pub judged-over : count < i → Err (refusal 6 at) ≡ judged L s labels count n at i
   unfolding judged
   judged-over h = rw (lt-ltb count i h)
 
   module _ (h : i ≤ count) where
     pub judged-fault :
         (number_of (decoded_of L (record_at L s i)) ≡ 0 → ⊥) →
-        Refused (number_of (decoded_of L (record_at L s i))) i ≡ judged L s labels count n at i
+        Err (refusal (number_of (decoded_of L (record_at L s i))) i) ≡ judged L s labels count n at i
     unfolding judged
     judged-fault f = rw (le-ltb count i h, ne_eqb (number_of (decoded_of L (record_at L s i))) 0 f)
 
     module _ (f : number_of (decoded_of L (record_at L s i)) ≡ 0) where
-      pub judged-met : {r : Judged} →
+      pub judged-met : {r : Result Sound Refusal} →
           is_noted labels (label_at L s i) ≡ true →
           r ≡ again L s n at i →
           r ≡ judged L s labels count n at i
@@ -49,7 +51,7 @@ module _ (L : Layout) (s : List ℕ) (labels : List ℕ) (count n at i : ℕ) wh
 
       pub judged-sound :
           is_noted labels (label_at L s i) ≡ false →
-          Sound (rule_of L (record_at L s i)) (link_of L (record_at L s i)) ≡ judged L s labels count n at i
+          Ok (record { rule = rule_of L (record_at L s i); next = link_of L (record_at L s i) }) ≡ judged L s labels count n at i
       unfolding judged
       judged-sound q = rw (le-ltb count i h, eq-eqb (number_of (decoded_of L (record_at L s i))) 0 f, q)
 
@@ -62,17 +64,17 @@ one_more : (done : List ℕ) (i : ℕ) → length (done ++ (i ∷ [])) ≡ suc (
 one_more done i = length-append done (i ∷ []) ∙ omega arith
 
 module _ (L : Layout) (s : List ℕ) (n at i : ℕ) where
-  pub again-passed : is_passed L s n i ≡ true → Refused 7 at ≡ again L s n at i
+  pub again-passed : is_passed L s n i ≡ true → Err (refusal 7 at) ≡ again L s n at i
   again-passed p = rw p
 
-  pub again-other : is_passed L s n i ≡ false → Refused 12 i ≡ again L s n at i
+  pub again-other : is_passed L s n i ≡ false → Err (refusal 12 i) ≡ again L s n at i
   again-other p = rw p
 
   -- it is a refusal, which leaves the table as it is
-  pub again_kept : {r : Judged} (labels : List ℕ) → r ≡ again L s n at i → labels ≡ labels_after r labels
-  again_kept labels e = sym (ap (λ (r : Judged). labels_after r labels) e ∙ go (is_passed L s n i))
+  pub again_kept : {r : Result Sound Refusal} (labels : List ℕ) → r ≡ again L s n at i → labels ≡ labels_after r labels
+  again_kept labels e = sym (ap (λ (r : Result Sound Refusal). labels_after r labels) e ∙ go (is_passed L s n i))
     where
-      go : (b : Bool) → labels_after (cond b (Refused 7 at) (Refused 12 i)) labels ≡ labels
+      go : (b : Bool) → labels_after (cond b (Err (refusal 7 at)) (Err (refusal 12 i))) labels ≡ labels
       go true = refl
       go false = refl
 
@@ -140,14 +142,14 @@ module _
     (bytes : Bytes s) (w : Walked L s done at) (length-is : n ≡ length done)
     (met : Noted 1024 labels (map (label_at L s) done))
     (held : i ≡ link_of L (record_at L s at)) (some : i ≡ 0 → ⊥) where
-  abbrev pub Leads : Judged → Type 0
-  Leads (Refused k r) = end_of L s ≡ record { reading = refused k r; passed = done }
-  Leads (Sound r next) = NewRule L s done i r next
+  abbrev pub Leads : Result Sound Refusal → Type 0
+  Leads (Err r) = end_of L s ≡ record { reading = refused r.number r.at; passed = done }
+  Leads (Ok s') = NewRule L s done i s'.rule s'.next
 
-  abbrev verdict : Judged
+  abbrev verdict : Result Sound Refusal
   verdict = judged L s labels (count_of L s) n at i
 
-  to : {j : Judged} → j ≡ verdict → Leads j → Leads verdict
+  to : {j : Result Sound Refusal} → j ≡ verdict → Leads j → Leads verdict
   to e l = subst⁻¹ Leads (sym e) l
 
   label-met : is_noted labels (label_at L s i) ≡ memb (label_at L s i) (map (label_at L s) done)
@@ -198,7 +200,7 @@ module _
       go (no h) = by-passed (omega arith) (memb i done) refl
 
   -- of an answer that is one of its cases, where the header's count was handed over
-  pub leads-to : {r j : Judged} {count : ℕ} →
+  pub leads-to : {r j : Result Sound Refusal} {count : ℕ} →
       count ≡ count_of L s →
       r ≡ judged L s labels count n at i →
       r ≡ j →

@@ -1,12 +1,13 @@
 -- One link of the chain judged, as the code does it: by a table of the labels met, and by the links passed where a label was met. Only
 -- functions that the crate keeps to itself cite it.
-use Rattle.std.specs.Prelude.{ℕ, zero, suc, ◌≡◌, Bool, false, cond, ◌||◌, List, eqb, ltb}
+use Rattle.std.specs.Prelude.{ℕ, zero, suc, ◌≡◌, Bool, false, cond, ◌||◌, List, eqb, ltb, Result, Ok, Err}
+use Rattle.answers.specs.declared.Refusal.{Refusal}
+use Rattle.answers.specs.Refusal.{refusal}
 use Rattle.records.specs.declared.Heading.{Heading}
 use Rattle.records.specs.Layout.{Layout}
+use Rattle.records.specs.declared.Sound.{Sound}
 use Rattle.records.specs.Record.{record_at, rule_of, link_of, decoded_of, number_of}
 use Rattle.records.specs.Header.{heading_of}
-use Rattle.book.specs.declared.Judged.{Judged}
-use Rattle.book.specs.declared.Judged.TheVariants.{Sound, Refused}
 use Rattle.book.specs.Reading.{label_at}
 use Rattle.book.specs.Tables.{is_noted, noting}
 
@@ -22,28 +23,30 @@ is_passed L s (suc n) i = is_passed L s n i || eqb i (record_after L s (suc n))
 
 -- a link to record i, held by record `at`, where n records were passed and the label of record i is that of one of them: it is that record
 -- itself, or another
-abbrev pub again : Layout → List ℕ → (n at i : ℕ) → Judged
-again L s n at i = cond (is_passed L s n i) (Refused 7 at) (Refused 12 i)
+abbrev pub again : Layout → List ℕ → (n at i : ℕ) → Result Sound Refusal
+again L s n at i = cond (is_passed L s n i) (Err (refusal 7 at)) (Err (refusal 12 i))
 
 -- a link to record i, held by record `at`, in a book that counts so many records, where n records were passed: 6 of the link, 8, 9 and 10
 -- of the record, and by its label 7 or 12. A record that was passed has none of 8, 9 and 10, so that this is the documents' order
 -- (`proofs/Leading.antt` shows it)
-unfoldable pub judged : Layout → List ℕ → (labels : List ℕ) → (count n at i : ℕ) → Judged
+unfoldable pub judged : Layout → List ℕ → (labels : List ℕ) → (count n at i : ℕ) → Result Sound Refusal
 judged L s labels count n at i =
-    cond (ltb count i) (Refused 6 at)
+    cond (ltb count i) (Err (refusal 6 at))
     (cond (eqb (number_of (decoded_of L (record_at L s i))) 0)
-    (cond (is_noted labels (label_at L s i)) (again L s n at i) (Sound (rule_of L (record_at L s i)) (link_of L (record_at L s i))))
-    (Refused (number_of (decoded_of L (record_at L s i))) i))
+    (cond (is_noted labels (label_at L s i))
+    (again L s n at i)
+    (Ok (record { rule = rule_of L (record_at L s i); next = link_of L (record_at L s i) })))
+    (Err (refusal (number_of (decoded_of L (record_at L s i))) i)))
 
 -- the table after it
-abbrev pub labels_after : Judged → List ℕ → List ℕ
-labels_after (Sound r next) labels = noting labels r.label
-labels_after (Refused k r) labels = labels
+abbrev pub labels_after : Result Sound Refusal → List ℕ → List ℕ
+labels_after (Ok s) labels = noting labels s.rule.label
+labels_after (Err r) labels = labels
 
 -- the promise of `judge`
 pub record Judges
     (L : Layout) (s : List ℕ) (labels : List ℕ) (count n at i : ℕ)
-    (r : Judged) (labels' : List ℕ) : Type 0 where
+    (r : Result Sound Refusal) (labels' : List ℕ) : Type 0 where
   pub answer : r ≡ judged L s labels count n at i
   pub met : labels' ≡ labels_after r labels
 

@@ -5,7 +5,6 @@
 
 use answers::Refusal;
 use lp::Terms;
-use records::Rule;
 
 // What a book reads as, but for its chain. Turned back: the refusal, and all else zero. Accepted: the refusal is zero, and n is the number
 // of rules.
@@ -14,12 +13,4 @@ pub struct Head {
     pub refusal: Refusal,
     pub terms: Terms,
     pub n: usize,
-}
-
-// What a link of the chain leads to: a sound rule that is new on it, with the rule's own link, or what turns the book back, with its
-// number and record.
-#[derive(Clone, Copy)]
-pub enum Judged {
-    Sound(Rule, u16),
-    Refused(u8, u16),
 }

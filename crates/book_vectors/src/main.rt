@@ -6,6 +6,7 @@
 
 ghost use Rattle.std.specs.Prelude.{◌≡◌, ◌<◌, ◌^◌, length, IfOk};
 
+use answers::Refusal;
 use records::Version;
 use std::io;
 
@@ -131,11 +132,12 @@ fn print_repacking(
     bytes: &[u8],
     out: &mut [u8],
 ) -> io::Result<()> {
-    let answer = repacker::repack(version, bytes, &mut *out);
-    let refusal = answer.refusal;
+    let (refusal, filled) = match repacker::repack(version, bytes, &mut *out) {
+        Ok(filled) => (Refusal { number: 0, at: 0 }, filled),
+        Err(refusal) => (refusal, 0),
+    };
     number(rt, refusal.number as u64)?;
     number(rt, refusal.at as u64)?;
-    let filled = answer.filled;
     number(rt, filled as u64)?;
     rt.write_all(b" ")?;
     if filled <= out.len() {
@@ -191,6 +193,7 @@ fn main(rt: HostRuntime) -> io::Result<()> {
     let mut input = [0u8; 65536];
     let n = streams::read_full(&mut rt.stdin(), &mut input)?;
     let mut at: usize = 0;
+    // Each case says itself how long its parts are, so no iterator could split the input.
     while at < n {
         at = run(&rt, &input[..n], at)?;
     }

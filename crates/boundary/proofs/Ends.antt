@@ -1,6 +1,7 @@
 -- The end of a new edge is the tightest point. h has entered a boundary, between k and e. Walked along (b, −a) the line of h is left at
 -- its corner with k, walked the other way at its corner with e. If that corner is a point, it is the one that the walk's pass over all
 -- entries finds, in lowest terms; and no entry is broken there.
+use Rattle.std.specs.Prelude.{Option, None, Some, Result, Ok, Err}
 use mathlib.Core.Path.{◌≡◌, refl, sym, ◌∙◌, ap, ap₂, subst}
 use mathlib.Core.List.Memᴰ
 use mathlib.Core.List.{List, [], ◌∷◌, ◌++◌, Memᴰ}
@@ -20,12 +21,8 @@ use Rattle.lp.specs.declared.Tie.{Tie}
 use Rattle.lp.specs.Program.{slack, Keeps}
 use Rattle.lp.specs.Outcome.{above, det, meet, reduce, tie_order}
 use Rattle.lp.specs.Certificate.{is_zero}
-use Rattle.model.specs.declared.Found.{Found}
-use Rattle.model.specs.declared.Found.TheVariants as found
-use Rattle.model.specs.declared.Broken.{Broken}
-use Rattle.model.specs.declared.Broken.TheVariants as broken
-use Rattle.model.specs.declared.Restart.{Restart}
-use Rattle.model.specs.declared.Restart.TheVariants.{Moved, Failed}
+use Rattle.lp.specs.declared.Certificate.{Certificate}
+use Rattle.model.specs.declared.Met.{Met}
 use Rattle.model.specs.Scan.{reversed, facing, direction, tightest, first_broken}
 use Rattle.model.specs.Step.{found_point, tightest_point, alone, checked, resettled, restart}
 use Rattle.theory.proofs.Solver.{equal, C, slackᵖ, detᵖ, meetᵖ}
@@ -63,30 +60,31 @@ module _ (S : List Constraint) (k l : Constraint) (member : Memᴰ k S) (crosses
         (nn_mul (pos_nn (reduced-multiple (meet m l) tight.crosses).positive)
         (subst (Keeps r) same_point (keeps-lowest _ (reduce (meet k l)) (meet k l) (reduced-multiple (meet k l) crosses) r (kept r i))))
 
-  pass_finds : found_point (tightest l 0 S found.Nothing) ≡ reduce (meet k l)
-  pass_finds = go (tightest l 0 S found.Nothing) (scan_finds S l)
+  pass_finds : found_point (tightest l 0 S None) ≡ reduce (meet k l)
+  pass_finds = go (tightest l 0 S None) (scan_finds S l)
     where
-      go : (f : Found) → Outcome_of_scan S l f → found_point f ≡ reduce (meet k l)
-      go found.Nothing away = clash_ℤ crosses (away k member)
-      go (found.At j m p) (tight, e, i) = ap reduce e ∙ sym (same_point m tight)
+      go : (f : Option Met) → Outcome_of_scan S l f → found_point f ≡ reduce (meet k l)
+      go None away = clash_ℤ crosses (away k member)
+      go (Some found) (tight, e, i) = ap reduce e ∙ sym (same_point found.entry tight)
 
-  pass_moves : (side : Bool) (n : ℕ) (h : Constraint) → resettled S side n h (tightest l 0 S found.Nothing) ≡ Moved (reduce (meet k l))
-  pass_moves side n h = go (tightest l 0 S found.Nothing) (scan_finds S l)
+  pass_moves : (side : Bool) (n : ℕ) (h : Constraint) → resettled S side n h (tightest l 0 S None) ≡ Ok (reduce (meet k l))
+  pass_moves side n h = go (tightest l 0 S None) (scan_finds S l)
     where
       look :
           (j : ℕ) (m : Constraint) (p : Point) →
           Tight S l m →
           p ≡ meet m l →
-          (b : Broken) →
+          (b : Option (ℕ × Constraint)) →
           Outcome_of_check S p S b →
-          checked side n h j m p b ≡ Moved (reduce (meet k l))
-      look j m p tight e broken.Nowhere o = ap Moved (ap reduce e ∙ sym (same_point m tight))
-      look j m p tight e (broken.At i r) (a, b) =
+          checked side n h j m p b ≡ Ok (reduce (meet k l))
+      look j m p tight e None o = ap Ok (ap reduce e ∙ sym (same_point m tight))
+      look j m p tight e (Some (i, r)) (a, b) =
           clash_ℤ (subst (λ z. slack r z <ᶻ pos 0) e b) (found-keeps m tight r (at-member S i r a))
 
-      go : (f : Found) → Outcome_of_scan S l f → resettled S side n h f ≡ Moved (reduce (meet k l))
-      go found.Nothing away = clash_ℤ crosses (away k member)
-      go (found.At j m p) (tight, e, i) = look j m p tight e (first_broken p 0 S) (check-finds S p)
+      go : (f : Option Met) → Outcome_of_scan S l f → resettled S side n h f ≡ Ok (reduce (meet k l))
+      go None away = clash_ℤ crosses (away k member)
+      go (Some found) (tight, e, i) =
+          look found.index found.entry found.point tight e (first_broken found.point 0 S) (check-finds S found.point)
 
 -- ---- a line walked the other way
 
@@ -149,10 +147,10 @@ module _ (S : List Constraint) (h : Constraint) where
         (λ e. clash_ℤ crosses (le_of_eq (ap (λ z. det z h) e ∙ no_self h)))
 
     -- walked as it stands
-    before-found : found_point (tightest (facing true h) 0 S found.Nothing) ≡ reduce (meet k h)
+    before-found : found_point (tightest (facing true h) 0 S None) ≡ reduce (meet k h)
     before-found = pass_finds S k h before-member crosses (λ m i. c.kept m (kept_entry m i))
 
-    before-moves : (n : ℕ) → resettled S true n h (tightest (facing true h) 0 S found.Nothing) ≡ Moved (reduce (meet k h))
+    before-moves : (n : ℕ) → resettled S true n h (tightest (facing true h) 0 S None) ≡ Ok (reduce (meet k h))
     before-moves n = pass_moves S k h before-member crosses (λ m i. c.kept m (kept_entry m i)) true n h
 
   module _ (D e : Constraint) (c : Corner D after h e) (crosses : pos 0 <ᶻ det h e) where
@@ -168,12 +166,12 @@ module _ (S : List Constraint) (h : Constraint) where
     turned-kept m i = subst (Keeps m) (sym (turned-meet h e)) (c.kept m (kept_entry m i))
 
     -- walked the other way
-    after-found : found_point (tightest (facing false h) 0 S found.Nothing) ≡ reduce (meet h e)
+    after-found : found_point (tightest (facing false h) 0 S None) ≡ reduce (meet h e)
     after-found = pass_finds S e (reversed h) after-member turned-crosses turned-kept ∙ ap reduce (turned-meet h e)
 
-    after-moves : (n : ℕ) → resettled S false n h (tightest (facing false h) 0 S found.Nothing) ≡ Moved (reduce (meet h e))
+    after-moves : (n : ℕ) → resettled S false n h (tightest (facing false h) 0 S None) ≡ Ok (reduce (meet h e))
     after-moves n =
-        pass_moves S e (reversed h) after-member turned-crosses turned-kept false n h ∙ ap (λ z. Moved (reduce z)) (turned-meet h e)
+        pass_moves S e (reversed h) after-member turned-crosses turned-kept false n h ∙ ap (λ z. Ok (reduce z)) (turned-meet h e)
 
   -- h lies between k and e in a boundary
   module _ (D k e : Constraint) (before : Corner D after k h) (next : Corner D after h e) where
@@ -184,7 +182,7 @@ module _ (S : List Constraint) (h : Constraint) where
         at-k :
             (b : Bool) →
             (T b → pos 0 <ᶻ det k h) →
-            tightest_point fs S h ≡ found_point (tightest (facing true h) 0 S found.Nothing) →
+            tightest_point fs S h ≡ found_point (tightest (facing true h) 0 S None) →
             point_at fs S h (elim b [ true ↦ at (reduce (meet k h)) | false ↦ nowhere ]) ≡ tightest_point fs S h
         at-k true y scan = sym (scan ∙ before-found D k before (y tt))
         at-k false y scan = refl
@@ -192,7 +190,7 @@ module _ (S : List Constraint) (h : Constraint) where
         at-e :
             (b : Bool) →
             (T b → pos 0 <ᶻ det h e) →
-            tightest_point fs S h ≡ found_point (tightest (facing false h) 0 S found.Nothing) →
+            tightest_point fs S h ≡ found_point (tightest (facing false h) 0 S None) →
             point_at fs S h (elim b [ true ↦ at (reduce (meet h e)) | false ↦ nowhere ]) ≡ tightest_point fs S h
         at-e true y scan = sym (scan ∙ after-found D e next (y tt))
         at-e false y scan = refl
@@ -201,15 +199,15 @@ module _ (S : List Constraint) (h : Constraint) where
             (side : Bool) →
             above fs (direction h) ≡ side →
             point_at fs S h (elim side [ true ↦ proper (meet k h) | false ↦ proper (meet h e) ]) ≡ tightest_point fs S h
-        go true s = at-k (lt_z (pos 0) (det k h)) (λ t. lt_z_yes t) (ap (λ b. found_point (tightest (facing b h) 0 S found.Nothing)) s)
-        go false s = at-e (lt_z (pos 0) (det h e)) (λ t. lt_z_yes t) (ap (λ b. found_point (tightest (facing b h) 0 S found.Nothing)) s)
+        go true s = at-k (lt_z (pos 0) (det k h)) (λ t. lt_z_yes t) (ap (λ b. found_point (tightest (facing b h) 0 S None)) s)
+        go false s = at-e (lt_z (pos 0) (det h e)) (λ t. lt_z_yes t) (ap (λ b. found_point (tightest (facing b h) 0 S None)) s)
 
     -- and the start point moves there
     pub end-restarts : (t : Tie) (n : ℕ) → restart_at t S n h (end_of (tie_order t) h k e) ≡ restart t S n h
     end-restarts t n = go (above (tie_order t) (direction h)) refl
       where
-        resettling : Bool → Restart
-        resettling side = resettled S side n h (tightest (facing side h) 0 S found.Nothing)
+        resettling : Bool → Result Point Certificate
+        resettling side = resettled S side n h (tightest (facing side h) 0 S None)
 
         scanned :
             (side : Bool) →
@@ -217,7 +215,8 @@ module _ (S : List Constraint) (h : Constraint) where
             is_zero h.a && is_zero h.b ≡ false →
             restart t S n h ≡ resettling side
         scanned side s z =
-            ap {B = Restart} (λ b. elim b [ true ↦ Failed (alone n) | false ↦ resettling (above (tie_order t) (direction h)) ]) z
+            ap {B = Result Point Certificate}
+            (λ b. elim b [ true ↦ Err (alone n) | false ↦ resettling (above (tie_order t) (direction h)) ]) z
             ∙ ap resettling s
 
         at-k :

@@ -1,5 +1,6 @@
 -- An objective's outcome from the corners and the cone is the defined outcome: a pass over any list of the corners picks the peak, since
 -- there is one, and the cone's ray that gains is the flattest.
+use Rattle.std.specs.Prelude.{Option, None, Some}
 use mathlib.Core.Path.{◌≡◌, refl, sym, ◌∙◌, ap, ap₂, subst}
 use mathlib.Core.List.Memᴰ
 use mathlib.Core.List.{List, [], ◌∷◌, ◌++◌, append-nil, append_assoc, Memᴰ}
@@ -21,10 +22,7 @@ use Rattle.lp.specs.declared.Outcome.TheVariants as outcome
 use Rattle.lp.specs.Program.{ray, between, system}
 use Rattle.lp.specs.Outcome.{pick, better, tie_order, gain_order}
 use Rattle.lp.specs.Outcome as defined
-use Rattle.model.specs.declared.Cone.{Cone}
-use Rattle.model.specs.declared.Cone.TheVariants.{Wedge}
-use Rattle.model.specs.declared.Gain.{Gain}
-use Rattle.model.specs.declared.Gain.TheVariants as gain
+use Rattle.lp.specs.declared.Ray.{Ray}
 use Rattle.model.specs.Step.{narrow, gaining}
 use Rattle.theory.proofs.Solver.{equal, P, betweenᵖ}
 use Rattle.theory.proofs.Lists.{Picked, picked}
@@ -95,15 +93,15 @@ module _ (S : List Constraint) (fs : List Functional) (O : Upward (Up fs)) where
 -- ---- the cone
 
 cone_spans :
-    (S rules : List Constraint) (cone : Cone) →
+    (S rules : List Constraint) (rays : Option (Ray × Ray)) →
     Quadrant S →
-    Spans S cone →
-    Spans (S ++ rules) (cone_from cone rules)
-cone_spans S [] cone quadrant spans = subst (λ T. Spans T cone) (sym (append-nil S)) spans
-cone_spans S (h ∷ rules) cone quadrant spans =
-    subst (λ T. Spans T (cone_from (narrow h cone) rules)) (append_assoc S (h ∷ []) rules)
-    (cone_spans (S ++ (h ∷ [])) rules (narrow h cone) (λ d r. quadrant d (λ c i. r c ((extended S h).old c i)))
-    (narrow-spans S (S ++ (h ∷ [])) h (extended S h) quadrant cone spans))
+    Spans S rays →
+    Spans (S ++ rules) (cone_from rays rules)
+cone_spans S [] rays quadrant spans = subst (λ T. Spans T rays) (sym (append-nil S)) spans
+cone_spans S (h ∷ rules) rays quadrant spans =
+    subst (λ T. Spans T (cone_from (narrow h rays) rules)) (append_assoc S (h ∷ []) rules)
+    (cone_spans (S ++ (h ∷ [])) rules (narrow h rays) (λ d r. quadrant d (λ c i. r c ((extended S h).old c i)))
+    (narrow-spans S (S ++ (h ∷ [])) h (extended S h) quadrant rays spans))
 
 module _ (t : Tie) (good : GoodTie t) (floors : Floors) (f : Functional) (rules : List Constraint) where
   abbrev S : List Constraint
@@ -112,7 +110,7 @@ module _ (t : Tie) (good : GoodTie t) (floors : Floors) (f : Functional) (rules 
   cone_gains : Gains S f (gaining f (cone_of rules))
   cone_gains =
       gaining-gains S f (floors-quadrant floors rules) (cone_of rules)
-      (cone_spans (system floors []) rules (Wedge (ray (pos 1) (pos 0)) (ray (pos 0) (pos 1))) (floors-quadrant floors [])
+      (cone_spans (system floors []) rules (Some (ray (pos 1) (pos 0), ray (pos 0) (pos 1))) (floors-quadrant floors [])
       (standing_at_first floors t good f).spans)
 
   -- ---- the theorem
@@ -126,20 +124,20 @@ module _ (t : Tie) (good : GoodTie t) (floors : Floors) (f : Functional) (rules 
         Exactly : List Point → Type 0
         Exactly us = (x : Point) → Memᴰ x us ↔ Memᴰ x (allowed_vertices S)
 
-        go : (o : Outcome) → Means t f S o → (us : List Point) → Exactly us → (g : Gain) → Gains S f g → decided_by t f us g ≡ o
+        go : (o : Outcome) → Means t f S o → (us : List Point) → Exactly us → (g : Option Ray) → Gains S f g → decided_by t f us g ≡ o
         go outcome.Infeasible m [] e g gains = refl
         go outcome.Infeasible m (u ∷ us) e g gains = absurd (m u (feasible_of S u ((e u).0 (Memᴰ.head refl))))
         go (outcome.Unbounded s d) m [] e g gains =
             absurd (Memᴰ.not-nil ((e s).1 (feasible-listed S s m.start.vertex m.start.feasible)))
-        go (outcome.Unbounded s d) m (u ∷ us) e (gain.Along c) gains =
+        go (outcome.Unbounded s d) m (u ∷ us) e (Some c) gains =
             ap₂ (λ x y. outcome.Unbounded x y) (peak-picked-from S (tie_order t) (tie-upward t good) s m.start u us e)
             (flattest-unique t good f S c m.along-ray gains m.flattest ∙ sym m.divided)
-        go (outcome.Unbounded s d) m (u ∷ us) e gain.Nowhere gains =
+        go (outcome.Unbounded s d) m (u ∷ us) e None gains =
             clash_ℤ m.flattest.gains (gains m.along-ray m.flattest.recedes)
         go (outcome.Optimal v) m [] e g gains =
             absurd (Memᴰ.not-nil ((e v).1 (feasible-listed S v m.peak.vertex m.peak.feasible)))
-        go (outcome.Optimal v) m (u ∷ us) e (gain.Along c) gains = clash_ℤ gains.gains (m.no_gain c gains.recedes)
-        go (outcome.Optimal v) m (u ∷ us) e gain.Nowhere gains =
+        go (outcome.Optimal v) m (u ∷ us) e (Some c) gains = clash_ℤ gains.gains (m.no_gain c gains.recedes)
+        go (outcome.Optimal v) m (u ∷ us) e None gains =
             ap outcome.Optimal (peak-picked-from S (gain_order f t) (gain-upward t good f) v m.peak u us e)
 
   -- so do the corners of the ring, in whatever order the rules entered it

@@ -1,6 +1,7 @@
 -- The walk with the ring carried along is the walk. Each step is the model's, since the end of the new edge is what the model's pass
 -- finds; and the ring stays a boundary of the entries so far. It holds from any ring that encloses them, so that the ring can be built
 -- late.
+use Rattle.std.specs.Prelude.{Option, None, Some, Result, Ok, Err}
 use mathlib.Core.Path.{◌≡◌, refl, ◌∙◌, ap, ap₂}
 use mathlib.Core.List.{List, [], ◌∷◌, ◌++◌}
 use mathlib.Core.Bool.{Bool, true, false}
@@ -13,13 +14,8 @@ use Rattle.lp.specs.declared.Point.{Point}
 use Rattle.lp.specs.Program.{system}
 use Rattle.lp.specs.Outcome.{keeps, tie_order, gain_order}
 use Rattle.lp.specs.Prefixes.{one_if}
-use Rattle.model.specs.declared.Restart.{Restart}
-use Rattle.model.specs.declared.Restart.TheVariants.{Moved, Failed}
-use Rattle.model.specs.declared.Cone.{Cone}
-use Rattle.model.specs.declared.Gain.{Gain}
-use Rattle.model.specs.declared.Gain.TheVariants as gain
-use Rattle.model.specs.declared.Best.{Best}
-use Rattle.model.specs.declared.Best.TheVariants as best
+use Rattle.lp.specs.declared.Ray.{Ray}
+use Rattle.lp.specs.declared.Certificate.{Certificate}
 use Rattle.model.specs.declared.State.{State}
 use Rattle.model.specs.declared.State.TheVariants.{Ended, Going}
 use Rattle.model.specs.declared.Walk.{Walk}
@@ -83,27 +79,27 @@ module _ (t : Tie) (f : Functional) (S : List Constraint) (n : ℕ) (h : Constra
   abbrev p : Point
   p = tightest_point (gain_order f t) S h
 
-  reopened-to : (g : Gain) → reopened_to p g ≡ reopened (gain_order f t) S h g
-  reopened-to (gain.Along d) = refl
-  reopened-to gain.Nowhere = refl
+  reopened-to : (g : Option Ray) → reopened_to p g ≡ reopened (gain_order f t) S h g
+  reopened-to (Some d) = refl
+  reopened-to None = refl
 
-  improved-to : (cone : Cone) (b : Best) → improved_to p f h cone b ≡ improved (gain_order f t) f S h cone b
-  improved-to cone best.Open = reopened-to (gaining f cone)
-  improved-to cone (best.At v) = refl
+  improved-to : (rays : Option (Ray × Ray)) (b : Option Point) → improved_to p f h rays b ≡ improved (gain_order f t) f S h rays b
+  improved-to rays None = reopened-to (gaining f rays)
+  improved-to rays (Some v) = refl
 
   settled-to :
-      (cone : Cone) (b : Best) (moves opened restarts : ℕ) (r : Restart) →
-      settled_to p f n h cone b moves opened restarts r ≡ settled t f S n h cone b moves opened restarts r
-  settled-to cone b moves opened restarts (Moved s) =
-      ap (λ z. going s (narrow h cone) z (moves + one_if (breaks h b)) opened restarts) (improved-to (narrow h cone) b)
-  settled-to cone b moves opened restarts (Failed c) = refl
+      (rays : Option (Ray × Ray)) (b : Option Point) (moves opened restarts : ℕ) (r : Result Point Certificate) →
+      settled_to p f n h rays b moves opened restarts r ≡ settled t f S n h rays b moves opened restarts r
+  settled-to rays b moves opened restarts (Ok s) =
+      ap (λ z. going s (narrow h rays) z (moves + one_if (breaks h b)) opened restarts) (improved-to (narrow h rays) b)
+  settled-to rays b moves opened restarts (Err c) = refl
 
   stepped-to :
       (moves opened restarts : ℕ) (s : State) →
       stepped_to (restart t S n h) p f n h moves opened restarts s ≡ stepped t f S n h moves opened restarts s
   stepped-to moves opened restarts (Ended q c) = refl
-  stepped-to moves opened restarts (Going s cone b) =
-      settled-to cone b moves opened (recounted restarts h s) (elim (keeps h s) [ true ↦ Moved s | false ↦ restart t S n h ])
+  stepped-to moves opened restarts (Going s rays b) =
+      settled-to rays b moves opened (recounted restarts h s) (elim (keeps h s) [ true ↦ Ok s | false ↦ restart t S n h ])
 
   -- with a ring turned in any way, so that h leaves a ring that encloses the entries with h
   pub quick_step-at :

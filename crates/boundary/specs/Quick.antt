@@ -2,7 +2,7 @@
 -- for on the line of h is one of them: the one in the direction in which the line is walked. So no pass over the entries is made. Where
 -- the edge has no such end in a point, the walk's own passes are made: then h leaves no pair or gains nothing, which happens once, or
 -- never.
-use Rattle.std.specs.Prelude.{List, [], ◌∷◌, ◌++◌, true, false, ℕ, suc, ◌+◌, ◌-◌, pos, length}
+use Rattle.std.specs.Prelude.{List, [], ◌∷◌, ◌++◌, true, false, ℕ, suc, ◌+◌, ◌-◌, pos, length, Option, None, Some, Result, Ok, Err}
 use Rattle.std.specs.Int.Signed.{lt_z}
 use Rattle.lp.specs.declared.Constraint.{Constraint}
 use Rattle.lp.specs.declared.Functional.{Functional}
@@ -12,13 +12,8 @@ use Rattle.lp.specs.declared.Point.{Point}
 use Rattle.lp.specs.Program.{system}
 use Rattle.lp.specs.Outcome.{above, meet, keeps, reduce, tie_order, gain_order}
 use Rattle.lp.specs.Prefixes.{one_if}
-use Rattle.model.specs.declared.Restart.{Restart}
-use Rattle.model.specs.declared.Restart.TheVariants.{Moved, Failed}
-use Rattle.model.specs.declared.Cone.{Cone}
-use Rattle.model.specs.declared.Gain.{Gain}
-use Rattle.model.specs.declared.Gain.TheVariants as gain
-use Rattle.model.specs.declared.Best.{Best}
-use Rattle.model.specs.declared.Best.TheVariants as best
+use Rattle.lp.specs.declared.Ray.{Ray}
+use Rattle.lp.specs.declared.Certificate.{Certificate}
 use Rattle.model.specs.declared.State.{State}
 use Rattle.model.specs.declared.State.TheVariants.{Ended, Going}
 use Rattle.model.specs.declared.Walk.{Walk}
@@ -64,32 +59,33 @@ new_end fs h (k ∷ e ∷ l) = elim (keeps_at h k e) [ true ↦ nowhere | false 
 
 -- ---- the step, with the end in the place of a pass
 
-abbrev pub restart_at : Tie → List Constraint → ℕ → Constraint → End → Restart
-restart_at t S n h (at v) = Moved v
+abbrev pub restart_at : Tie → List Constraint → ℕ → Constraint → End → Result Point Certificate
+restart_at t S n h (at v) = Ok v
 restart_at t S n h nowhere = restart t S n h
 
 abbrev pub point_at : List Functional → List Constraint → Constraint → End → Point
 point_at fs S h (at v) = v
 point_at fs S h nowhere = tightest_point fs S h
 
-abbrev pub reopened_to : Point → Gain → Best
-reopened_to p (gain.Along d) = best.Open
-reopened_to p gain.Nowhere = best.At p
+abbrev pub reopened_to : Point → Option Ray → Option Point
+reopened_to p (Some d) = None
+reopened_to p None = Some p
 
-abbrev pub improved_to : Point → Functional → Constraint → Cone → Best → Best
-improved_to p f h cone best.Open = reopened_to p (gaining f cone)
-improved_to p f h cone (best.At v) = elim (keeps h v) [ true ↦ best.At v | false ↦ best.At p ]
+abbrev pub improved_to : Point → Functional → Constraint → Option (Ray × Ray) → Option Point → Option Point
+improved_to p f h rays None = reopened_to p (gaining f rays)
+improved_to p f h rays (Some v) = elim (keeps h v) [ true ↦ Some v | false ↦ Some p ]
 
-abbrev pub settled_to : Point → Functional → ℕ → Constraint → Cone → Best → ℕ → ℕ → ℕ → Restart → Walk
-settled_to p f n h cone b moves opened restarts (Moved s) =
-    let wedge = narrow h cone in going s wedge (improved_to p f h wedge b) (moves + one_if (breaks h b)) opened restarts
-settled_to p f n h cone b moves opened restarts (Failed c) =
+abbrev pub settled_to :
+    Point → Functional → ℕ → Constraint → Option (Ray × Ray) → Option Point → ℕ → ℕ → ℕ → Result Point Certificate → Walk
+settled_to p f n h rays b moves opened restarts (Ok s) =
+    let wedge = narrow h rays in going s wedge (improved_to p f h wedge b) (moves + one_if (breaks h b)) opened restarts
+settled_to p f n h rays b moves opened restarts (Err c) =
     record { state = Ended (n - 1) c; moves = moves + one_if (breaks h b); opened = opened; restarts = restarts }
 
-abbrev pub stepped_to : Restart → Point → Functional → ℕ → Constraint → ℕ → ℕ → ℕ → State → Walk
+abbrev pub stepped_to : Result Point Certificate → Point → Functional → ℕ → Constraint → ℕ → ℕ → ℕ → State → Walk
 stepped_to r p f n h moves opened restarts (Ended q c) = record { state = Ended q c; moves = moves; opened = opened; restarts = restarts }
-stepped_to r p f n h moves opened restarts (Going s cone b) =
-    settled_to p f n h cone b moves opened (recounted restarts h s) (elim (keeps h s) [ true ↦ Moved s | false ↦ r ])
+stepped_to r p f n h moves opened restarts (Going s rays b) =
+    settled_to p f n h rays b moves opened (recounted restarts h s) (elim (keeps h s) [ true ↦ Ok s | false ↦ r ])
 
 -- m is the ring turned to the place of h
 abbrev pub quick_step : Tie → Functional → List Constraint → ℕ → Constraint → List Constraint → Walk → Walk

@@ -5,7 +5,7 @@
 ghost use Rattle.std.specs.Prelude.{◌≡◌};
 ghost use Rattle.records.specs.Record.{is_beyond, bad_kind, bad_slope, bad_bound, decoded_with};
 
-use records::{Decoded, Rule};
+use records::{Fault, Rule, Sound};
 use signed::least;
 
 // Outside the range of c.
@@ -27,10 +27,7 @@ fn bad_kind(clear: bool, rule: Rule) -> bool
 fn bad_slope(rule: Rule) -> bool
     ensures { result ≡ bad_slope rule }
 {
-    if least(rule.a) {
-        return true;
-    }
-    least(rule.b)
+    least(rule.a) || least(rule.b)
 }
 
 // Cause 10.
@@ -42,20 +39,20 @@ fn bad_bound(rule: Rule) -> bool
 
 // A rule with its link, or the first of 8, 9 and 10 that turns it back. A rule that comes from no record has no padding, which is clear,
 // and no link.
-pub fn decoded(clear: bool, rule: Rule, next: u16) -> Decoded
+pub fn decoded(clear: bool, rule: Rule, next: u16) -> Result<Sound, Fault>
     ensures { result ≡ decoded_with clear rule next }
 {
     let kind = bad_kind(clear, rule);
     let slope = bad_slope(rule);
     let bound = bad_bound(rule);
     if kind {
-        return Decoded::Kind;
+        return Err(Fault::Kind);
     }
     if slope {
-        return Decoded::Slope;
+        return Err(Fault::Slope);
     }
     if bound {
-        return Decoded::Bound;
+        return Err(Fault::Bound);
     }
-    Decoded::Sound(rule, next)
+    Ok(Sound { rule, next })
 }

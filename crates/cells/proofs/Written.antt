@@ -1,21 +1,22 @@
--- Bytes written one after the other are one copy; and a negative number's bits.
+-- Bytes written one after the other are one copy; and a number's bytes, as the library writes them, are its cell.
 use Prim.Native.Nat.{ℕ, zero, suc, ◌+◌, ◌-◌, ◌/◌, ◌^◌, ◌≤◌, ◌<◌}
-use mathlib.Core.Path.{◌≡◌, refl, sym, ap, ◌∙◌, subst}
-use mathlib.Core.Bool.{true, false, cond}
-use mathlib.Core.List.{List, [], ◌∷◌, ◌++◌, append_assoc}
+use mathlib.Core.Path.{◌≡◌, refl, sym, ap, ◌∙◌}
+use mathlib.Core.Bool.{cond}
+use mathlib.Core.List.{List, ◌++◌, append_assoc}
 use native.Mathlib.Omega.{arith}
-use borrow.Author.Tests.{leb-true, le-leb, lt-leb}
-use lib.Dec.{leb}
+use borrow.Author.Tests.{le-leb, lt-leb}
 use lib.ListN.{length, take, drop, length-append}
-use lib.Seq.{paste, take-paste, drop-paste, drop-drop, take_all, take-add, take_at, drop_at, length-paste}
-use lib.IntN.{ℤ, pos, negsuc, nat_abs}
-use lib.Signed.{lt_z, mag}
+use lib.Seq.{paste, take-paste, drop-paste, drop-drop, take_all, take-add, take_at, drop_at}
+use lib.IntN.{ℤ}
+use lib.Signed.{mag}
 use mir.Syntax.{w64}
-use mir.Val.{SFits, Fits, of_z}
-use Rattle.ints.proofs.Bits.{read, turned, negative, below-zero, from_zero}
+use mir.Val.{of_z}
+use Rattle.std.specs.Int.{to_le_bytes}
+use Rattle.ints.proofs.Bits.{read}
 use Rattle.fraction.proofs.Quotients.{unread}
 use Rattle.lp.specs.declared.Point.{Point}
 use Rattle.records.specs.Number.{bytes_of}
+use Rattle.records.proofs.Numbers.{written}
 use Rattle.cells.specs.Cells.{unsigned_cell, cell_of, point_bytes, answer_bytes, stored}
 
 -- ---- lengths
@@ -85,23 +86,13 @@ module _ (o : List ℕ) (at : ℕ) (v : Point) where
 pub kept-short : (o : List ℕ) (at n : ℕ) (bytes : List ℕ) → length o < at + n → o ≡ stored o at n bytes
 kept-short o at n bytes h = sym (ap (λ t. cond t (paste o at bytes n) o) (lt-leb (at + n) (length o) h))
 
--- ---- the bits of a number
+-- ---- the bytes of a number
 
-pub bits_below : (z : ℤ) → SFits w64 z → lt_z (read z) (pos 0) ≡ true → 18446744073709551615 - nat_abs (read (turned z)) ≡ of_z w64 z
-bits_below z f t =
-    let n : ℕ = mag z in
-    let p : z ≡ negsuc n = below-zero z f t in
-    let m : nat_abs (read (turned z)) + 1 ≡ suc n = (negative z f t).magnitude ∙ ap nat_abs p in
-    let e : 18446744073709551615 - nat_abs (read (turned z)) ≡ 18446744073709551616 - suc n = omega arith in
-    e ∙ sym (ap (λ y. of_z w64 y) p)
+pub cell-written : (n : ℕ) {b : List ℕ} → b ≡ to_le_bytes w64 n → b ≡ unsigned_cell n
+cell-written n e = e ∙ written w64 n
 
-pub bits-from : (z : ℤ) → SFits w64 z → lt_z (read z) (pos 0) ≡ false → nat_abs (read z) ≡ of_z w64 z
-bits-from z f t =
-    let p : z ≡ pos (mag z) = from_zero z f t in
-    ap nat_abs (unread {z = z} f.sfits ∙ p) ∙ sym (ap (λ y. of_z w64 y) p)
-
-pub cell-read : (z : ℤ) → mag z < 2 ^ 63 → {n : ℕ} {b : List ℕ} → n ≡ of_z w64 (read z) → b ≡ unsigned_cell n → b ≡ cell_of z
-cell-read z h en eb = eb ∙ ap unsigned_cell (en ∙ ap (λ y. of_z w64 y) (unread {z = z} h))
+pub cell-read : (z : ℤ) → mag z < 2 ^ 63 → {b : List ℕ} → b ≡ to_le_bytes w64 (of_z w64 (read z)) → b ≡ cell_of z
+cell-read z h e = cell-written (of_z w64 (read z)) e ∙ ap (λ y. cell_of y) (unread {z = z} h)
 
 -- a number and a pair are an answer
 pub answer-put : (o : List ℕ) (at outcome : ℕ) (v : Point) {a b s : List ℕ} →

@@ -6,7 +6,7 @@
 #![tactic(auto)]
 
 use check_line::check_line;
-use files::{Taken, load};
+use files::load;
 use std::io;
 use verdict_line::write_verdict;
 
@@ -20,7 +20,7 @@ fn answer(rt: &HostRuntime, book: &[u8], text: &[u8]) -> io::Result<()> {
 fn main(rt: HostRuntime) -> io::Result<()> {
     let mut book = [0u8; 57345];
     let mut text = [0u8; 237];
-    let Taken::Bytes(n) = load(&rt, 1, b"check BOOK", &mut book) else {
+    let Some(n) = load(&rt, 1, b"check BOOK", &mut book) else {
         return Ok(());
     };
     let m = streams::read_full(&mut rt.stdin(), &mut text)?;

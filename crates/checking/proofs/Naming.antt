@@ -8,9 +8,8 @@ use lib.Dec.{eqb}
 use lib.ListN.{length, take, get_or}
 use lib.IntN.{ℤ}
 use Rattle.lp.specs.declared.Constraint.{Constraint}
-use Rattle.slip.specs.declared.named.Named.{Named}
-use Rattle.slip.specs.declared.named.Named.TheVariants.{Nowhere, At}
-use Rattle.slip.specs.Facts.{rule_in}
+use Rattle.std.specs.Prelude.{Some, None}
+use Rattle.slip.specs.Facts.{Named, rule_in}
 use Rattle.slip.specs.Runs.{entry, entries, indices}
 use Rattle.finding.specs.Place.{place_of}
 
@@ -33,7 +32,7 @@ taken (x ∷ l) (suc n) b = ap (λ (y : List ℕ). x ∷ y) (taken l n (omega ar
 module _ (records : List ℕ) (rules : List ℤ) (wanted : ℕ) where
   -- what is named by a place among the n records from i on
   abbrev At-place : ℕ → ℕ → ℕ → Named → Type 0
-  At-place i n p x = (p < n → x ≡ At (entry rules (i + p))) × (n ≤ p → x ≡ Nowhere)
+  At-place i n p x = (p < n → x ≡ Some (entry rules (i + p))) × (n ≤ p → x ≡ None)
 
   named-from : (i n : ℕ) →
       At-place i n (place_of (indices records i n) wanted) (rule_in (indices records i n) (entries rules i n) wanted)
@@ -54,14 +53,14 @@ module _ (records : List ℕ) (rules : List ℤ) (wanted : ℕ) where
           (rule_in (indices records (suc i) n) (entries rules (suc i) n) wanted) →
           At-place i (suc n)
           (elim s [ true ↦ 0 | false ↦ suc (place_of (indices records (suc i) n) wanted) ])
-          (elim s [ true ↦ At (entry rules i) | false ↦ rule_in (indices records (suc i) n) (entries rules (suc i) n) wanted ])
-      go true h = (λ b. ap (λ (k : ℕ). At (entry rules k)) (here i), λ b. absurd (none n b))
+          (elim s [ true ↦ Some (entry rules i) | false ↦ rule_in (indices records (suc i) n) (entries rules (suc i) n) wanted ])
+      go true h = (λ b. ap (λ (k : ℕ). Some (entry rules k)) (here i), λ b. absurd (none n b))
         where
           none : (n : ℕ) → suc n ≤ 0 → ⊥
           none n b = omega arith
       go false h =
           let p = place_of (indices records (suc i) n) wanted in
-          (λ b. h.0 (omega arith) ∙ ap (λ (k : ℕ). At (entry rules k)) (onward i p), λ b. h.1 (omega arith))
+          (λ b. h.0 (omega arith) ∙ ap (λ (k : ℕ). Some (entry rules k)) (onward i p), λ b. h.1 (omega arith))
 
   module _ (n : ℕ) (room : n ≤ length records) {p : ℕ} (e : p ≡ place_of (take n records) wanted) where
     found : At-place 0 n p (rule_in (indices records 0 n) (entries rules 0 n) wanted)
@@ -70,11 +69,11 @@ module _ (records : List ℕ) (rules : List ℤ) (wanted : ℕ) where
         (sym (e ∙ ap (λ (l : List ℕ). place_of l wanted) (taken records n room)))
         (named-from 0 n)
 
-    pub named-at : p < n → {r : Constraint} → r ≡ entry rules p → At r ≡ rule_in (indices records 0 n) (entries rules 0 n) wanted
-    named-at b er = ap At er ∙ ap (λ (k : ℕ). At (entry rules k)) (from_start p) ∙ sym (found.0 b)
+    pub named-at : p < n → {r : Constraint} → r ≡ entry rules p → Some r ≡ rule_in (indices records 0 n) (entries rules 0 n) wanted
+    named-at b er = ap Some er ∙ ap (λ (k : ℕ). Some (entry rules k)) (from_start p) ∙ sym (found.0 b)
       where
         from_start : (p : ℕ) → p ≡ 0 + p
         from_start p = omega arith
 
-    pub named-nowhere : n ≤ p → Nowhere ≡ rule_in (indices records 0 n) (entries rules 0 n) wanted
+    pub named-nowhere : n ≤ p → None ≡ rule_in (indices records 0 n) (entries rules 0 n) wanted
     named-nowhere b = sym (found.1 b)

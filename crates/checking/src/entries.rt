@@ -8,7 +8,6 @@ ghost use Rattle.slip.specs.Runs.{entry as entry_of, entries as entries_of, indi
 
 use crate::exact::{keeps, stays};
 use lp::{Constraint, Point, Ray};
-use slip::named::Named;
 
 fn entry(run: &[i64], k: usize) -> Constraint
     requires { Room run.now k }
@@ -23,16 +22,12 @@ fn entry(run: &[i64], k: usize) -> Constraint
 }
 
 // The rule in a record, if it is one of the chain's n.
-pub fn rule_in(records: &[u16], rules: &[i64], n: usize, wanted: u64) -> Named
+pub fn rule_in(records: &[u16], rules: &[i64], n: usize, wanted: u64) -> Option<Constraint>
     requires { Finding records.now rules.now n }
     ensures { result ≡ rule_in (indices records.now 0 n) (entries_of rules.now 0 n) wanted }
 {
     let at = finding::place(&records[..n], wanted);
-    if at < n {
-        Named::At(entry(rules, at))
-    } else {
-        Named::Nowhere
-    }
+    if at < n { Some(entry(rules, at)) } else { None }
 }
 
 // Whether a point keeps each of n rules.
@@ -40,11 +35,8 @@ pub fn keeps_all(rules: &[i64], n: usize, v: Point) -> bool
     requires { Checking rules.now n v }
     ensures { result ≡ every (λ r. keeps_of r v) (entries_of rules.now 0 n) }
 {
-    let mut i = 0;
-    while i < n {
-        if keeps(entry(rules, i), v) {
-            i += 1;
-        } else {
+    for i in 0..n {
+        if !keeps(entry(rules, i), v) {
             return false;
         }
     }
@@ -56,11 +48,8 @@ pub fn stays_all(rules: &[i64], n: usize, d: Ray) -> bool
     requires { Rising rules.now n d }
     ensures { result ≡ every (λ r. le_z (rise r d) (pos 0)) (entries_of rules.now 0 n) }
 {
-    let mut i = 0;
-    while i < n {
-        if stays(entry(rules, i), d) {
-            i += 1;
-        } else {
+    for i in 0..n {
+        if !stays(entry(rules, i), d) {
             return false;
         }
     }

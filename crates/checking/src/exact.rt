@@ -7,23 +7,17 @@ ghost use Rattle.lp.specs.Program.{rise, along, slack as slack_of};
 ghost use Rattle.lp.specs.Outcome.{keeps as keeps_of};
 ghost use Rattle.lp.specs.Certificate.{is_zero};
 ghost use Rattle.lp.specs.Document.{same as same_of};
-ghost use Rattle.slip.specs.Facts.{ranges, adding, pair_in_range, ray_in_range};
+ghost use Rattle.slip.specs.Facts.{adding, pair_in_range, ray_in_range};
 ghost use Rattle.slip.specs.Runs.{Factors, Distance, Placed, Risen, Gained, Scaled, Fused, Summed};
 
 use lp::{Constraint, Functional, Point, Ray};
+use slip::within;
 
 // Whether two numbers are equal, by the two tests of the definition.
 pub fn same(y: i64, z: i64) -> bool
     ensures { result ≡ same_of y z }
 {
     y <= z && z <= y
-}
-
-// Whether a number is from low to high.
-pub fn within(low: i64, z: i64, high: i64) -> bool
-    ensures { result ≡ ranges low z high }
-{
-    low <= z && z <= high
 }
 
 // A pair's three numbers.

@@ -9,12 +9,12 @@ ghost use Rattle.slip.specs.Slots.{Tight, Proving};
 ghost use Rattle.slip.specs.Runs.{entries, indices, Chain, Allowing, Balancing};
 
 use crate::entries::{keeps_all, stays_all};
-use crate::exact::{gains, keeps, pair_in_range, ray_in_range, same, scaled, tight, within};
+use crate::exact::{gains, keeps, pair_in_range, ray_in_range, same, scaled, tight};
 use crate::named::{floor_x, floor_y, looked_up, sound, total};
 use answers::Refusal;
 use lp::{Constraint, Floors, Functional, Outcome, Point, Ray, Terms};
 use slip::named::Slots;
-use slip::{Slip, Verdict, Weights};
+use slip::{Slip, Verdict, Weights, within};
 
 // An allowed pair keeps both floors and every rule.
 fn allowed(floors: Floors, rules: &[i64], n: usize, v: Point) -> bool

@@ -1,6 +1,6 @@
 // A slip checked against a book's bytes. The book is read once into two lent runs, the chain's records and its rules. They are local to a
 // function for each size of book, since clearing the longest takes several times what a short book takes.
-ghost use Rattle.std.specs.Prelude.{◌≡◌};
+ghost use Rattle.std.specs.Prelude.{◌≡◌, ◌*◌, ◌≤◌};
 ghost use Rattle.records.specs.Layout.{v2};
 ghost use Rattle.book.specs.Reading.{read_of};
 ghost use Rattle.book.specs.Runs.{Few};
@@ -26,31 +26,14 @@ fn check_in(book: &[u8], slip: Slip, records: &mut [u16], rules: &mut [i64]) -> 
     }
 }
 
-// Of a book with 30 rules at most.
-pub fn check_short(book: &[u8], slip: Slip) -> Verdict
-    requires { Few v2 book.now 30 }
+// Of a book with at most RULES rules. Each size is an instance of its own.
+pub fn check_sized<const RULES: usize, const NUMBERS: usize>(book: &[u8], slip: Slip) -> Verdict
+    requires few { Few v2 book.now RULES }
+    requires most { RULES ≤ 4095 }
+    requires numbers { NUMBERS ≡ 3 * RULES }
     ensures { result ≡ verdict_of (read_of v2 book.now) slip }
 {
-    let mut records = [0u16; 30];
-    let mut rules = [0i64; 90];
-    check_in(book, slip, &mut records, &mut rules)
-}
-
-// Of one with 255.
-pub fn check_middle(book: &[u8], slip: Slip) -> Verdict
-    requires { Few v2 book.now 255 }
-    ensures { result ≡ verdict_of (read_of v2 book.now) slip }
-{
-    let mut records = [0u16; 255];
-    let mut rules = [0i64; 765];
-    check_in(book, slip, &mut records, &mut rules)
-}
-
-// Of one with as many as a book can have.
-pub fn check_long(book: &[u8], slip: Slip) -> Verdict
-    ensures { result ≡ verdict_of (read_of v2 book.now) slip }
-{
-    let mut records = [0u16; 4095];
-    let mut rules = [0i64; 12285];
+    let mut records = [0u16; RULES];
+    let mut rules = [0i64; NUMBERS];
     check_in(book, slip, &mut records, &mut rules)
 }

@@ -22,11 +22,11 @@ pub fn check(book: &[u8], slip: Slip) -> Verdict
     ensures { result ≡ verdict_of (read_of v2 book.now) slip }
 {
     if book.len() <= 434 {
-        return lent::check_short(book, slip);
+        return lent::check_sized::<30, 90>(book, slip);
     }
     if book.len() <= 3584 {
-        lent::check_middle(book, slip)
+        lent::check_sized::<255, 765>(book, slip)
     } else {
-        lent::check_long(book, slip)
+        lent::check_sized::<4095, 12285>(book, slip)
     }
 }

@@ -7,11 +7,11 @@ ghost use Rattle.slip.specs.Slots.{blank_of, weighed_of, slot_of, slots_of, apar
 ghost use Rattle.slip.specs.Runs.{entries, indices, Naming};
 
 use crate::entries::rule_in;
-use crate::exact::{added, opposite, same, within};
+use crate::exact::{added, opposite, same};
 use ints::magnitude;
 use lp::{Constraint, Floors};
-use slip::Weights;
-use slip::named::{Named, Slot, Slots};
+use slip::named::{Slot, Slots};
+use slip::{Weights, within};
 
 pub fn floor_x(floors: Floors) -> Constraint
     requires { SmallFloors floors }
@@ -36,19 +36,25 @@ pub fn floor_y(floors: Floors) -> Constraint
 }
 
 // The entry that a code names, of a chain of n rules.
-pub fn entry_named(floors: Floors, records: &[u16], rules: &[i64], n: usize, code: i64) -> Named
+pub fn entry_named(
+    floors: Floors,
+    records: &[u16],
+    rules: &[i64],
+    n: usize,
+    code: i64,
+) -> Option<Constraint>
     requires { Naming floors records.now rules.now n }
     ensures { result ≡ entry_of floors (indices records.now 0 n) (entries rules.now 0 n) code }
 {
     if code < 0 {
-        return Named::Nowhere;
+        return None;
     }
     let number = magnitude(code);
     if number == 0 {
-        return Named::At(floor_x(floors));
+        return Some(floor_x(floors));
     }
     if number == 1 {
-        return Named::At(floor_y(floors));
+        return Some(floor_y(floors));
     }
     rule_in(records, rules, n, number - 1)
 }
@@ -65,12 +71,12 @@ fn blank(sound: bool) -> Slot
 }
 
 // What an entry and its weight come to, where they count.
-fn weighed(entry: Named, weight: i64) -> Slot
+fn weighed(entry: Option<Constraint>, weight: i64) -> Slot
     ensures { result ≡ weighed_of entry weight }
 {
     match entry {
-        Named::Nowhere => blank(false),
-        Named::At(rule) => {
+        None => blank(false),
+        Some(rule) => {
             if within(1, weight, 2147352578) {
                 Slot {
                     sound: true,

@@ -53,20 +53,12 @@ fn first(v: Point, w: Point) -> bool
 pub fn less(x: i64, d: i64, x2: i64, d2: i64) -> bool
     ensures { result ≡ less_in x d x2 d2 }
 {
-    if is_denominator(d) & is_denominator(d2) {
-        smaller(x, d, x2, d2)
-    } else {
-        false
-    }
+    (is_denominator(d) & is_denominator(d2)) && smaller(x, d, x2, d2)
 }
 
 // Whether v comes before w in the order of corners; false where one of them is not a pair.
 pub fn before(v: Point, w: Point) -> bool
     ensures { result ≡ before_in v w }
 {
-    if is_denominator(v.d) & is_denominator(w.d) {
-        first(v, w)
-    } else {
-        false
-    }
+    (is_denominator(v.d) & is_denominator(w.d)) && first(v, w)
 }

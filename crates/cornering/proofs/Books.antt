@@ -1,4 +1,5 @@
 -- What the corners of an accepted book come to.
+use Rattle.std.specs.Prelude.{Option, Result, Err}
 use mathlib.Core.Path.{◌≡◌, refl, sym, ◌∙◌, ap, subst}
 use mathlib.Core.List.{List, ◌∷◌, map, Memᴰ}
 use mathlib.Core.Bool.{Bool, true, false, cond, ◌&&◌}
@@ -20,12 +21,11 @@ use Rattle.boundary.specs.Ring.{grown, corners}
 use Rattle.sorting.specs.Keys.{point_at}
 use Rattle.arranging.specs.Arranging.{indices}
 use Rattle.listing.specs.Listing.{written}
-use Rattle.region.specs.declared.Listed.{Listed}
 use Rattle.region.specs.Listing as listing
 use Rattle.region.proofs.Theorems.{places, rules-enter, only-rules}
 use Rattle.laying.specs.Laying.{Names, within, Lays}
 use Rattle.laying.proofs.Layouts.{names, all_listed, all_read, few-corners, count_of, small-member}
-use Rattle.outline.specs.declared.Outlined.{Outlined}
+use Rattle.outline.specs.declared.Unlisted.{Unlisted}
 use Rattle.outline.specs.Outline.{outlined_of, Outlines}
 use Rattle.outline.specs.Outline as outline
 use Rattle.outline.proofs.Laws.{refused-first}
@@ -38,7 +38,7 @@ use Rattle.batching.proofs.Runs.{counted, clear, few-rules, in-range}
 -- the book is refused
 pub outlines-refused : (s out : List ℕ) (n r : ℕ) →
     read_of v2 s ≡ refused n r →
-    Outlines s out (record { refusal = refusal n r; count = 0 }) out
+    Outlines s out (Err (record { refusal = refusal n r; count = 0 })) out
 outlines-refused s out n r e =
     record {
       answer = sym (ap outlined_of (refused-first s (length out) e));
@@ -53,10 +53,10 @@ module _ (s : List ℕ) (h : Head) (l : List ℤ) (x : Ready s h l) where
   module _
       {records : List ℕ} {run : List ℤ} {ring : List ℕ} {keys : List ℤ} (room : Roomy s records run ring keys)
       (order : List ℕ) (eo : length order ≡ h.n) (el : length l ≡ length run)
-      {r : Listed} {l' : List ℤ} {order' ring' : List ℕ} {keys' : List ℤ}
+      {r : Option ℕ} {l' : List ℤ} {order' ring' : List ℕ} {keys' : List ℤ}
       (y : Lays h.terms.floors l order ring keys r l' order' ring' keys')
       {n : ℕ} (en : n ≡ count_of r)
-      (out : List ℕ) {o : Outlined} {ring'' after : List ℕ}
+      (out : List ℕ) {o : Result ℕ Unlisted} {ring'' after : List ℕ}
       (w : Finishes keys' n ring' out o ring'' after) where
     abbrev f : Floors
     f = h.terms.floors
@@ -127,7 +127,7 @@ module _ (s : List ℕ) (h : Head) (l : List ℤ) (x : Ready s h l) where
       where
         go : (b : Bool) → fit keys' n out ≡ b → Outlines s out o after
         go true e =
-            subst (λ (q : Outlined). Outlines s out q after) (sym (answered ∙ ap (λ b. cond b (full k) (crowded k)) e))
+            subst (λ (q : Result ℕ Unlisted). Outlines s out q after) (sym (answered ∙ ap (λ b. cond b (full k) (crowded k)) e))
             (outlines-listed s out x.terms x.chain x.reads keys' (arranged keys' n) count
             (front-points f rules x.laid.floors-small (small-member rules x.laid.rules-small) entered to from
             keys' n laid refl refl
@@ -135,7 +135,7 @@ module _ (s : List ℕ) (h : Head) (l : List ℤ) (x : Ready s h l) where
             (leb-true (24 * k) (length out) e)
             (written_out ∙ ap (λ b. cond b (written keys' (arranged keys' n) k out) out) e))
         go false e =
-            subst (λ (q : Outlined). Outlines s out q after) (sym (answered ∙ ap (λ b. cond b (full k) (crowded k)) e))
+            subst (λ (q : Result ℕ Unlisted). Outlines s out q after) (sym (answered ∙ ap (λ b. cond b (full k) (crowded k)) e))
             (subst (λ (z : List ℕ). Outlines s out (crowded k) z)
             (sym (written_out ∙ ap (λ b. cond b (written keys' (arranged keys' n) k out) out) e))
             (outlines-crowded s out x.terms x.chain x.reads count (leb-false (24 * k) (length out) e)))

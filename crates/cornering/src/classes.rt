@@ -1,6 +1,6 @@
 // The corners of a book with the runs that they take, which are local to a function for each size of book, since clearing the longest takes
 // several times what a short book takes.
-ghost use Rattle.std.specs.Prelude.{◌≡◌};
+ghost use Rattle.std.specs.Prelude.{◌≡◌, ◌+◌, ◌*◌, ◌≤◌};
 ghost use Rattle.records.specs.Layout.{v2};
 ghost use Rattle.book.specs.Runs.{Few};
 ghost use Rattle.outline.specs.Outline.{Outlines};
@@ -8,19 +8,15 @@ ghost use Rattle.laying.proofs.Layouts.{count_of};
 ghost use Rattle.batching.specs.Asked.{Roomy};
 
 use laying::lay;
-use outline::Outlined;
+use outline::Unlisted;
 use outlining::list_corners;
 use records::Version;
-use region::Listed;
 
 // How many points were listed.
-fn count_of(listed: Listed) -> usize
+fn count_of(listed: Option<usize>) -> usize
     ensures { result ≡ count_of listed }
 {
-    match listed {
-        Listed::Outside => 0,
-        Listed::Corners(count) => count,
-    }
+    listed.unwrap_or(0)
 }
 
 // With the runs lent: the book's own refusals, and then the list. The records of the chain give way to the order in which the rules enter,
@@ -32,14 +28,14 @@ fn corners_in(
     run: &mut [i64],
     ring: &mut [u16],
     keys: &mut [i64],
-) -> Outlined
+) -> Result<usize, Unlisted>
     requires { Roomy book.now records.old run.old ring.old keys.old }
     ensures { Outlines book.now out.old result out.new }
 {
     let head = reading::read(Version::Two, book, &mut *records, &mut run[6..]);
     let refusal = head.refusal;
     if refusal.number != 0 {
-        return Outlined { refusal, count: 0 };
+        return Err(Unlisted { refusal, count: 0 });
     }
     let terms = head.terms;
     let n = head.n;
@@ -54,37 +50,20 @@ fn corners_in(
     list_corners(&*keys, count_of(listed), ring, out)
 }
 
-// Of a book with 30 rules at most.
-pub fn corners_short(book: &[u8], out: &mut [u8]) -> Outlined
-    requires { Few v2 book.now 30 }
+// Of a book with at most RULES rules. Each size is an instance of its own.
+pub fn corners_sized<const RULES: usize, const NUMBERS: usize, const RING: usize>(
+    book: &[u8],
+    out: &mut [u8],
+) -> Result<usize, Unlisted>
+    requires few { Few v2 book.now RULES }
+    requires most { RULES ≤ 4095 }
+    requires numbers { NUMBERS ≡ 3 * (RULES + 3) }
+    requires ring { RING ≡ 2 * (RULES + 4) }
     ensures { Outlines book.now out.old result out.new }
 {
-    let mut records = [0u16; 30];
-    let mut run = [0i64; 99];
-    let mut ring = [0u16; 68];
-    let mut keys = [0i64; 99];
-    corners_in(book, out, &mut records, &mut run, &mut ring, &mut keys)
-}
-
-// Of one with 255.
-pub fn corners_middle(book: &[u8], out: &mut [u8]) -> Outlined
-    requires { Few v2 book.now 255 }
-    ensures { Outlines book.now out.old result out.new }
-{
-    let mut records = [0u16; 255];
-    let mut run = [0i64; 774];
-    let mut ring = [0u16; 518];
-    let mut keys = [0i64; 774];
-    corners_in(book, out, &mut records, &mut run, &mut ring, &mut keys)
-}
-
-// Of one with as many as a book can have.
-pub fn corners_long(book: &[u8], out: &mut [u8]) -> Outlined
-    ensures { Outlines book.now out.old result out.new }
-{
-    let mut records = [0u16; 4095];
-    let mut run = [0i64; 12294];
-    let mut ring = [0u16; 8198];
-    let mut keys = [0i64; 12294];
+    let mut records = [0u16; RULES];
+    let mut run = [0i64; NUMBERS];
+    let mut ring = [0u16; RING];
+    let mut keys = [0i64; NUMBERS];
     corners_in(book, out, &mut records, &mut run, &mut ring, &mut keys)
 }

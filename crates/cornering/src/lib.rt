@@ -8,18 +8,18 @@ mod classes;
 
 ghost use Rattle.outline.specs.Outline.{Outlines};
 
-use outline::Outlined;
+use outline::Unlisted;
 
-// The corners, 24 bytes each, at the start of the output: X, Y, D, smaller x first and then smaller y. What is turned back leaves the
-// output as it was; a list that does not fit is turned back with its count.
-pub fn corners(book: &[u8], out: &mut [u8]) -> Outlined
+// The corners, 24 bytes each, at the start of the output: X, Y, D, smaller x first and then smaller y; and how many they are. What is
+// turned back leaves the output as it was; a list that does not fit is turned back with its count.
+pub fn corners(book: &[u8], out: &mut [u8]) -> Result<usize, Unlisted>
     ensures { Outlines book.now out.old result out.new }
 {
     if book.len() <= 434 {
-        classes::corners_short(book, out)
+        classes::corners_sized::<30, 99, 68>(book, out)
     } else if book.len() <= 3584 {
-        classes::corners_middle(book, out)
+        classes::corners_sized::<255, 774, 518>(book, out)
     } else {
-        classes::corners_long(book, out)
+        classes::corners_sized::<4095, 12294, 8198>(book, out)
     }
 }

@@ -4,7 +4,6 @@
 
 #![tactic(auto)]
 
-use answers::Answer;
 use std::io;
 
 // The line of one corner.
@@ -26,15 +25,12 @@ fn main(rt: HostRuntime) -> io::Result<()> {
     let mut input = [0u8; 57345];
     let n = streams::read_full(&mut rt.stdin(), &mut input)?;
     let mut out = [0u8; 98328];
-    let done = cornering::corners(&input[..n], &mut out);
-    let refusal = done.refusal;
-    let number = refusal.number;
-    if number == 0 {
-        let end = 24 * done.count;
-        show_all(&rt, &out[..end])
-    } else {
-        let mut line = [0u8; 256];
-        let end = answer_line::write_line(Answer::Refused(refusal), &mut line);
-        rt.write_all(&line[..end])
+    match cornering::corners(&input[..n], &mut out) {
+        Ok(count) => show_all(&rt, &out[..24 * count]),
+        Err(unlisted) => {
+            let mut line = [0u8; 256];
+            let end = answer_line::write_line(Err(unlisted.refusal), &mut line);
+            rt.write_all(&line[..end])
+        }
     }
 }

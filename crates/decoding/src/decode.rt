@@ -4,7 +4,7 @@ ghost use Rattle.records.specs.Record.{rule_with, decoded_from};
 
 use causes::decoded;
 use records::fields::Fields;
-use records::{Decoded, Rule};
+use records::{Fault, Rule, Sound};
 use signed::{signed16, signed32};
 
 // A rule, from its fields as they stand.
@@ -21,7 +21,7 @@ pub fn rule_in(f: Fields) -> Rule
 }
 
 // What a record of these fields comes to.
-pub fn judged(f: Fields) -> Decoded
+pub fn judged(f: Fields) -> Result<Sound, Fault>
     ensures { result ≡ decoded_from f }
 {
     decoded(f.pad == 0, rule_in(f), f.link)

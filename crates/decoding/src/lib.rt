@@ -11,7 +11,7 @@ ghost use Rattle.records.specs.Record.{record_at, rule_of, decoded_of};
 
 use decode::{judged, rule_in};
 use records::fields::{fields_at, fields_past, is_inside};
-use records::{Decoded, Rule, Version};
+use records::{Fault, Rule, Sound, Version};
 
 // The rule of a record, whether the record is on the chain or not.
 pub fn rule_at(version: Version, book: &[u8], index: u16) -> Rule
@@ -22,7 +22,7 @@ pub fn rule_at(version: Version, book: &[u8], index: u16) -> Rule
 
 // What the record at an index comes to. A record that is not there goes a way of its own, which the compiler leaves out of line: reading
 // a book goes through here once a rule.
-pub fn inspect(version: Version, book: &[u8], index: u16) -> Decoded
+pub fn inspect(version: Version, book: &[u8], index: u16) -> Result<Sound, Fault>
     ensures { result ≡ decoded_of (layout_of version) (record_at (layout_of version) book.now index) }
 {
     if is_inside(version, book, index) {

@@ -1,5 +1,6 @@
 -- The end of a new edge is what the walk's pass finds: the laws of the boundary, as the code goes through them. Where the end is a point,
 -- the start point and the optimum move there.
+use Rattle.std.specs.Prelude.{Ok}
 use mathlib.Core.Path.{◌≡◌, refl, sym, ◌∙◌, ap}
 use mathlib.Core.List.{List}
 use mathlib.Core.Bool.{Bool, true, false}
@@ -13,7 +14,6 @@ use Rattle.lp.specs.declared.Point.{Point}
 use Rattle.lp.specs.declared.Ray.{Ray}
 use Rattle.lp.specs.Outcome.{above, meet, reduce, tie_order}
 use Rattle.lp.specs.Range.{SmallConstraint}
-use Rattle.model.specs.declared.Restart.TheVariants.{Moved}
 use Rattle.model.specs.Scan.{direction}
 use Rattle.model.specs.Step.{tightest_point, restart}
 use Rattle.boundary.specs.Quick.{nowhere, at, proper, end_of, restart_at, point_at}
@@ -52,7 +52,7 @@ module _ {l : List ℤ} {n : ℕ} {h k e : Constraint} (b : Between l n h k e) (
       sym (ap (point_at fs (entries l 0 n) h) end-at)
       ∙ end-tightest (entries l 0 n) h b.size k e b.before b.behind fs
 
-  pub restarted-there : (t : Tie) → fs ≡ tie_order t → Moved v ≡ restart t (entries l 0 n) n h
+  pub restarted-there : (t : Tie) → fs ≡ tie_order t → Ok v ≡ restart t (entries l 0 n) n h
   restarted-there t ef =
       sym (ap (restart_at t (entries l 0 n) n h) end-at)
       ∙ ap (λ fs. restart_at t (entries l 0 n) n h (end_of fs h k e)) ef

@@ -1,20 +1,19 @@
 -- What a walk comes to, from the state that it holds: each law takes what the calls on one way returned.
+use Rattle.std.specs.Prelude.{Option, Some}
 use mathlib.Core.Path.{◌≡◌, sym, ◌∙◌, ap}
-use mathlib.Core.Bool.{true}
 use Prim.Native.Nat.{ℕ}
 use Rattle.lp.specs.declared.Functional.{Functional}
 use Rattle.lp.specs.declared.Point.{Point}
 use Rattle.lp.specs.declared.Certificate.{Certificate}
 use Rattle.lp.specs.declared.Outcome.{Outcome}
 use Rattle.witness.specs.Witness.{nobody}
-use Rattle.model.specs.declared.Cone.{Cone}
-use Rattle.model.specs.declared.Best.{Best}
+use Rattle.lp.specs.declared.Ray.{Ray}
 use Rattle.model.specs.declared.State.{State}
 use Rattle.model.specs.declared.State.TheVariants.{Ended, Going}
 use Rattle.model.specs.declared.Walk.{Walk}
 use Rattle.model.specs.Step.{said, place_of, start_held}
 use Rattle.engine.specs.declared.Solution.{Solution}
-use Rattle.engine.specs.Solving.{solution_of, certificate_of, is_held, held_point}
+use Rattle.engine.specs.Solving.{solution_of, certificate_of, start_pair}
 
 module _ (f : Functional) (w : Walk) where
   abbrev of_state : State → Solution
@@ -25,8 +24,7 @@ module _ (f : Functional) (w : Walk) where
         opened = w.opened;
         place = place_of s;
         certificate = certificate_of s;
-        held = is_held (start_held s);
-        start = held_point (start_held s);
+        start = start_pair (start_held s);
         restarts = w.restarts;
       }
 
@@ -37,7 +35,7 @@ module _ (f : Functional) (w : Walk) where
   solution-ended e = ap of_state (sym e)
 
   pub solution-going :
-      {s : Point} {cone : Cone} {b : Best} →
+      {s : Point} {cone : Option (Ray × Ray)} {b : Option Point} →
       w.state ≡ Going s cone b →
       {o : Outcome} →
       o ≡ said f (Going s cone b) →
@@ -47,8 +45,7 @@ module _ (f : Functional) (w : Walk) where
         opened = w.opened;
         place = 0;
         certificate = nobody;
-        held = true;
-        start = s;
+        start = Some s;
         restarts = w.restarts;
       })
       (solution_of f w)
@@ -59,8 +56,7 @@ module _ (f : Functional) (w : Walk) where
         opened = w.opened;
         place = 0;
         certificate = nobody;
-        held = true;
-        start = s;
+        start = Some s;
         restarts = w.restarts;
       })
       ∙ ap of_state (sym e)

@@ -1,5 +1,6 @@
 -- `solve` on each of its ways: the floors are not laid, the objective is out of its range, there is no room for the rules, or the rules
 -- are walked.
+use Rattle.std.specs.Prelude.{Option, None, Some}
 use mathlib.Core.Path.{◌≡◌, refl, sym, ◌∙◌, ap, subst}
 use mathlib.Core.List.{List}
 use mathlib.Core.Bool.{Bool, true, false, cond, ◌&&◌}
@@ -13,8 +14,7 @@ use Rattle.lp.specs.declared.Terms.{Terms}
 use Rattle.lp.specs.Outcome.{every}
 use Rattle.lp.specs.Document.{tie}
 use Rattle.model.specs.Step.{walk}
-use Rattle.engine.specs.declared.Solved.{Solved}
-use Rattle.engine.specs.declared.Solved.TheVariants.{Outside, Walked}
+use Rattle.engine.specs.declared.Solution.{Solution}
 use Rattle.engine.specs.Entries.{entry, entries}
 use Rattle.amounts.specs.Tests.{rule_in_range, objective_in_range, floors_in_range}
 use Rattle.flooring.specs.Floors.{Lays}
@@ -42,27 +42,27 @@ module _ (t : Terms) (n : ℕ) (l : List ℤ) where
       let objective = both room (objective_in_range t.objective) floors.0 in
       record { room = leb-true (3 * (n + 2)) (length l) objective.0; objective = objective.1; floors = floors.1 }
 
-  outside : (Fit → ⊥) → Outside ≡ solved_of t l n
+  outside : (Fit → ⊥) → None ≡ solved_of t l n
   outside h = go (in_range t l n) refl
     where
       go :
           (b : Bool) →
           in_range t l n ≡ b →
-          Outside ≡ cond b (Walked (solution_of t.objective (walk tie t.floors t.objective (entries l 2 n)))) Outside
+          None ≡ cond b (Some (solution_of t.objective (walk tie t.floors t.objective (entries l 2 n)))) None
       go true e = absurd (h (fit e))
       go false e = refl
 
   module _ {u : Bool} {after : List ℤ} (h : Lays t.floors l u after) where
-    pub unlaid : u ≡ false → Solves t n l Outside after
+    pub unlaid : u ≡ false → Solves t n l None after
     unlaid so = record { answer = outside (λ (k : Fit). true-false (laid_if k) so); run = h.run }
       where
         laid_if : Fit → u ≡ true
         laid_if k = h.told ∙ ap (λ s. s && floors_in_range t.floors) (le-leb 6 (length l) (omega (arith, k.room))) ∙ k.floors
 
-    pub no_objective : objective_in_range t.objective ≡ false → Solves t n l Outside after
+    pub no_objective : objective_in_range t.objective ≡ false → Solves t n l None after
     no_objective e = record { answer = outside (λ (k : Fit). true-false k.objective e); run = h.run }
 
-    pub no_room : (length after - 6) / 3 < n → Solves t n l Outside after
+    pub no_room : (length after - 6) / 3 < n → Solves t n l None after
     no_room less = record { answer = outside (λ (k : Fit). crowded k.room); run = h.run }
       where
         crowded : 3 * (n + 2) ≤ length l → ⊥
@@ -83,7 +83,7 @@ module _ (t : Terms) (n : ℕ) (l : List ℤ) where
           }
 
       pub solved-by :
-          {r : Solved} →
+          {r : Option Solution} →
           r ≡ rules_solved t.objective t.floors (entries after 2 n) →
           Solves t n l r after
       solved-by er =
@@ -91,7 +91,7 @@ module _ (t : Terms) (n : ℕ) (l : List ℤ) where
             answer =
                 er
                 ∙ ap (rules_solved t.objective t.floors) rules
-                ∙ ap (λ b. cond b (Walked (solution_of t.objective (walk tie t.floors t.objective (entries l 2 n)))) Outside)
+                ∙ ap (λ b. cond b (Some (solution_of t.objective (walk tie t.floors t.objective (entries l 2 n)))) None)
                 (sym (ap (λ b. b && every rule_in_range (entries l 2 n)) tests));
             run = h.run;
           }

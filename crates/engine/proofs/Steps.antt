@@ -1,5 +1,6 @@
 -- The parts of a step, as the code goes through them: each law takes what the calls on one way returned, and says that the whole is the
 -- model's.
+use Rattle.std.specs.Prelude.{Option, None, Some, Result, Ok, Err}
 use mathlib.Core.Path.{◌≡◌, refl, sym, ◌∙◌, ap, ap₂, subst}
 use mathlib.Core.List.{List, [], ◌∷◌}
 use mathlib.Core.Bool.{Bool, true, false, not, ◌&&◌}
@@ -18,14 +19,7 @@ use Rattle.lp.specs.Program.{along}
 use Rattle.lp.specs.Outcome.{above, keeps, tie_order, gain_order}
 use Rattle.lp.specs.Certificate.{certificate, is_zero}
 use Rattle.lp.specs.Prefixes.{one_if}
-use Rattle.model.specs.declared.Found.{Found}
-use Rattle.model.specs.declared.Found.TheVariants as found
-use Rattle.model.specs.declared.Restart.{Restart}
-use Rattle.model.specs.declared.Restart.TheVariants.{Moved, Failed}
-use Rattle.model.specs.declared.Cone.{Cone}
-use Rattle.model.specs.declared.Cone.TheVariants.{Wedge}
-use Rattle.model.specs.declared.Best.{Best}
-use Rattle.model.specs.declared.Best.TheVariants as best
+use Rattle.model.specs.declared.Met.{Met}
 use Rattle.model.specs.declared.State.{State}
 use Rattle.model.specs.declared.State.TheVariants.{Ended, Going}
 use Rattle.model.specs.declared.Walk.{Walk}
@@ -58,14 +52,14 @@ above-last f d = go (lt_z (pos 0) (along f d)) (lt_z (along f d) (pos 0))
 -- ---- the parts of what is within the bounds
 
 pub cone_rays :
-    {cone : Cone} →
+    {cone : Option (Ray × Ray)} →
     SmallCone cone →
     {lo hi : Ray} →
-    cone ≡ Wedge lo hi →
+    cone ≡ Some (lo, hi) →
     SmallRay lo × SmallRay hi
 cone_rays s e = subst SmallCone e s
 
-pub best-point : {b : Best} → SmallBest b → {v : Point} → b ≡ best.At v → SmallPoint v
+pub best-point : {b : Option Point} → SmallBest b → {v : Point} → b ≡ Some v → SmallPoint v
 best-point s e = subst SmallBest e s
 
 -- a point whose numbers were read one by one
@@ -82,13 +76,13 @@ kept_of : (k : Bool) (t : Bool) → t ≡ elim k [ true ↦ false | false ↦ tr
 kept_of true t e = ap not (sym e)
 kept_of false t e = ap not (sym e)
 
-pub asked-keeps : (h : Constraint) {b : Best} {t : Bool} → t ≡ breaks h b → {v : Point} → b ≡ best.At v → keeps h v ≡ not t
+pub asked-keeps : (h : Constraint) {b : Option Point} {t : Bool} → t ≡ breaks h b → {v : Point} → b ≡ Some v → keeps h v ≡ not t
 asked-keeps h {b} {t} a {v} e = kept_of (keeps h v) t (a ∙ ap (breaks h) e)
 
 pub state_parts :
     {w : State} →
     SmallState w →
-    {s : Point} {cone : Cone} {b : Best} →
+    {s : Point} {cone : Option (Ray × Ray)} {b : Option Point} →
     w ≡ Going s cone b →
     SmallPoint s × SmallCone cone × SmallBest b
 state_parts s e = subst SmallState e s
@@ -106,31 +100,32 @@ faced fs h ed es el = el ∙ ap (λ s. facing s h) (es ∙ ap (above fs) ed)
 
 -- and what is found on it
 pub faced-tightest :
-    (fs : List Functional) (S : List Constraint) (h : Constraint) {d : Ray} {side : Bool} {line : Constraint} {f : Found} →
+    (fs : List Functional) (S : List Constraint) (h : Constraint) {d : Ray} {side : Bool} {line : Constraint} {f : Option Met} →
     d ≡ direction h →
     side ≡ above fs d →
     line ≡ facing side h →
-    f ≡ tightest line 0 S found.Nothing →
-    f ≡ tightest (facing (above fs (direction h)) h) 0 S found.Nothing
-faced-tightest fs S h ed es el ef = ef ∙ ap (λ l. tightest l 0 S found.Nothing) (faced fs h ed es el)
+    f ≡ tightest line 0 S None →
+    f ≡ tightest (facing (above fs (direction h)) h) 0 S None
+faced-tightest fs S h ed es el ef = ef ∙ ap (λ l. tightest l 0 S None) (faced fs h ed es el)
 
 -- the start point's new place, from what the calls on the way to it returned
 pub restarted :
-    (t : Tie) (S : List Constraint) (n : ℕ) (h : Constraint) {d : Ray} {side : Bool} {line : Constraint} {f : Found} {r : Restart} →
+    (t : Tie) (S : List Constraint) (n : ℕ) (h : Constraint) {d : Ray} {side : Bool} {line : Constraint} {f : Option Met}
+    {r : Result Point Certificate} →
     (is_zero h.a && is_zero h.b) ≡ false →
     d ≡ direction h →
     side ≡ above (tie_order t) d →
     line ≡ facing side h →
-    f ≡ tightest line 0 S found.Nothing →
+    f ≡ tightest line 0 S None →
     r ≡ resettled S side n h f →
     r ≡ restart t S n h
 restarted t S n h {d} {side} z ed es el ef er =
     er
     ∙ ap₂ (λ s f. resettled S s n h f) (es ∙ ap (above (tie_order t)) ed) (faced-tightest (tie_order t) S h ed es el ef)
     ∙ sym (ap (λ z. elim z [
-      | true ↦ Failed (alone n)
+      | true ↦ Err (alone n)
       | false ↦ resettled S (above (tie_order t) (direction h)) n h
-          (tightest (facing (above (tie_order t) (direction h)) h) 0 S found.Nothing)
+          (tightest (facing (above (tie_order t) (direction h)) h) 0 S None)
     ]) z)
 
 pub certificate-same :
@@ -151,8 +146,9 @@ module _ (t : Tie) (f : Functional) (S : List Constraint) (n : ℕ) (h : Constra
       shown : w ≡ record { state = Ended p c; moves = w.moves; opened = w.opened; restarts = w.restarts }
       shown = λ i. record { state = e i; moves = w.moves; opened = w.opened; restarts = w.restarts }
 
-  module _ {s : Point} {cone : Cone} {b : Best} (e : w.state ≡ Going s cone b) {kept : Bool} (ek : kept ≡ keeps h s) {r : Restart}
-      (er : r ≡ kept_or_restarted t S n h s kept) {broken : Bool} (eb : broken ≡ breaks h b) {m : ℕ} (em : m ≡ w.moves + one_if broken)
+  module _ {s : Point} {cone : Option (Ray × Ray)} {b : Option Point} (e : w.state ≡ Going s cone b) {kept : Bool} (ek : kept ≡ keeps h s)
+      {r : Result Point Certificate} (er : r ≡ kept_or_restarted t S n h s kept) {broken : Bool} (eb : broken ≡ breaks h b)
+      {m : ℕ} (em : m ≡ w.moves + one_if broken)
       {k : ℕ} (ec : k ≡ w.restarts + one_if (not kept)) where
     moves-is : m ≡ w.moves + one_if (breaks h b)
     moves-is = em ∙ ap (λ k. w.moves + one_if k) eb
@@ -160,17 +156,20 @@ module _ (t : Tie) (f : Functional) (S : List Constraint) (n : ℕ) (h : Constra
     restarts-is : k ≡ recounted w.restarts h s
     restarts-is = ec ∙ ap (λ u. w.restarts + one_if (not u)) ek
 
-    settles : {q : Restart} → r ≡ q → settled t f S n h cone b w.moves w.opened (recounted w.restarts h s) q ≡ step t f S n h w
+    settles :
+        {q : Result Point Certificate} →
+        r ≡ q →
+        settled t f S n h cone b w.moves w.opened (recounted w.restarts h s) q ≡ step t f S n h w
     settles q =
         ap (settled t f S n h cone b w.moves w.opened (recounted w.restarts h s)) (sym q ∙ er
         ∙ ap (kept_or_restarted t S n h s) ek) ∙ sym (ap (stepped t f S n h w.moves w.opened w.restarts) e)
 
     pub step-moved :
         {p : Point} →
-        r ≡ Moved p →
-        {wedge : Cone} →
+        r ≡ Ok p →
+        {wedge : Option (Ray × Ray)} →
         wedge ≡ narrow h cone →
-        {next : Best} →
+        {next : Option Point} →
         next ≡ improved (gain_order f t) f S h wedge b →
         {v : Walk} →
         v ≡ going p wedge next m w.opened k →
@@ -182,7 +181,7 @@ module _ (t : Tie) (f : Functional) (S : List Constraint) (n : ℕ) (h : Constra
 
     pub step_failed :
         {c : Certificate} →
-        r ≡ Failed c →
+        r ≡ Err c →
         ◌≡◌ {A = Walk} (record { state = Ended (n - 1) c; moves = m; opened = w.opened; restarts = k }) (step t f S n h w)
     step_failed {c} q =
         (λ i. record { state = Ended (n - 1) c; moves = moves-is i; opened = w.opened; restarts = restarts-is i }) ∙ settles q

@@ -1,4 +1,5 @@
 -- The promise of `solve` for numbers that are within their ranges.
+use Rattle.std.specs.Prelude.{None, Some}
 use mathlib.Core.Path.{◌≡◌, ◌∙◌, ap}
 use mathlib.Core.List.{List}
 use mathlib.Core.Bool.{Bool, true, cond, ◌&&◌}
@@ -16,7 +17,6 @@ use Rattle.lp.specs.Range.{SmallSystem, SmallFloors, SmallTerms}
 use Rattle.model.specs.Step.{walk}
 use Rattle.amounts.specs.Tests.{rule_in_range, objective_in_range, floors_in_range}
 use Rattle.amounts.proofs.Tests.{objective-passes, floors_pass, system-passes}
-use Rattle.engine.specs.declared.Solved.TheVariants.{Outside, Walked}
 use Rattle.engine.specs.Entries.{entries, put_entry}
 use Rattle.flooring.specs.Floors.{with_floors}
 use Rattle.engine.specs.Solving.{solution_of, solved_of}
@@ -26,9 +26,9 @@ pub solved :
     SmallTerms t →
     3 * (n + 2) ≤ length l →
     SmallSystem (entries l 2 n) →
-    solved_of t l n ≡ Walked (solution_of t.objective (walk tie t.floors t.objective (entries l 2 n)))
+    solved_of t l n ≡ Some (solution_of t.objective (walk tie t.floors t.objective (entries l 2 n)))
 solved t l n h room s =
-    ap (λ b. cond b (Walked (solution_of t.objective (walk tie t.floors t.objective (entries l 2 n)))) Outside)
+    ap (λ b. cond b (Some (solution_of t.objective (walk tie t.floors t.objective (entries l 2 n)))) None)
     (passes (leb (3 * (n + 2)) (length l)) (objective_in_range t.objective) (floors_in_range t.floors) (every rule_in_range (entries l 2 n))
     (le-leb (3 * (n + 2)) (length l) room) (objective-passes h.objective-small) (floors_pass h.floors-small)
     (system-passes (entries l 2 n) s))

@@ -1,5 +1,6 @@
 -- The walk along the rules: what is left of it at entry i gives, from what it holds, the whole. One record says so, with its start, its
 -- step, its stop at a rule that is out of its range, and its end; before it stands what the walk begins with.
+use Rattle.std.specs.Prelude.{Option, None, Some}
 use mathlib.Core.Path.{◌≡◌, refl, sym, ◌∙◌, ap, ap₂, subst, subst₂}
 use mathlib.Core.List.{List, [], ◌∷◌, ◌++◌}
 use mathlib.Core.Bool.{Bool, true, false, cond}
@@ -17,19 +18,12 @@ use Rattle.lp.specs.declared.Ray.{Ray}
 use Rattle.lp.specs.Program.{point, ray}
 use Rattle.lp.specs.Outcome.{every}
 use Rattle.lp.specs.Document.{tie}
-use Rattle.model.specs.declared.Cone.{Cone}
-use Rattle.model.specs.declared.Cone.TheVariants.{Wedge}
-use Rattle.model.specs.declared.Gain.{Gain}
-use Rattle.model.specs.declared.Gain.TheVariants as gain
-use Rattle.model.specs.declared.Best.TheVariants as best
 use Rattle.model.specs.declared.Walk.{Walk}
 use Rattle.model.specs.Step.{going, step, gaining, opening, begin, walk_from, walk}
 use Rattle.model.specs.Bounds.{SmallWalk}
 use Rattle.lp.specs.Range.{SmallConstraint, SmallFloors, SmallTie}
 use Rattle.model.proofs.Bounds.{step_small, begin-small, floorX-small, floorY-small, tie-small}
 use Rattle.engine.specs.declared.Solution.{Solution}
-use Rattle.engine.specs.declared.Solved.TheVariants as solved
-use Rattle.engine.specs.declared.Solved.TheVariants.{Outside}
 use Rattle.amounts.specs.Tests.{rule_in_range}
 use Rattle.engine.specs.Solving.{solution_of, rules_solved}
 use Rattle.engine.specs.Entries.{entry, entries}
@@ -42,15 +36,15 @@ use Rattle.engine.proofs.Passes.{entries-small, entries-more, entries_none}
 
 -- ---- the beginning
 
-abbrev axes : Cone
-axes = Wedge (ray (pos 1) (pos 0)) (ray (pos 0) (pos 1))
+abbrev axes : Option (Ray × Ray)
+axes = Some (ray (pos 1) (pos 0), ray (pos 0) (pos 1))
 
-module _ (floors : Floors) (f : Functional) (h : SmallFloors floors) {g : Gain} (eg : g ≡ gaining f axes) where
+module _ (floors : Floors) (f : Functional) (h : SmallFloors floors) {g : Option Ray} (eg : g ≡ gaining f axes) where
   corner : point (read floors.lx) (read floors.ly) (pos 1) ≡ point floors.lx floors.ly (pos 1)
   corner = point-same (within-unread h.lx_small tt) (within-unread h.ly_small tt) refl
 
   begun :
-      {k : Gain} →
+      {k : Option Ray} →
       g ≡ k →
       going (point floors.lx floors.ly (pos 1)) axes (opening f (point floors.lx floors.ly (pos 1)) axes k) 0 0 0
       ≡ begin floors f
@@ -60,19 +54,19 @@ module _ (floors : Floors) (f : Functional) (h : SmallFloors floors) {g : Gain} 
 
   pub begun_open :
       {d : Ray} →
-      g ≡ gain.Along d →
+      g ≡ Some d →
       {w : Walk} →
-      w ≡ going (point (read floors.lx) (read floors.ly) (pos 1)) axes best.Open 0 0 0 →
+      w ≡ going (point (read floors.lx) (read floors.ly) (pos 1)) axes None 0 0 0 →
       w ≡ begin floors f
-  begun_open e ew = ew ∙ ap (λ s. going s axes best.Open 0 0 0) corner ∙ begun e
+  begun_open e ew = ew ∙ ap (λ s. going s axes None 0 0 0) corner ∙ begun e
 
   pub begun-best :
-      g ≡ gain.Nowhere →
+      g ≡ None →
       {w : Walk} →
-      w ≡ going (point (read floors.lx) (read floors.ly) (pos 1)) axes (best.At
+      w ≡ going (point (read floors.lx) (read floors.ly) (pos 1)) axes (Some
       (point (read floors.lx) (read floors.ly) (pos 1))) 0 0 0 →
       w ≡ begin floors f
-  begun-best e ew = ew ∙ ap (λ s. going s axes (best.At s) 0 0 0) corner ∙ begun e
+  begun-best e ew = ew ∙ ap (λ s. going s axes (Some s) 0 0 0) corner ∙ begun e
 
 -- ---- the walk
 
@@ -209,9 +203,9 @@ module _ {f : Functional} {floors : Floors} {l : List ℤ} {n : ℕ} (h : Walkin
                 ∙ sym (ap (λ (S : List Constraint). walk_from tie f (entries l 0 i) i S w) (entries-more l (n + 2) i b))
 
       -- a rule that is out of its range ends it
-      pub walked_stop : t ≡ false → Outside ≡ rules_solved f floors (entries l 2 n)
+      pub walked_stop : t ≡ false → None ≡ rules_solved f floors (entries l 2 n)
       walked_stop so =
-          sym (ap (λ s. cond s (solved.Walked (solution_of f (walk tie floors f (entries l 2 n)))) Outside)
+          sym (ap (λ s. cond s (Some (solution_of f (walk tie floors f (entries l 2 n)))) None)
           (sym v.in-range ∙ every_more l (n + 2) i b (ap rule_in_range (sym e) ∙ sym et ∙ so)))
 
     pub answering : Answering f w
@@ -222,10 +216,10 @@ module _ {f : Functional} {floors : Floors} {l : List ℤ} {n : ℕ} (h : Walkin
         w₀ ≡ begin floors f →
         {s : Solution} →
         s ≡ solution_of f w →
-        solved.Walked s ≡ rules_solved f floors (entries l 2 n)
+        Some s ≡ rules_solved f floors (entries l 2 n)
     walked_end b e₀ es =
-        ap solved.Walked (es ∙ ap (solution_of f) whole)
-        ∙ sym (ap (λ s. cond s (solved.Walked (solution_of f (walk tie floors f (entries l 2 n)))) Outside)
+        ap Some (es ∙ ap (solution_of f) whole)
+        ∙ sym (ap (λ s. cond s (Some (solution_of f (walk tie floors f (entries l 2 n)))) None)
         (sym v.in-range ∙ ap (every rule_in_range) (entries_none l (n + 2) i b)))
       where
         whole : w ≡ walk tie floors f (entries l 2 n)

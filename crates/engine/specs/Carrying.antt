@@ -1,5 +1,5 @@
 -- What the walk asks and hands back once it carries the region's boundary along, one record for each function.
-use Rattle.std.specs.Prelude.{◌≡◌, List, Bool, true, false, ◌&&◌, ℕ, ◌+◌, ◌-◌, ◌≤◌, ◌<◌, leb, ltb, length, ℤ}
+use Rattle.std.specs.Prelude.{◌≡◌, List, Bool, true, false, ◌&&◌, ℕ, ◌+◌, ◌-◌, ◌≤◌, ◌<◌, leb, ltb, length, ℤ, Option}
 use Rattle.lp.specs.declared.Constraint.{Constraint}
 use Rattle.lp.specs.declared.Functional.{Functional}
 use Rattle.lp.specs.declared.Floors.{Floors}
@@ -9,8 +9,7 @@ use Rattle.lp.specs.Program.{floor_x, floor_y}
 use Rattle.lp.specs.Outcome.{every, meet}
 use Rattle.lp.specs.Document.{tie}
 use Rattle.lp.specs.Range.{SmallConstraint, SmallFloors}
-use Rattle.model.specs.declared.Cone.{Cone}
-use Rattle.model.specs.declared.Best.{Best}
+use Rattle.lp.specs.declared.Ray.{Ray}
 use Rattle.model.specs.declared.Walk.{Walk}
 use Rattle.model.specs.Step.{begin, step, walk_from}
 use Rattle.model.specs.Bounds.{SmallWalk}
@@ -58,7 +57,7 @@ pub record MovingAt (f : Functional) (t : Tie) (l : List ℤ) (n : ℕ) (h : Con
   pub moving : Moving f t l n h
   pub between : cut ≡ true → Between l n h k e
 
-pub record ImprovingAt (f : Functional) (t : Tie) (l : List ℤ) (n : ℕ) (h : Constraint) (cone : Cone) (b : Best)
+pub record ImprovingAt (f : Functional) (t : Tie) (l : List ℤ) (n : ℕ) (h : Constraint) (cone : Option (Ray × Ray)) (b : Option Point)
     (broken cut : Bool) (k e : Constraint) : Type 0 where
   pub improving : Improving f t l n h cone b broken
   pub between : cut ≡ true → Between l n h k e

@@ -1,6 +1,6 @@
 -- What the engine's private functions ask of numbers, one record for each: that they are within document 01's bounds. No function that is
 -- called from outside asks anything.
-use Rattle.std.specs.Prelude.{◌≡◌, Bool, List, ℕ, ◌+◌, ◌*◌, ◌^◌, ◌≤◌, ◌<◌, length, ℤ}
+use Rattle.std.specs.Prelude.{◌≡◌, Bool, List, ℕ, ◌+◌, ◌*◌, ◌^◌, ◌≤◌, ◌<◌, length, ℤ, Option}
 use Rattle.ints.specs.Within.{Within}
 use Rattle.lp.specs.declared.Constraint.{Constraint}
 use Rattle.lp.specs.declared.Functional.{Functional}
@@ -9,14 +9,11 @@ use Rattle.lp.specs.declared.Tie.{Tie}
 use Rattle.lp.specs.declared.Point.{Point}
 use Rattle.lp.specs.declared.Ray.{Ray}
 use Rattle.lp.specs.Program.{floor_x, floor_y}
-use Rattle.model.specs.declared.Found.{Found}
-use Rattle.model.specs.declared.Cone.{Cone}
-use Rattle.model.specs.declared.Best.{Best}
+use Rattle.model.specs.declared.Met.{Met}
 use Rattle.model.specs.declared.Walk.{Walk}
 use Rattle.model.specs.Step.{breaks}
 use Rattle.model.specs.Bounds.{SmallPoint, SmallRay, SmallFound, SmallCone, SmallBest, SmallState}
 use Rattle.lp.specs.Range.{SmallConstraint, SmallFunctional, SmallTie, SmallFloors}
-use Rattle.engine.specs.declared.scan.Held.{Held}
 use Rattle.engine.specs.Entries.{entry}
 
 -- of two products
@@ -48,7 +45,7 @@ pub record SmallTriple (v : Point) : Type 0 where
   pub y-small : Within 65534000000000 v.y
   pub d_small : Within 2147352578 v.d
 
-pub record Tightening (line m : Constraint) (t : Held) : Type 0 where
+pub record Tightening (line m : Constraint) (t : Met) : Type 0 where
   pub line_small : SmallConstraint line
   pub m-small : SmallConstraint m
   pub point-small : SmallTriple t.point
@@ -76,11 +73,11 @@ pub record OrderAlong (f : Functional) (t : Tie) (d : Ray) : Type 0 where
   pub tie : SmallTie t
   pub ray : SmallRay d
 
-pub record Narrowing (h : Constraint) (cone : Cone) : Type 0 where
+pub record Narrowing (h : Constraint) (cone : Option (Ray × Ray)) : Type 0 where
   pub constraint : SmallConstraint h
   pub rays : SmallCone cone
 
-pub record Gaining (f : Functional) (cone : Cone) : Type 0 where
+pub record Gaining (f : Functional) (cone : Option (Ray × Ray)) : Type 0 where
   pub functional : SmallFunctional f
   pub rays : SmallCone cone
 
@@ -91,7 +88,7 @@ pub record Conflicting (h k m : Constraint) : Type 0 where
   pub k-small : SmallConstraint k
   pub m-small : SmallConstraint m
 
-pub record Resettling (l : List ℤ) (n : ℕ) (h : Constraint) (found : Found) : Type 0 where
+pub record Resettling (l : List ℤ) (n : ℕ) (h : Constraint) (found : Option Met) : Type 0 where
   pub entries : Entries l n
   pub h-small : SmallConstraint h
   pub found-small : SmallFound found
@@ -106,14 +103,14 @@ pub record Moving (f : Functional) (t : Tie) (l : List ℤ) (n : ℕ) (h : Const
   pub restarting : Restarting t l n h
 
 -- whether the best pair broke the constraint was found out before
-pub record Improving (f : Functional) (t : Tie) (l : List ℤ) (n : ℕ) (h : Constraint) (cone : Cone) (b : Best) (broken : Bool) : Type 0
-  where
-    pub moving : Moving f t l n h
-    pub rays : SmallCone cone
-    pub best : SmallBest b
-    pub asked : broken ≡ breaks h b
+pub record Improving (f : Functional) (t : Tie) (l : List ℤ) (n : ℕ) (h : Constraint) (cone : Option (Ray × Ray)) (b : Option Point)
+    (broken : Bool) : Type 0 where
+  pub moving : Moving f t l n h
+  pub rays : SmallCone cone
+  pub best : SmallBest b
+  pub asked : broken ≡ breaks h b
 
-pub record Breaking (h : Constraint) (b : Best) : Type 0 where
+pub record Breaking (h : Constraint) (b : Option Point) : Type 0 where
   pub h-small : SmallConstraint h
   pub best : SmallBest b
 

@@ -17,8 +17,8 @@ use crate::scan::tightest;
 use crate::start::{alone, resettled};
 use crate::walk::{counted, going};
 use fraction::reduce;
-use lp::{Constraint, Functional, Point, Tie};
-use model::{Best, Cone, Found, Gain, Restart, State, Walk};
+use lp::{Certificate, Constraint, Functional, Point, Ray, Tie};
+use model::{State, Walk};
 
 // The end of the new edge in the direction in which its line is walked.
 fn end_point(up: bool, h: Constraint, k: Constraint, e: Constraint) -> Point
@@ -38,21 +38,21 @@ fn start_at(
     cut: bool,
     k: Constraint,
     e: Constraint,
-) -> Restart
+) -> Result<Point, Certificate>
     requires { RestartingAt tie entries.now n h cut k e }
     ensures { result ≡ kept_or_restarted tie (entries_of entries.now 0 n) n h s kept }
 {
     if kept {
-        return Restart::Moved(s);
+        return Ok(s);
     }
     if is_level(h) {
-        return Restart::Failed(alone(n));
+        return Err(alone(n));
     }
     let side = tie_upward(tie, direction(h));
     if cut {
         let p = end_point(side, h, k, e);
         if 0 < p.d {
-            return Restart::Moved(reduce(p));
+            return Ok(reduce(p));
         }
     }
     let found = tightest(entries, n, facing(side, h));
@@ -80,8 +80,8 @@ fn moved_to(
         }
     }
     match tightest(entries, n, facing(side, h)) {
-        Found::Nothing => Point { x: 0, y: 0, d: 1 },
-        Found::At(_, _, p) => reduce(p),
+        None => Point { x: 0, y: 0, d: 1 },
+        Some(met) => reduce(met.point),
     }
 }
 
@@ -92,26 +92,26 @@ fn improved_at(
     entries: &[i64],
     n: usize,
     h: Constraint,
-    cone: Cone,
-    best: Best,
+    cone: Option<(Ray, Ray)>,
+    best: Option<Point>,
     broken: bool,
     cut: bool,
     k: Constraint,
     e: Constraint,
-) -> Best
+) -> Option<Point>
     requires { ImprovingAt objective tie entries.now n h cone best broken cut k e }
     ensures { result ≡ improved_of (gain_order objective tie) objective (entries_of entries.now 0 n) h cone best }
 {
     match best {
-        Best::Open => match gaining(objective, cone) {
-            Gain::Along(_) => Best::Open,
-            Gain::Nowhere => Best::At(moved_to(objective, tie, entries, n, h, cut, k, e)),
+        None => match gaining(objective, cone) {
+            Some(_) => None,
+            None => Some(moved_to(objective, tie, entries, n, h, cut, k, e)),
         },
-        Best::At(v) => {
+        Some(v) => {
             if broken {
-                Best::At(moved_to(objective, tie, entries, n, h, cut, k, e))
+                Some(moved_to(objective, tie, entries, n, h, cut, k, e))
             } else {
-                Best::At(v)
+                Some(v)
             }
         }
     }
@@ -143,14 +143,14 @@ pub fn step_at(
     let restarts = counted(walk.restarts, !kept);
     let place = n - 1;
     match start_at(tie, entries, n, h, s, kept, cut, k, e) {
-        Restart::Moved(p) => {
+        Ok(p) => {
             let wedge = narrow(h, cone);
             let next = improved_at(
                 objective, tie, entries, n, h, wedge, best, broken, cut, k, e,
             );
             going(p, wedge, next, moves, opened, restarts)
         }
-        Restart::Failed(c) => Walk {
+        Err(c) => Walk {
             state: State::Ended(place, c),
             moves,
             opened,

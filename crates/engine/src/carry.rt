@@ -5,7 +5,7 @@ ghost use Rattle.engine.specs.Entries.{entries as entries_of};
 ghost use Rattle.engine.specs.Solving.{rules_solved};
 ghost use Rattle.engine.specs.Carrying.{Advancing, Advanced, Carrying, CarryingIn};
 
-use crate::Solved;
+use crate::Solution;
 use crate::between::step_at;
 use crate::edges::edge;
 use crate::entries::entry;
@@ -57,7 +57,7 @@ fn carry_in(
     walk: Walk,
     i: usize,
     ring: &mut [u16],
-) -> Solved
+) -> Option<Solution>
     requires { CarryingIn objective floors run.now n walk i ring.old }
     ensures { result ≡ rules_solved objective floors (entries_of run.now 2 n) }
 {
@@ -65,19 +65,17 @@ fn carry_in(
     let end = n + 2;
     let mut arc = grow(size, run, &mut *ring, i);
     let mut walk = walk;
-    let mut i = i;
-    while i < end {
-        let h = entry(run, i);
+    for k in i..end {
+        let h = entry(run, k);
         if rule_in_range(h) {
-            let next = advance(objective, size, run, &mut *ring, i, h, walk, arc);
+            let next = advance(objective, size, run, &mut *ring, k, h, walk, arc);
             walk = next.walk;
             arc = next.arc;
-            i += 1;
         } else {
-            return Solved::Outside;
+            return None;
         }
     }
-    Solved::Walked(solution(objective, walk))
+    Some(solution(objective, walk))
 }
 
 // Carries on from entry i. The ring's run is twice as long as the ring gets, and stands on the stack here alone; clearing that for 8,190
@@ -89,7 +87,7 @@ pub fn carry_on(
     n: usize,
     walk: Walk,
     i: usize,
-) -> Solved
+) -> Option<Solution>
     requires { Carrying objective floors run.now n walk i }
     ensures { result ≡ rules_solved objective floors (entries_of run.now 2 n) }
 {

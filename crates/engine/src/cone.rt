@@ -4,42 +4,37 @@ ghost use Rattle.model.specs.Step.{narrow as narrow_of, gaining as gaining_of};
 ghost use Rattle.engine.specs.Sizes.{Narrowing, Gaining};
 
 use crate::exact::{backward, direction, gains, stays};
-use lp::{Constraint, Functional};
-use model::{Cone, Gain};
+use lp::{Constraint, Functional, Ray};
 
-pub fn narrow(h: Constraint, cone: Cone) -> Cone
+pub fn narrow(h: Constraint, cone: Option<(Ray, Ray)>) -> Option<(Ray, Ray)>
     requires { Narrowing h cone }
     ensures { result ≡ narrow_of h cone }
 {
-    let Cone::Wedge(lo, hi) = cone else {
-        return Cone::Empty;
-    };
+    let (lo, hi) = cone?;
     if stays(h, lo) {
         if stays(h, hi) {
-            Cone::Wedge(lo, hi)
+            Some((lo, hi))
         } else {
-            Cone::Wedge(lo, direction(h))
+            Some((lo, direction(h)))
         }
     } else if stays(h, hi) {
-        Cone::Wedge(backward(h), hi)
+        Some((backward(h), hi))
     } else {
-        Cone::Empty
+        None
     }
 }
 
 // A ray of the cone along which the objective gains: the flatter of the two if it does.
-pub fn gaining(f: Functional, cone: Cone) -> Gain
+pub fn gaining(f: Functional, cone: Option<(Ray, Ray)>) -> Option<Ray>
     requires { Gaining f cone }
     ensures { result ≡ gaining_of f cone }
 {
-    let Cone::Wedge(lo, hi) = cone else {
-        return Gain::Nowhere;
-    };
+    let (lo, hi) = cone?;
     if gains(f, lo) {
-        Gain::Along(lo)
+        Some(lo)
     } else if gains(f, hi) {
-        Gain::Along(hi)
+        Some(hi)
     } else {
-        Gain::Nowhere
+        None
     }
 }

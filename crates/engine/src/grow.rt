@@ -34,11 +34,9 @@ pub fn grow(size: Constraint, run: &[i64], ring: &mut [u16], m: usize) -> Arc
         n: 3,
         cut: false,
     };
-    let mut k = 2;
-    while k < m {
+    for k in 2..m {
         let i = (k + 1) as u16;
         arc = insert(size, run, &mut *ring, i, entry(run, k), arc);
-        k += 1;
     }
     arc
 }

@@ -29,7 +29,7 @@ use flooring::lay_floors;
 use lp::{Certificate, Outcome, Point, Terms};
 
 // What the walk along a chain of rules comes to: the outcome, the counts, the place and a certificate by index (0 and 1 are the floors, i
-// + 2 is rule i), and the start pair with how often it was worked out. What is not used is zero.
+// + 2 is rule i), and the start pair, if one is held, with how often it was worked out. What is not used is zero, or None.
 #[derive(Clone, Copy)]
 pub struct Solution {
     pub outcome: Outcome,
@@ -37,31 +37,24 @@ pub struct Solution {
     pub opened: usize,
     pub place: usize,
     pub certificate: Certificate,
-    pub held: bool,
-    pub start: Point,
+    pub start: Option<Point>,
     pub restarts: usize,
 }
 
-// Outside: some number is out of its range, or the run has no room.
-#[derive(Clone, Copy)]
-pub enum Solved {
-    Outside,
-    Walked(Solution),
-}
-
-// Plans n rules, which stand in a run of numbers from its seventh on (a, b, c each); the floors are laid out before them.
-pub fn solve(terms: Terms, run: &mut [i64], n: usize) -> Solved
+// Plans n rules, which stand in a run of numbers from its seventh on (a, b, c each); the floors are laid out before them. None: some
+// number is out of its range, or the run has no room.
+pub fn solve(terms: Terms, run: &mut [i64], n: usize) -> Option<Solution>
     ensures { Solves terms n run.old result run.new }
 {
     let objective = terms.objective;
     let floors = terms.floors;
     if !lay_floors(floors, &mut *run) {
-        return Solved::Outside;
+        return None;
     }
     if up_to(32767, objective.p) & up_to(32767, objective.q) {
         if n <= (run.len() - 6) / 3 {
             return walk::walk_rules(objective, floors, run, n);
         }
     }
-    Solved::Outside
+    None
 }

@@ -11,8 +11,7 @@ use crate::exact::{direction, facing, keeps};
 use crate::order::upward;
 use crate::scan::tightest;
 use fraction::reduce;
-use lp::{Constraint, Functional, Point, Tie};
-use model::{Best, Cone, Found, Gain};
+use lp::{Constraint, Functional, Point, Ray, Tie};
 
 fn moved(objective: Functional, tie: Tie, entries: &[i64], n: usize, h: Constraint) -> Point
     requires { Moving objective tie entries.now n h }
@@ -20,8 +19,8 @@ fn moved(objective: Functional, tie: Tie, entries: &[i64], n: usize, h: Constrai
 {
     let side = upward(objective, tie, direction(h));
     match tightest(entries, n, facing(side, h)) {
-        Found::Nothing => Point { x: 0, y: 0, d: 1 },
-        Found::At(_, _, p) => reduce(p),
+        None => Point { x: 0, y: 0, d: 1 },
+        Some(met) => reduce(met.point),
     }
 }
 
@@ -33,23 +32,23 @@ pub fn improved(
     entries: &[i64],
     n: usize,
     h: Constraint,
-    cone: Cone,
-    best: Best,
+    cone: Option<(Ray, Ray)>,
+    best: Option<Point>,
     broken: bool,
-) -> Best
+) -> Option<Point>
     requires { Improving objective tie entries.now n h cone best broken }
     ensures { result ≡ improved_of (gain_order objective tie) objective (entries_of entries.now 0 n) h cone best }
 {
     match best {
-        Best::Open => match gaining(objective, cone) {
-            Gain::Along(_) => Best::Open,
-            Gain::Nowhere => Best::At(moved(objective, tie, entries, n, h)),
+        None => match gaining(objective, cone) {
+            Some(_) => None,
+            None => Some(moved(objective, tie, entries, n, h)),
         },
-        Best::At(v) => {
+        Some(v) => {
             if broken {
-                Best::At(moved(objective, tie, entries, n, h))
+                Some(moved(objective, tie, entries, n, h))
             } else {
-                Best::At(Point {
+                Some(Point {
                     x: v.x,
                     y: v.y,
                     d: v.d,
@@ -60,12 +59,12 @@ pub fn improved(
 }
 
 // A best pair that does not keep the new constraint.
-pub fn breaks(h: Constraint, best: Best) -> bool
+pub fn breaks(h: Constraint, best: Option<Point>) -> bool
     requires { Breaking h best }
     ensures { result ≡ breaks_of h best }
 {
     match best {
-        Best::Open => false,
-        Best::At(v) => !keeps(h, v),
+        None => false,
+        Some(v) => !keeps(h, v),
     }
 }

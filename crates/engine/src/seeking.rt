@@ -26,7 +26,7 @@ fn comes_before(v: Point, early: bool, x: Constraint, w: Point) -> bool
     }
 }
 
-// The last edge that comes before the constraint, by halving.
+// The last edge that comes before the constraint, by halving. What is halved is no range that a `for` could go over.
 fn halved(size: Constraint, run: &[i64], ring: &[u16], w: Point, lo: usize, n: usize) -> usize
     requires { Halving run.now ring.now size w lo n }
     ensures { result < n }
@@ -53,13 +53,11 @@ fn first_place(run: &[i64], ring: &[u16], w: Point, lo: usize, n: usize) -> usiz
     requires { Seeking run.now ring.now w lo n }
     ensures { Sought run.now ring.now w lo n result }
 {
-    let mut k = 0;
-    while k + 1 < n {
+    for k in 0..n - 1 {
         let p = lo + k;
         if is_between(run, ring, w, p, p + 1) {
             return k;
         }
-        k += 1;
     }
     n
 }

@@ -11,7 +11,7 @@ use crate::order::tie_upward;
 use crate::scan::{first_broken, tightest};
 use fraction::reduce;
 use lp::{Certificate, Constraint, Point, Tie};
-use model::{Broken, Found, Restart};
+use model::Met;
 
 // 0 is at most c, with c below 0: the rule at index n needs no other entry.
 pub fn alone(n: usize) -> Certificate
@@ -60,25 +60,31 @@ fn conflict(
 }
 
 // The tightest point on the line, if it keeps every entry.
-pub fn resettled(entries: &[i64], side: bool, n: usize, h: Constraint, found: Found) -> Restart
+pub fn resettled(
+    entries: &[i64],
+    side: bool,
+    n: usize,
+    h: Constraint,
+    found: Option<Met>,
+) -> Result<Point, Certificate>
     requires { Resettling entries.now n h found }
     ensures { result ≡ resettled_of (entries_of entries.now 0 n) side n h found }
 {
     match found {
-        Found::Nothing => Restart::Failed(alone(n)),
-        Found::At(j, k, p) => match first_broken(entries, n, p) {
-            Broken::Nowhere => Restart::Moved(reduce(p)),
-            Broken::At(i, m) => Restart::Failed(conflict(side, n, h, j, k, i, m)),
+        None => Err(alone(n)),
+        Some(met) => match first_broken(entries, n, met.point) {
+            None => Ok(reduce(met.point)),
+            Some((i, m)) => Err(conflict(side, n, h, met.index, met.entry, i, m)),
         },
     }
 }
 
-fn restart(tie: Tie, entries: &[i64], n: usize, h: Constraint) -> Restart
+fn restart(tie: Tie, entries: &[i64], n: usize, h: Constraint) -> Result<Point, Certificate>
     requires { Restarting tie entries.now n h }
     ensures { result ≡ restart_of tie (entries_of entries.now 0 n) n h }
 {
     if is_level(h) {
-        return Restart::Failed(alone(n));
+        return Err(alone(n));
     }
     let side = tie_upward(tie, direction(h));
     let found = tightest(entries, n, facing(side, h));
@@ -86,12 +92,19 @@ fn restart(tie: Tie, entries: &[i64], n: usize, h: Constraint) -> Restart
 }
 
 // The start point stays where it keeps the new constraint; no entry is looked at then.
-pub fn start(tie: Tie, entries: &[i64], n: usize, h: Constraint, s: Point, kept: bool) -> Restart
+pub fn start(
+    tie: Tie,
+    entries: &[i64],
+    n: usize,
+    h: Constraint,
+    s: Point,
+    kept: bool,
+) -> Result<Point, Certificate>
     requires { Restarting tie entries.now n h }
     ensures { result ≡ kept_or_restarted tie (entries_of entries.now 0 n) n h s kept }
 {
     if kept {
-        Restart::Moved(s)
+        Ok(s)
     } else {
         restart(tie, entries, n, h)
     }

@@ -8,16 +8,15 @@ fn forwards(ring: &mut [u16], lo: usize, n: usize, k: usize) -> usize
     ensures { Faces ring.old lo n k result ring.new }
 {
     let end = lo + k + 1;
-    let mut at = lo;
-    while at < end {
+    for at in lo..end {
         let i = ring[at];
         ring[at + n] = i;
-        at += 1;
     }
-    at
+    end
 }
 
-// The last edge before the first, until edge k is the last.
+// The last edge before the first, until edge k is the last. The place goes down and is what is handed back: a range turned round would be
+// no plainer.
 fn backwards(ring: &mut [u16], lo: usize, n: usize, k: usize) -> usize
     requires { Backwards ring.old lo n k }
     ensures { Faces ring.old lo n k result ring.new }

@@ -1,5 +1,5 @@
-// What a walk comes to: the outcome, and where it is infeasible its place and certificate, else the start point. Fields that an outcome
-// does not use are zero.
+// What a walk comes to: the outcome, and where it is infeasible its place and certificate, else the start point. What an outcome does not
+// use is zero, or None.
 ghost use Rattle.std.specs.Prelude.{◌≡◌};
 ghost use Rattle.model.specs.Step.{said as said_of};
 ghost use Rattle.engine.specs.Solving.{solution_of};
@@ -8,20 +8,20 @@ ghost use Rattle.engine.specs.Sizes.{Gaining, Answering};
 use crate::Solution;
 use crate::cone::gaining;
 use fraction::reduce_ray;
-use lp::{Certificate, Functional, Outcome, Point};
-use model::{Best, Cone, Gain, State, Walk};
+use lp::{Certificate, Functional, Outcome, Point, Ray};
+use model::{State, Walk};
 
 // The outcome of a feasible system.
-fn said(objective: Functional, s: Point, cone: Cone, best: Best) -> Outcome
+fn said(objective: Functional, s: Point, cone: Option<(Ray, Ray)>, best: Option<Point>) -> Outcome
     requires { Gaining objective cone }
     ensures { result ≡ said_of objective (State.Going s cone best) }
 {
     match best {
-        Best::Open => match gaining(objective, cone) {
-            Gain::Along(d) => Outcome::Unbounded(s, reduce_ray(d)),
-            Gain::Nowhere => Outcome::Optimal(s),
+        None => match gaining(objective, cone) {
+            Some(d) => Outcome::Unbounded(s, reduce_ray(d)),
+            None => Outcome::Optimal(s),
         },
-        Best::At(v) => Outcome::Optimal(v),
+        Some(v) => Outcome::Optimal(v),
     }
 }
 
@@ -37,8 +37,7 @@ pub fn solution(objective: Functional, walk: Walk) -> Solution
             opened: walk.opened,
             place,
             certificate,
-            held: false,
-            start: Point { x: 0, y: 0, d: 0 },
+            start: None,
             restarts: walk.restarts,
         },
         State::Going(s, cone, best) => Solution {
@@ -54,8 +53,7 @@ pub fn solution(objective: Functional, walk: Walk) -> Solution
                 third: 0,
                 third_weight: 0,
             },
-            held: true,
-            start: s,
+            start: Some(s),
             restarts: walk.restarts,
         },
     }

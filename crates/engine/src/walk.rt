@@ -11,7 +11,7 @@ ghost use Rattle.engine.specs.Solving.{rules_solved};
 ghost use Rattle.engine.specs.Sizes.{Counting, Stepping, Beginning, Walking};
 ghost use Rattle.engine.specs.Carrying.{changes_over};
 
-use crate::Solved;
+use crate::Solution;
 use crate::carry::carry_on;
 use crate::cone::{gaining, narrow};
 use crate::entries::entry;
@@ -21,7 +21,7 @@ use crate::start::start;
 use crate::verdict::solution;
 use amounts::range::rule_in_range;
 use lp::{Constraint, Floors, Functional, Point, Ray, Tie};
-use model::{Best, Cone, Gain, Restart, State, Walk};
+use model::{State, Walk};
 
 // One more, if so.
 pub fn counted(count: usize, so: bool) -> usize
@@ -31,13 +31,20 @@ pub fn counted(count: usize, so: bool) -> usize
     if so { count + 1 } else { count }
 }
 
-pub fn going(s: Point, cone: Cone, best: Best, moves: usize, opened: usize, restarts: usize) -> Walk
+pub fn going(
+    s: Point,
+    cone: Option<(Ray, Ray)>,
+    best: Option<Point>,
+    moves: usize,
+    opened: usize,
+    restarts: usize,
+) -> Walk
     requires { Counting opened }
     ensures { result ≡ going_of s cone best moves opened restarts }
 {
     let opened = match best {
-        Best::Open => opened + 1,
-        Best::At(_) => opened,
+        None => opened + 1,
+        Some(_) => opened,
     };
     Walk {
         state: State::Going(s, cone, best),
@@ -70,12 +77,12 @@ pub fn step(
     let restarts = counted(walk.restarts, !kept);
     let place = n - 1;
     match start(tie, entries, n, h, s, kept) {
-        Restart::Moved(p) => {
+        Ok(p) => {
             let wedge = narrow(h, cone);
             let next = improved(objective, tie, entries, n, h, wedge, best, broken);
             going(p, wedge, next, moves, opened, restarts)
         }
-        Restart::Failed(c) => Walk {
+        Err(c) => Walk {
             state: State::Ended(place, c),
             moves,
             opened,
@@ -94,10 +101,10 @@ fn begin(objective: Functional, floors: Floors) -> Walk
         y: floors.ly,
         d: 1,
     };
-    let axes = Cone::Wedge(Ray { dx: 1, dy: 0 }, Ray { dx: 0, dy: 1 });
+    let axes = Some((Ray { dx: 1, dy: 0 }, Ray { dx: 0, dy: 1 }));
     match gaining(objective, axes) {
-        Gain::Along(_) => going(corner, axes, Best::Open, 0, 0, 0),
-        Gain::Nowhere => going(corner, axes, Best::At(corner), 0, 0, 0),
+        Some(_) => going(corner, axes, None, 0, 0, 0),
+        None => going(corner, axes, Some(corner), 0, 0, 0),
     }
 }
 
@@ -140,30 +147,29 @@ fn pays(budget: usize, n: usize, rest: usize) -> bool
 // The walk along n rules, which stand after the floors. A rule is looked at before it is taken in, so that no pass of its own is made for
 // that. Where a pair moves, a pass over the entries before the rule is made. Once these passes have looked at all entries that they may,
 // the walk carries the region's boundary along instead, which costs more where few pairs move and less where many do.
-pub fn walk_rules(objective: Functional, floors: Floors, run: &[i64], n: usize) -> Solved
+pub fn walk_rules(objective: Functional, floors: Floors, run: &[i64], n: usize) -> Option<Solution>
     requires { Walking objective floors run.now n }
     ensures { result ≡ rules_solved objective floors (entries_of run.now 2 n) }
 {
     let end = n + 2;
     let mut walk = begin(objective, floors);
     let mut budget = allowed(n);
-    let mut i = 2;
-    while i < end {
+    for i in 2..end {
         let h = entry(run, i);
         if rule_in_range(h) {
             let moves = walk.moves;
             let restarts = walk.restarts;
             walk = step(objective, tie(), run, i, h, walk);
-            i += 1;
             if (moves < walk.moves) | (restarts < walk.restarts) {
-                budget = left_over(budget, i);
-                if pays(budget, n, end - i) {
-                    return carry_on(objective, floors, run, n, walk, i);
+                let next = i + 1;
+                budget = left_over(budget, next);
+                if pays(budget, n, end - next) {
+                    return carry_on(objective, floors, run, n, walk, next);
                 }
             }
         } else {
-            return Solved::Outside;
+            return None;
         }
     }
-    Solved::Walked(solution(objective, walk))
+    Some(solution(objective, walk))
 }

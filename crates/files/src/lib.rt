@@ -14,13 +14,6 @@ use std::io;
 use std::io::{ErrorKind, Read};
 use std::rt::Env;
 
-// How many bytes a file gave, or that it could not be read.
-#[derive(Clone, Copy)]
-pub enum Taken {
-    Failed,
-    Bytes(usize),
-}
-
 // Writes a line to standard error: what failed, a colon and why. Where even that fails, nothing is left to say.
 fn fail(rt: &HostRuntime, what: &[u8], why: impl Display + Drop) {
     let _ = rt.stderr().write_all(what);
@@ -53,22 +46,22 @@ fn filled(file: &mut File, book: &mut [u8]) -> io::Result<usize>
     Ok(n)
 }
 
-// What a file gave. Where it failed, standard error says so.
-fn take(rt: &HostRuntime, file: &mut File, path: &[u8], book: &mut [u8]) -> Taken
+// How many bytes a file gave. Where it failed, standard error says so.
+fn take(rt: &HostRuntime, file: &mut File, path: &[u8], book: &mut [u8]) -> Option<usize>
     ensures { Held result (length book.new) }
 {
-    let n = match filled(file, book) {
-        Ok(n) => n,
+    match filled(file, book) {
+        Ok(n) => Some(n),
         Err(error) => {
             fail(rt, path, error);
-            return Taken::Failed;
+            None
         }
-    };
-    Taken::Bytes(n)
+    }
 }
 
-// Reads the book that an argument names. Where there is no such argument, standard error says how the program is called.
-pub fn load(rt: &HostRuntime, argument: usize, usage: &[u8], book: &mut [u8]) -> Taken
+// Reads the book that an argument names, and says how many bytes it has. Where it cannot be read, standard error has said why; where there
+// is no such argument, how the program is called.
+pub fn load(rt: &HostRuntime, argument: usize, usage: &[u8], book: &mut [u8]) -> Option<usize>
     ensures { Held result (length book.new) }
 {
     let mut path = [0u8; 4096];
@@ -76,14 +69,14 @@ pub fn load(rt: &HostRuntime, argument: usize, usage: &[u8], book: &mut [u8]) ->
         Ok(n) => n,
         Err(error) => {
             fail(rt, usage, reason(error));
-            return Taken::Failed;
+            return None;
         }
     };
     match open(rt, &path[..length]) {
         Ok(mut file) => take(rt, &mut file, &path[..length], book),
         Err(error) => {
             fail(rt, &path[..length], error);
-            Taken::Failed
+            None
         }
     }
 }

@@ -21,7 +21,8 @@ fn among(records: &[u16], at: usize, wanted: u16) -> bool
         | (records[at + 7] == wanted)
 }
 
-// A place before which no record is wanted, and at most seven records before the one that is or before the end.
+// A place before which no record is wanted, and at most seven records before the one that is or before the end. The library's `position`
+// would compare record by record.
 fn passed(records: &[u16], wanted: u16) -> usize
     ensures { Passed records.now wanted result }
 {
@@ -39,12 +40,11 @@ fn passed(records: &[u16], wanted: u16) -> usize
 pub fn place(records: &[u16], wanted: u64) -> usize
     ensures { result ≡ place_of records.now wanted }
 {
-    let mut i = passed(records, (wanted % 65536) as u16);
-    while i < records.len() {
+    let start = passed(records, (wanted % 65536) as u16);
+    for i in start..records.len() {
         if records[i] as u64 == wanted {
             return i;
         }
-        i += 1;
     }
     records.len()
 }

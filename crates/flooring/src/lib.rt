@@ -5,7 +5,7 @@
 
 ghost use Rattle.flooring.specs.Floors.{Lays};
 
-use amounts::range::up_to;
+use amounts::range::floors_in_range;
 use lp::Floors;
 
 // Lays them, if the run has room for them and they are within their range, and says whether.
@@ -15,13 +15,13 @@ pub fn lay_floors(floors: Floors, run: &mut [i64]) -> bool
     if run.len() < 6 {
         return false;
     }
-    if up_to(32768, floors.lx) & up_to(32768, floors.ly) {
+    if floors_in_range(floors) {
         run[0] = -1;
         run[1] = 0;
-        run[2] = 0 - floors.lx;
+        run[2] = -floors.lx;
         run[3] = 0;
         run[4] = -1;
-        run[5] = 0 - floors.ly;
+        run[5] = -floors.ly;
         true
     } else {
         false

@@ -6,8 +6,8 @@
 ghost use Rattle.forms.specs.Value.{held as held_of, product as product_of};
 ghost use Rattle.forms.specs.Small.{Valued};
 
+use forms::Value;
 use forms::operands::paired;
-use forms::{Pair, Value};
 use within::multiplied;
 
 mod within;
@@ -15,8 +15,6 @@ mod within;
 pub fn product(v: Value, w: Value) -> Value
     ensures { Valued (product_of (held_of v) (held_of w)) result }
 {
-    match paired(v, w) {
-        Pair::Forms(f, g) => multiplied(f, g),
-        Pair::First(n) => Value::Beyond(n),
-    }
+    let (f, g) = paired(v, w)?;
+    multiplied(f, g)
 }

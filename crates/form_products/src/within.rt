@@ -4,7 +4,7 @@ ghost use Rattle.forms.specs.Value.{limited as limited_of, mul_forms, multiplied
 ghost use Rattle.forms.specs.Small.{SmallForms, SmallFour, Valued};
 
 use forms::operands::{bounded, limited};
-use forms::{Form, Value};
+use forms::{Flaw, Form, Value};
 
 // p·q + s·t
 fn cross(p: i64, q: i64, s: i64, t: i64) -> i64
@@ -14,7 +14,7 @@ fn cross(p: i64, q: i64, s: i64, t: i64) -> i64
     p * q + s * t
 }
 
-// The product of two forms of which one is a constant, within the limit, else 15.
+// The product of two forms of which one is a constant, within the limit, else the flaw of its size.
 fn scaled(f: Form, g: Form) -> Value
     requires { SmallForms f g }
     ensures { Valued (limited_of (mul_forms f g)) result }
@@ -26,7 +26,7 @@ fn scaled(f: Form, g: Form) -> Value
     })
 }
 
-// The product of two forms: 14 if neither is a constant. A constant's coefficients are 0, and any form here is within the limit.
+// The product of two forms: a flaw of its own if neither is a constant. A constant's coefficients are 0, and any form here is within the limit.
 pub fn multiplied(f: Form, g: Form) -> Value
     requires { SmallForms f g }
     ensures { Valued (multiplied_of f g) result }
@@ -36,6 +36,6 @@ pub fn multiplied(f: Form, g: Form) -> Value
     } else if bounded(g, 0, 1000000000) {
         scaled(f, g)
     } else {
-        Value::Beyond(14)
+        Err(Flaw::Product)
     }
 }

@@ -8,9 +8,8 @@ ghost use Rattle.forms.specs.Value.{held as held_of, negated as negated_of, sum 
 ghost use Rattle.forms.specs.Value.{conclude as conclude_of};
 ghost use Rattle.forms.specs.Small.{Valued};
 
-use answers::Refusal;
 use forms::operands::{held, limited, paired};
-use forms::{Form, Pair, Typed, Value};
+use forms::{Form, Typed, Value};
 use within::{add_forms, finished, sub_forms};
 
 mod within;
@@ -18,36 +17,28 @@ mod within;
 pub fn negated(v: Value) -> Value
     ensures { Valued (negated_of (held_of v)) result }
 {
-    match held(v) {
-        Value::Linear(f) => Value::Linear(sub_forms(Form { a: 0, b: 0, c: 0 }, f)),
-        Value::Beyond(n) => Value::Beyond(n),
-    }
+    let f = held(v)?;
+    Ok(sub_forms(Form { a: 0, b: 0, c: 0 }, f))
 }
 
 pub fn sum(v: Value, w: Value) -> Value
     ensures { Valued (sum_of (held_of v) (held_of w)) result }
 {
-    match paired(v, w) {
-        Pair::Forms(f, g) => limited(add_forms(f, g)),
-        Pair::First(n) => Value::Beyond(n),
-    }
+    let (f, g) = paired(v, w)?;
+    limited(add_forms(f, g))
 }
 
 pub fn difference(v: Value, w: Value) -> Value
     ensures { Valued (difference_of (held_of v) (held_of w)) result }
 {
-    match paired(v, w) {
-        Pair::Forms(f, g) => limited(sub_forms(f, g)),
-        Pair::First(n) => Value::Beyond(n),
-    }
+    let (f, g) = paired(v, w)?;
+    limited(sub_forms(f, g))
 }
 
-// The rule of two sides, or the refusal of the left one, the right one, or the last.
+// The rule of two sides, or the flaw of the left one, the right one, or the last.
 pub fn conclude(kind: usize, v: Value, w: Value) -> Typed
     ensures { result ≡ conclude_of kind (held_of v) (held_of w) }
 {
-    match paired(v, w) {
-        Pair::Forms(f, g) => finished(kind, f, g),
-        Pair::First(n) => Typed::Refused(Refusal { number: n, at: 0 }),
-    }
+    let (f, g) = paired(v, w)?;
+    finished(kind, f, g)
 }

@@ -3,9 +3,8 @@ ghost use Rattle.std.specs.Prelude.{◌≡◌, ◌+ℤ◌, ◌-ℤ◌};
 ghost use Rattle.forms.specs.Value.{add_forms, sub_forms, final, written};
 ghost use Rattle.forms.specs.Small.{SmallForms, SmallPair};
 
-use answers::Refusal;
 use forms::operands::bounded;
-use forms::{Form, Typed, Written};
+use forms::{Flaw, Form, Typed, Written};
 
 fn add(y: i64, z: i64) -> i64
     requires { SmallPair y z }
@@ -43,7 +42,7 @@ pub fn sub_forms(f: Form, g: Form) -> Form
     }
 }
 
-// The rule of two sides: the final a, b and c are within their limits, else 15.
+// The rule of two sides: the final a, b and c are within their limits, else the flaw of their size.
 pub fn finished(kind: usize, f: Form, g: Form) -> Typed
     requires { SmallForms f g }
     ensures { result ≡ final (written kind f g) }
@@ -59,13 +58,13 @@ pub fn finished(kind: usize, f: Form, g: Form) -> Typed
         32767,
         1000000000,
     ) {
-        Typed::Rule(Written {
+        Ok(Written {
             kind: kind,
             a: over.a,
             b: over.b,
             c: under.c,
         })
     } else {
-        Typed::Refused(Refusal { number: 15, at: 0 })
+        Err(Flaw::Size)
     }
 }

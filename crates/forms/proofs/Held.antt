@@ -6,9 +6,9 @@ use borrow.Author.Tests.{le-leb}
 use lib.IntN.{nat_abs}
 use Rattle.ints.specs.Within.{Within}
 use Rattle.forms.specs.declared.Form.{Form}
-use Rattle.forms.specs.declared.Value.{Value}
-use Rattle.forms.specs.declared.Value.TheVariants.{Linear, Beyond}
-use Rattle.forms.specs.Value.{inside, limit, limited, bounded, held}
+use Rattle.std.specs.Prelude.{Ok, Err}
+use Rattle.forms.specs.declared.Flaw.TheVariants.{Size}
+use Rattle.forms.specs.Value.{Value, inside, limit, limited, bounded, held}
 use Rattle.forms.specs.Small.{SmallForm, Small}
 
 pub inside-limit : {z : ℤ} → Within limit z → inside limit z ≡ true
@@ -22,8 +22,8 @@ all-inside f h =
 
 pub held_small : (v : Value) → Small v → held v ≡ v
 unfolding held limited
-held_small (Linear f) h = ap (λ (t : Bool). cond t (Linear f) (Beyond 15)) (all-inside f h)
-held_small (Beyond n) h = refl
+held_small (Ok f) h = ap (λ (t : Bool). cond t (Ok f) (Err Size)) (all-inside f h)
+held_small (Err e) h = refl
 
 -- of two operands
 pub held_both : {A : Type 0} (op : Value → Value → A) {v w : Value} →

@@ -13,15 +13,12 @@ use Rattle.ints.specs.Within.{Within}
 use Rattle.ints.proofs.Machine.{within-fits, within-add, within-sub, within-mul, within_neg, within_nat, within-numeral}
 use Rattle.ints.proofs.Bits.{read}
 use Rattle.forms.specs.declared.Form.{Form}
-use Rattle.forms.specs.declared.Value.{Value}
-use Rattle.forms.specs.declared.Value.TheVariants.{Linear, Beyond}
-use Rattle.forms.specs.declared.Pair.{Pair}
-use Rattle.forms.specs.declared.Pair.TheVariants.{Forms, First}
+use Rattle.std.specs.Prelude.{Ok, Err}
+use Rattle.forms.specs.declared.Flaw.{Flaw}
+use Rattle.forms.specs.declared.Flaw.TheVariants.{Size}
 use Rattle.forms.specs.declared.Written.{Written}
-use Rattle.forms.specs.declared.Typed.{Typed}
-use Rattle.forms.specs.declared.Typed.TheVariants.{Rule}
-use Rattle.forms.specs.Value.{inside, bounded, limit, form, limited, numeral, neg_form, constant, combine, written, final, conclude, no_rule}
-use Rattle.forms.specs.Small.{SmallForm, SmallForms, Small, pair_of, SmallIn, Paired, Valued}
+use Rattle.forms.specs.Value.{Value, Typed, inside, bounded, limit, form, limited, numeral, neg_form, constant, combine, written, final, conclude, no_rule}
+use Rattle.forms.specs.Small.{SmallForm, SmallForms, Small, Pair, pair_of, SmallIn, Paired, Valued}
 
 -- ---- numbers
 
@@ -116,7 +113,7 @@ limited-form p h = same-value (ap limited p) h
 pub limited-yes : (f : Form) {t : Bool} →
     t ≡ bounded limit limit f →
     t ≡ true →
-    Valued (limited f) (Linear f)
+    Valued (limited f) (Ok f)
 unfolding limited
 limited-yes f e t =
     let all = both (inside limit f.a) (inside limit f.b && inside limit f.c) (sym e ∙ t) in
@@ -129,14 +126,14 @@ limited-yes f e t =
 pub limited_no : (f : Form) {t : Bool} →
     t ≡ bounded limit limit f →
     t ≡ false →
-    Valued (limited f) (Beyond 15)
+    Valued (limited f) (Err Size)
 unfolding limited
 limited_no f e t = record { same = rw (sym e ∙ t); small = tt }
 
 pub numeral-yes : (n : ℕ) (z : ℤ) →
     n ≤ limit →
     z ≡ pos n →
-    Valued (numeral n) (Linear (form (pos 0) (pos 0) z))
+    Valued (numeral n) (Ok (form (pos 0) (pos 0) z))
 unfolding numeral
 numeral-yes n z h e =
     record {
@@ -154,43 +151,43 @@ constant-is {f} h e =
 
 -- ---- values
 
-pub small-form : {v : Value} {f : Form} → Small v → v ≡ Linear f → SmallForm f
+pub small-form : {v : Value} {f : Form} → Small v → v ≡ Ok f → SmallForm f
 small-form {v} {f} h e = subst Small e h
 
 -- two operands, as a pair
 
-abbrev pub joined : {X : Type 0} → (Form → Form → X) → (ℕ → X) → Pair → X
-joined op stop (Forms f g) = op f g
-joined op stop (First n) = stop n
+abbrev pub joined : {X : Type 0} → (Form → Form → X) → (Flaw → X) → Pair → X
+joined op stop (Ok (f, g)) = op f g
+joined op stop (Err e) = stop e
 
-combine-pair : (op : Form → Form → Value) (v w : Value) → combine op v w ≡ joined op Beyond (pair_of v w)
-combine-pair op (Linear f) (Linear g) = refl
-combine-pair op (Linear f) (Beyond n) = refl
-combine-pair op (Beyond n) w = refl
+combine-pair : (op : Form → Form → Value) (v w : Value) → combine op v w ≡ joined op Err (pair_of v w)
+combine-pair op (Ok f) (Ok g) = refl
+combine-pair op (Ok f) (Err e) = refl
+combine-pair op (Err e) w = refl
 
-conclude-pair : (k : ℕ) (v w : Value) → conclude k v w ≡ joined (λ f g. final (written k f g)) (λ n. no_rule n) (pair_of v w)
+conclude-pair : (k : ℕ) (v w : Value) → conclude k v w ≡ joined (λ f g. final (written k f g)) no_rule (pair_of v w)
 unfolding conclude
-conclude-pair k (Linear f) (Linear g) = refl
-conclude-pair k (Linear f) (Beyond n) = refl
-conclude-pair k (Beyond n) w = refl
+conclude-pair k (Ok f) (Ok g) = refl
+conclude-pair k (Ok f) (Err e) = refl
+conclude-pair k (Err e) w = refl
 
 module _ {v w : Value} {p : Pair} (x : Paired v w p) where
-  pub small_forms : {f g : Form} → p ≡ Forms f g → SmallForms f g
+  pub small_forms : {f g : Form} → p ≡ Ok (f, g) → SmallForms f g
   small_forms e = subst SmallIn e x.small
 
   pub combined : (op : Form → Form → Value) {q : Pair} {r : Value} →
       p ≡ q →
-      Valued (joined op Beyond q) r →
+      Valued (joined op Err q) r →
       Valued (combine op v w) r
-  combined op e h = same-value (sym (combine-pair op v w ∙ ap (joined op Beyond) (sym x.same ∙ e))) h
+  combined op e h = same-value (sym (combine-pair op v w ∙ ap (joined op Err) (sym x.same ∙ e))) h
 
   pub concluded : (k : ℕ) {q : Pair} {r : Typed} →
       p ≡ q →
-      r ≡ joined (λ f g. final (written k f g)) (λ n. no_rule n) q →
+      r ≡ joined (λ f g. final (written k f g)) no_rule q →
       r ≡ conclude k v w
-  concluded k e h = h ∙ sym (conclude-pair k v w ∙ ap (joined (λ f g. final (written k f g)) (λ n. no_rule n)) (sym x.same ∙ e))
+  concluded k e h = h ∙ sym (conclude-pair k v w ∙ ap (joined (λ f g. final (written k f g)) no_rule) (sym x.same ∙ e))
 
-pub refused : {n : ℕ} → Valued (Beyond n) (Beyond n)
+pub refused : {e : Flaw} → Valued (Err e) (Err e)
 refused = record { same = refl; small = tt }
 
 pub negated-small : {f g : Form} → SmallForm f → g ≡ neg_form f → SmallForm g
@@ -211,11 +208,11 @@ written_is k {a} {a'} {b} {b'} {c} {c'} p q r =
 -- ---- the final numbers
 
 module _ {w w' : Written} {t : Bool} (p : w ≡ w') (e : t ≡ bounded 32767 limit (form w.a w.b w.c)) where
-  pub final-yes : t ≡ true → Rule w ≡ final w'
+  pub final-yes : t ≡ true → Ok w ≡ final w'
   unfolding final
   final-yes q =
-      subst (λ (x : Written). Rule w ≡ final x) p (sym (ap (λ (u : Bool). cond u (Rule w) (no_rule 15)) (sym e ∙ q)))
+      subst (λ (x : Written). Ok w ≡ final x) p (sym (ap (λ (u : Bool). cond u (Ok w) (no_rule Size)) (sym e ∙ q)))
 
-  pub final_no : t ≡ false → no_rule 15 ≡ final w'
+  pub final_no : t ≡ false → no_rule Size ≡ final w'
   unfolding final
-  final_no q = subst (λ (x : Written). no_rule 15 ≡ final x) p (sym (ap (λ (u : Bool). cond u (Rule w) (no_rule 15)) (sym e ∙ q)))
+  final_no q = subst (λ (x : Written). no_rule Size ≡ final x) p (sym (ap (λ (u : Bool). cond u (Ok w) (no_rule Size)) (sym e ∙ q)))

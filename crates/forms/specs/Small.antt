@@ -1,12 +1,9 @@
 -- Values within the limit: what every operation hands back, and what the private functions ask for. It rests on the values (Value).
-use Rattle.std.specs.Prelude.{◌≡◌, ℤ}
+use Rattle.std.specs.Prelude.{◌≡◌, ℤ, Result, Ok, Err}
 use Rattle.ints.specs.Within.{Within}
 use Rattle.forms.specs.declared.Form.{Form}
-use Rattle.forms.specs.declared.Value.{Value}
-use Rattle.forms.specs.declared.Value.TheVariants.{Linear, Beyond}
-use Rattle.forms.specs.declared.Pair.{Pair}
-use Rattle.forms.specs.declared.Pair.TheVariants.{Forms, First}
-use Rattle.forms.specs.Value.{limit}
+use Rattle.forms.specs.declared.Flaw.{Flaw}
+use Rattle.forms.specs.Value.{Value, limit}
 
 -- a form whose numbers are at most 1,000,000,000 either way
 pub record SmallForm (f : Form) : Type 0 where
@@ -15,8 +12,8 @@ pub record SmallForm (f : Form) : Type 0 where
   pub c : Within limit f.c
 
 abbrev pub Small : Value → Type 0
-Small (Linear f) = SmallForm f
-Small (Beyond n) = Unit {0}
+Small (Ok f) = SmallForm f
+Small (Err e) = Unit {0}
 
 -- a value as said, and small
 pub record Valued (expected result : Value) : Type 0 where
@@ -39,15 +36,18 @@ pub record SmallFour (p q s t : ℤ) : Type 0 where
   pub s-small : Within limit s
   pub t-small : Within limit t
 
--- the forms of two values, or the refusal of the first that has one
+abbrev pub Pair : Type 0
+Pair = Result (Form × Form) Flaw
+
+-- the forms of two values, or the flaw of the first that has one
 abbrev pub pair_of : Value → Value → Pair
-pair_of (Linear f) (Linear g) = Forms f g
-pair_of (Linear f) (Beyond n) = First n
-pair_of (Beyond n) w = First n
+pair_of (Ok f) (Ok g) = Ok (f, g)
+pair_of (Ok f) (Err e) = Err e
+pair_of (Err e) w = Err e
 
 abbrev pub SmallIn : Pair → Type 0
-SmallIn (Forms f g) = SmallForms f g
-SmallIn (First n) = Unit {0}
+SmallIn (Ok (f, g)) = SmallForms f g
+SmallIn (Err e) = Unit {0}
 
 pub record Paired (v w : Value) (p : Pair) : Type 0 where
   pub same : p ≡ pair_of v w

@@ -1,14 +1,30 @@
 -- What the operations on values are: a form a·x + b·y + c, or the refusal, 14 or 15, of the first number or operation concerned: the
 -- left operand, then the right operand, then the operation itself, 14 before 15. Of two sides: the left, then the right, then the
 -- final a, b and c.
-use Rattle.std.specs.Prelude.{Bool, ◌&&◌, cond, ℕ, leb, ℤ, pos, nat_abs, ◌+ℤ◌, ◌-ℤ◌, ◌*ℤ◌}
+use Rattle.std.specs.Prelude.{Bool, ◌&&◌, cond, ℕ, leb, ℤ, pos, nat_abs, ◌+ℤ◌, ◌-ℤ◌, ◌*ℤ◌, Result, Ok, Err}
+use Rattle.answers.specs.declared.Refusal.{Refusal}
 use Rattle.answers.specs.Refusal.{refusal}
 use Rattle.forms.specs.declared.Form.{Form}
-use Rattle.forms.specs.declared.Value.{Value}
-use Rattle.forms.specs.declared.Value.TheVariants.{Linear, Beyond}
+use Rattle.forms.specs.declared.Flaw.{Flaw}
+use Rattle.forms.specs.declared.Flaw.TheVariants.{Text, Product, Size}
 use Rattle.forms.specs.declared.Written.{Written}
-use Rattle.forms.specs.declared.Typed.{Typed}
-use Rattle.forms.specs.declared.Typed.TheVariants.{Rule, Refused}
+
+-- a part of a text comes to a form or a flaw, and a whole text to a rule or a flaw
+abbrev pub Value : Type 0
+Value = Result Form Flaw
+
+abbrev pub Typed : Type 0
+Typed = Result Written Flaw
+
+-- the number of a flaw's refusal
+abbrev pub number_of : Flaw → ℕ
+number_of Text = 13
+number_of Product = 14
+number_of Size = 15
+
+-- the refusal of a text for its flaw; it names no record
+abbrev pub refusal_of : Flaw → Refusal
+refusal_of e = refusal (number_of e) 0
 
 -- at most n, either way
 abbrev pub inside : ℕ → ℤ → Bool
@@ -26,10 +42,10 @@ bounded n m f = inside n f.a && (inside n f.b && inside m f.c)
 
 -- a form whose numbers are at most 1,000,000,000 either way, else 15
 unfoldable pub limited : Form → Value
-limited f = cond (bounded limit limit f) (Linear f) (Beyond 15)
+limited f = cond (bounded limit limit f) (Ok f) (Err Size)
 
 unfoldable pub numeral : ℕ → Value
-numeral n = cond (leb n limit) (Linear (form (pos 0) (pos 0) (pos n))) (Beyond 15)
+numeral n = cond (leb n limit) (Ok (form (pos 0) (pos 0) (pos n))) (Err Size)
 
 -- ---- operations on forms
 
@@ -48,7 +64,7 @@ unfoldable pub constant : Form → Bool
 constant f = inside 0 f.a && inside 0 f.b
 
 unfoldable pub multiplied : Form → Form → Value
-multiplied f g = cond (constant f) (limited (mul_forms f g)) (cond (constant g) (limited (mul_forms f g)) (Beyond 14))
+multiplied f g = cond (constant f) (limited (mul_forms f g)) (cond (constant g) (limited (mul_forms f g)) (Err Product))
 
 abbrev pub neg_form : Form → Form
 neg_form f = form (pos 0 -ℤ f.a) (pos 0 -ℤ f.b) (pos 0 -ℤ f.c)
@@ -57,14 +73,14 @@ neg_form f = form (pos 0 -ℤ f.a) (pos 0 -ℤ f.b) (pos 0 -ℤ f.c)
 
 -- the left operand's refusal, else the right one's, else the operation
 abbrev pub after : (Form → Value) → Value → Value
-after op (Linear f) = op f
-after op (Beyond n) = Beyond n
+after op (Ok f) = op f
+after op (Err e) = Err e
 
 abbrev pub combine : (Form → Form → Value) → Value → Value → Value
 combine op l r = after (λ f. after (λ g. op f g) r) l
 
 unfoldable pub negated : Value → Value
-negated v = after (λ f. Linear (neg_form f)) v
+negated v = after (λ f. Ok (neg_form f)) v
 
 unfoldable pub sum : Value → Value → Value
 sum l r = combine (λ f g. limited (add_forms f g)) l r
@@ -82,9 +98,9 @@ held v = after limited v
 
 -- ---- rules
 
--- no rule, for the cause of that number; it names no record
-abbrev pub no_rule : ℕ → Typed
-no_rule n = Refused (refusal n 0)
+-- no rule, for that flaw
+abbrev pub no_rule : Flaw → Typed
+no_rule e = Err e
 
 -- a and b are the left coefficients less the right, c the right constant less the left
 abbrev pub written : ℕ → Form → Form → Written
@@ -92,11 +108,11 @@ written k f g = record { kind = k; a = f.a -ℤ g.a; b = f.b -ℤ g.b; c = g.c -
 
 -- a and b at most 32,767 and c at most 1,000,000,000 either way, else 15
 unfoldable pub final : Written → Typed
-final w = cond (bounded 32767 limit (form w.a w.b w.c)) (Rule w) (no_rule 15)
+final w = cond (bounded 32767 limit (form w.a w.b w.c)) (Ok w) (no_rule Size)
 
 abbrev pub then : (Form → Typed) → Value → Typed
-then op (Linear f) = op f
-then op (Beyond n) = no_rule n
+then op (Ok f) = op f
+then op (Err e) = no_rule e
 
 unfoldable pub conclude : ℕ → Value → Value → Typed
 conclude k l r = then (λ f. then (λ g. final (written k f g)) r) l

@@ -1,10 +1,11 @@
-// Values of parts of a typed text: forms a·x + b·y + c whose numbers are at most 1,000,000,000 either way, or a refusal. A number's value,
-// and the operands of an operation. Crates `form_sums` and `form_products` hold the operations, whose definitions stand here. Every
+// Values of parts of a typed text: forms a·x + b·y + c whose numbers are at most 1,000,000,000 either way, or the text's flaw. A number's
+// value, and the operands of an operation. Crates `form_sums` and `form_products` hold the operations, whose definitions stand here. Every
 // function that can be called from outside is total: an operand beyond the limit is refused as a number beyond it would be.
 
 #![tactic(auto)]
 
-ghost use Rattle.forms.specs.Value.{numeral as numeral_of};
+ghost use Rattle.std.specs.Prelude.{◌≡◌};
+ghost use Rattle.forms.specs.Value.{numeral as numeral_of, refusal_of};
 ghost use Rattle.forms.specs.Small.{Valued};
 
 use answers::Refusal;
@@ -19,19 +20,30 @@ pub struct Form {
     pub c: i64,
 }
 
-// The value of a part of a text: a form, or the refusal of the first number or operation concerned.
+// What is wrong with a text: it is none of the language, a product's operands both have a coefficient, or a number is beyond its limit.
 #[derive(Clone, Copy)]
-pub enum Value {
-    Linear(Form),
-    Beyond(u8),
+pub enum Flaw {
+    Text,
+    Product,
+    Size,
 }
 
-// The operands of an operation: two forms, or the refusal that comes first.
-#[derive(Clone, Copy)]
-pub enum Pair {
-    Forms(Form, Form),
-    First(u8),
+impl Flaw {
+    // The refusal, which names record 0.
+    pub fn refusal(self) -> Refusal
+        ensures { result ≡ refusal_of self }
+    {
+        let number = match self {
+            Flaw::Text => 13,
+            Flaw::Product => 14,
+            Flaw::Size => 15,
+        };
+        Refusal { number, at: 0 }
+    }
 }
+
+// The value of a part of a text: a form, or the flaw of the first number or operation concerned.
+pub type Value = Result<Form, Flaw>;
 
 // A rule as written, kind 2 not turned round.
 #[derive(Clone, Copy)]
@@ -42,24 +54,20 @@ pub struct Written {
     pub c: i64,
 }
 
-// What a text reads as: the rule, or the refusal, which names record 0.
-#[derive(Clone, Copy)]
-pub enum Typed {
-    Rule(Written),
-    Refused(Refusal),
-}
+// What a text reads as: the rule, or its flaw.
+pub type Typed = Result<Written, Flaw>;
 
 // The value of a number.
 pub fn numeral(n: usize) -> Value
     ensures { Valued (numeral_of n) result }
 {
     if n <= 1000000000 {
-        Value::Linear(Form {
+        Ok(Form {
             a: 0,
             b: 0,
             c: n as i64,
         })
     } else {
-        Value::Beyond(15)
+        Err(Flaw::Size)
     }
 }

@@ -2,8 +2,8 @@
 -- the divisor is 0 or no i64 at all, the quotient is known. An i64 that a call takes or returns is read back from its bits, `read z`,
 -- which is z.
 use mathlib.Core.Path.{◌≡◌, sym, ◌∙◌, ap, ap₂, subst}
-use Prim.Native.Nat.{ℕ, zero, suc, ◌/◌, ◌^◌, ◌≤◌, ◌<◌}
-use native.Mathlib.Nat.{div-zero, div-eq_of_lt, div_self, div-le_self}
+use Prim.Native.Nat.{ℕ, suc, ◌/◌, ◌^◌, ◌<◌}
+use native.Mathlib.Nat.{div-eq_of_lt, div-le_self}
 use native.Mathlib.Omega.{arith}
 use lib.IntN.{ℤ, pos, negsuc, neg_ℤ, nat_abs}
 use lib.Signed.{quot_z, mag}
@@ -42,9 +42,6 @@ nought : (z : ℤ) (g : ℕ) → nat_abs z / g ≡ 0 → pos 0 ≡ quot_z z (pos
 nought (pos a) g e = sym (ap pos e)
 nought (negsuc a) g e = sym (ap (λ (n : ℕ). neg_ℤ (pos n)) e)
 
-pub by_zero : (z : ℤ) {g : ℕ} → g ≡ 0 → pos 0 ≡ quot_z z (pos g)
-by_zero z {g} e = nought z g (ap (λ (n : ℕ). nat_abs z / n) e ∙ div-zero (nat_abs z))
-
 -- it is greater than the number
 pub by-greater :
     (z : ℤ) (g : ℕ) {m : ℕ} →
@@ -53,26 +50,6 @@ pub by-greater :
     m < g →
     pos 0 ≡ quot_z z (pos g)
 by-greater z g e h less = nought z g (div-eq_of_lt (subst (λ (n : ℕ). n < g) (e ∙ ap nat_abs (unread {z = z} h)) less))
-
--- or it is 2^63, and the number is the least i64
-pub by-least :
-    (z : ℤ) (g : ℕ) {m : ℕ} →
-    m ≡ nat_abs (read z) →
-    mag z < 2 ^ 63 →
-    2 ^ 63 ≤ g →
-    g ≤ m →
-    negsuc 0 ≡ quot_z z (pos g)
-by-least z g e h big less = go z h (subst (λ (n : ℕ). g ≤ n) (e ∙ ap nat_abs (unread {z = z} h)) less)
-  where
-    go : (z : ℤ) → mag z < 2 ^ 63 → g ≤ nat_abs z → negsuc 0 ≡ quot_z z (pos g)
-    go (pos a) h k = absurd (few a h k)
-      where
-        few : (a : ℕ) → a < 2 ^ 63 → g ≤ a → ⊥
-        few a h k = omega (arith, big)
-    go (negsuc a) h k = sym (ap (λ (n : ℕ). neg_ℤ (pos n)) (ap (λ (n : ℕ). suc a / n) (last a h k) ∙ div_self {n = suc a} (omega arith)))
-      where
-        last : (a : ℕ) → a < 2 ^ 63 → g ≤ suc a → g ≡ suc a
-        last a h k = omega (arith, big)
 
 -- ---- what the calls returned
 

@@ -12,7 +12,7 @@ ghost use Rattle.lp.specs.Slack.{lowest as lowest_of};
 use ints::magnitude;
 use lp::{Amount, Point, Ray};
 
-// Euclid's: the second number falls.
+// Euclid's: the second number falls. The library has no greatest common divisor.
 fn divisor(m: u64, n: u64) -> u64
     ensures { result ≡ gcd m n }
 {
@@ -24,13 +24,12 @@ fn divisor(m: u64, n: u64) -> u64
 fn quotient(z: i64, g: u64) -> i64
     ensures { result ≡ quot_z z (pos g) }
 {
-    if g == 0 {
-        return 0;
+    match i64::try_from(g) {
+        Ok(0) => 0,
+        Ok(divisor) => z / divisor,
+        Err(_) if magnitude(z) < g => 0,
+        Err(_) => -1,
     }
-    if g < 9223372036854775808 {
-        return z / (g as i64);
-    }
-    if magnitude(z) < g { 0 } else { -1 }
 }
 
 // The first remainder of x by d is already small, where x and y are both large.

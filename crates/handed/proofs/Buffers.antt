@@ -1,65 +1,62 @@
 -- What is handed back of a refusal and of a count, and what a start pair leaves in a lent run.
-use mathlib.Core.Path.{◌≡◌, refl, sym, ap}
+use mathlib.Core.Path.{◌≡◌, refl, sym, ◌∙◌, ap}
 use mathlib.Core.List.{List}
-use mathlib.Core.Bool.{Bool, cond}
-use Prim.Native.Nat.{ℕ, ◌+◌, ◌*◌, ◌≤◌, ◌<◌}
+use Prim.Native.Nat.{ℕ, ◌≤◌, ◌<◌}
 use native.Mathlib.Omega.{arith}
 use lib.ListN.{length}
-use lib.Dec.{eqb}
-use borrow.Author.Tests.{ne_eqb}
 use lib.IntN.{ℤ}
-use Rattle.lp.specs.declared.Point.{Point}
+use Rattle.std.proofs.Common.{Result, Ok, Err}
+use Rattle.std.specs.Prelude.{unwrap_or}
 use Rattle.answers.specs.declared.Refusal.{Refusal}
 use Rattle.handed.specs.Told.{told_of}
-use Rattle.handed.specs.Start.{put_point, StartPut}
+use Rattle.handed.specs.Start.{put_point, nowhere, view_told, StartPut}
+use Rattle.planner.specs.declared.StartView.{StartView}
 
-pub told-accepted : (r : Refusal) (n : ℕ) → r.number ≡ 0 → n ≡ told_of r n
-told-accepted r n e = sym (ap (λ (k : ℕ). cond (eqb k 0) n (65536 * k + r.at)) e)
+enough_or_short : (k : ℕ) → 3 ≤ k → k < 3 → ⊥
+enough_or_short k a b = omega arith
 
-pub told-refused : (r : Refusal) (n : ℕ) → (r.number ≡ 0 → ⊥) → 65536 * r.number + r.at ≡ told_of r n
-told-refused r n z = sym (ap (λ (b : Bool). cond b n (65536 * r.number + r.at)) (ne_eqb r.number 0 z))
+module _ {view : Result StartView Refusal} where
+  -- a view is of one book, refused or not
+  never : {v : StartView} {r : Refusal} → view ≡ Ok v → view ≡ Err r → ⊥
+  never e f =
+      let z : ◌≡◌ {A = ℕ} 0 1 = cc in
+      let b : ⊥ = omega arith in
+      b
 
-module _ (r : Refusal) (n : ℕ) (v : Point) where
-  enough_or_short : (k : ℕ) → 3 ≤ k → k < 3 → ⊥
-  enough_or_short k a b = omega arith
-
-  pub start-written : (before after : List ℤ) →
-      r.number ≡ 0 →
+  pub start-written : {v : StartView} (before after : List ℤ) →
+      view ≡ Ok v →
       3 ≤ length before →
-      after ≡ put_point before v →
-      {count : ℕ} →
-      count ≡ told_of r n →
-      StartPut r n v before after count
-  start-written before after clear room e t =
+      after ≡ put_point before (unwrap_or v.start nowhere) →
+      StartPut view before after v.restarts
+  start-written {v} before after q room e =
       record {
-        written = λ a b. e;
-        refused-untouched = λ z. absurd (z clear);
+        written = λ w f long. let inner : v ≡ w = cc in e ∙ ap (λ (x : StartView). put_point before (unwrap_or x.start nowhere)) inner;
+        refused-untouched = λ r f. absurd (never q f);
         short-untouched = λ short. absurd (enough_or_short (length before) room short);
-        told = t;
+        told = sym (ap view_told q);
       }
 
-  pub start_unwritten : (before : List ℤ) →
+  pub start_unwritten : {v : StartView} (before : List ℤ) →
+      view ≡ Ok v →
       length before < 3 →
-      {count : ℕ} →
-      count ≡ told_of r n →
-      StartPut r n v before before count
-  start_unwritten before short t =
+      StartPut view before before v.restarts
+  start_unwritten before q short =
       record {
-        written = λ a room. absurd (enough_or_short (length before) room short);
-        refused-untouched = λ z. refl;
+        written = λ w f room. absurd (enough_or_short (length before) room short);
+        refused-untouched = λ r f. refl;
         short-untouched = λ b. refl;
-        told = t;
+        told = sym (ap view_told q);
       }
 
-  pub refused_unwritten : (before : List ℤ) →
-      (r.number ≡ 0 → ⊥) →
+  pub refused_unwritten : {r : Refusal} (before : List ℤ) →
+      view ≡ Err r →
       {count : ℕ} →
-      count ≡ told_of r n →
-      StartPut r n v before before count
-  refused_unwritten before z t =
+      count ≡ told_of (Err r) →
+      StartPut view before before count
+  refused_unwritten before q t =
       record {
-        written = λ a room. absurd (z a);
-        refused-untouched = λ y. refl;
+        written = λ w f room. absurd (never f q);
+        refused-untouched = λ r f. refl;
         short-untouched = λ b. refl;
-        told = t;
+        told = t ∙ sym (ap view_told q);
       }

@@ -1,15 +1,16 @@
 -- What is handed back as one number: a count or a refusal, and what the checker of slips says.
-use Rattle.std.specs.Prelude.{cond, ℕ, ◌+◌, ◌*◌, eqb}
+use Rattle.std.specs.Prelude.{ℕ, ◌+◌, ◌*◌, Result, Ok, Err}
 use Rattle.answers.specs.declared.Refusal.{Refusal}
 use Rattle.slip.specs.declared.Verdict.{Verdict}
 use Rattle.slip.specs.declared.Verdict.TheVariants.{Refused, Yes, No}
 
 -- of an accepted book a count, which is below 65,536; of a refused one its number and record, so that it is 65,536 or more
-abbrev pub told_of : Refusal → ℕ → ℕ
-told_of r count = cond (eqb r.number 0) count (65536 * r.number + r.at)
+abbrev pub told_of : Result ℕ Refusal → ℕ
+told_of (Ok count) = count
+told_of (Err r) = 65536 * r.number + r.at
 
 -- 1 is yes, 0 is no, and a refusal is 65,536 times its number plus its record
 abbrev pub verdict_told : Verdict → ℕ
-verdict_told (Refused x) = told_of x 0
+verdict_told (Refused x) = told_of (Err x)
 verdict_told Yes = 1
 verdict_told No = 0

@@ -9,17 +9,16 @@ ghost use Rattle.handed.specs.Start.{put_point, PointRoom, StartPut};
 
 use answers::Refusal;
 use lp::Point;
+use planner::StartView;
 use slip::Verdict;
 
 // What is handed back: of an accepted book a count, and of a refused one its number and record as one number.
-pub fn told(refusal: Refusal, count: usize) -> usize
-    ensures { result ≡ told_of refusal count }
+pub fn told(answer: Result<usize, Refusal>) -> usize
+    ensures { result ≡ told_of answer }
 {
-    let cause = refusal.number;
-    if cause == 0 {
-        count
-    } else {
-        65536 * cause as usize + refusal.at as usize
+    match answer {
+        Ok(count) => count,
+        Err(refusal) => 65536 * refusal.number as usize + refusal.at as usize,
     }
 }
 
@@ -28,7 +27,7 @@ pub fn verdict_told(verdict: Verdict) -> usize
     ensures { result ≡ verdict_told verdict }
 {
     match verdict {
-        Verdict::Refused(refusal) => told(refusal, 0),
+        Verdict::Refused(refusal) => told(Err(refusal)),
         Verdict::Yes => 1,
         Verdict::No => 0,
     }
@@ -47,17 +46,19 @@ fn put_point(out: &mut [i64], v: Point)
     out[2] = d;
 }
 
-// The start pair of an accepted book at the start of a run of at least three numbers, and a count. A refused book leaves the run as it is,
-// and so does a shorter run; of a refused book 65,536 times its number plus its record is handed back.
-pub fn put_start(refusal: Refusal, count: usize, v: Point, out: &mut [i64]) -> usize
-    ensures { StartPut refusal count v out.old out.new result }
+// The start pair of an accepted book at the start of a run of at least three numbers, zeros where no pair is allowed, and a count. A
+// refused book leaves the run as it is, and so does a shorter run; of a refused book 65,536 times its number plus its record is handed
+// back.
+pub fn put_start(view: Result<StartView, Refusal>, out: &mut [i64]) -> usize
+    ensures { StartPut view out.old out.new result }
 {
-    let answer = told(refusal, count);
-    let number = refusal.number;
-    if number == 0 {
-        if out.len() >= 3 {
-            put_point(out, v);
+    match view {
+        Err(refusal) => told(Err(refusal)),
+        Ok(view) => {
+            if out.len() >= 3 {
+                put_point(out, view.start.unwrap_or(Point { x: 0, y: 0, d: 0 }));
+            }
+            view.restarts
         }
     }
-    answer
 }

@@ -13,13 +13,7 @@ use signed::{least, signed16};
 fn misfit(length: usize, shortest: usize, longest: usize, rest: usize) -> bool
     ensures { result ≡ (ltb length shortest || ltb longest length || not (eqb rest 0)) }
 {
-    if length < shortest {
-        return true;
-    }
-    if longest < length {
-        return true;
-    }
-    rest != 0
+    length < shortest || longest < length || rest != 0
 }
 
 // Cause 1. The divisors are constants, so that no division is left in the compiled code.
@@ -43,21 +37,14 @@ fn version_number(version: Version) -> u8
     }
 }
 
-// One less, or 0.
-fn less_one(n: usize) -> usize
-    ensures { result ≡ n - 1 }
-{
-    if n == 0 { 0 } else { n - 1 }
-}
-
 // How many records there are after the header.
 fn after_header(version: Version, book: &[u8]) -> usize
     ensures { result ≡ length book.now / width (layout_of version) - 1 }
 {
     let length = book.len();
     match version {
-        Version::One => less_one(length / 12),
-        Version::Two => less_one(length / 14),
+        Version::One => (length / 12).saturating_sub(1),
+        Version::Two => (length / 14).saturating_sub(1),
     }
 }
 
@@ -75,8 +62,8 @@ fn bad_tail(version: Version, tail: u32) -> bool
 pub fn floors_in(version: Version, tail: u32) -> Floors
     ensures { result ≡ floors_in (layout_of version) tail }
 {
-    let lx = signed16((tail % 65536) as u16) as i64;
-    let ly = signed16((tail / 65536) as u16) as i64;
+    let lx = i64::from(signed16((tail % 65536) as u16));
+    let ly = i64::from(signed16((tail / 65536) as u16));
     let floors = Floors { lx, ly };
     let zero = Floors { lx: 0, ly: 0 };
     match version {
@@ -85,7 +72,8 @@ pub fn floors_in(version: Version, tail: u32) -> Floors
     }
 }
 
-// The first of the causes 1 to 5 that applies to a book with these fields in its header, or 0.
+// The first of the causes 1 to 5 that applies to a book with these fields in its header, or 0. Each test is a line of its own, in the order
+// of the format's table.
 pub fn fault(version: Version, book: &[u8], f: Fields) -> u8
     requires { f ≡ fields_of (layout_of version) (record_at (layout_of version) book.now 0) }
     ensures { result ≡ header_fault (layout_of version) book.now }

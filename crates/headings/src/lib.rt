@@ -20,8 +20,8 @@ pub fn heading_of(version: Version, book: &[u8]) -> Heading
 {
     let f = fields_at(version, book, 0);
     let objective = Functional {
-        p: signed16(f.a) as i64,
-        q: signed16(f.b) as i64,
+        p: i64::from(signed16(f.a)),
+        q: i64::from(signed16(f.b)),
     };
     let floors = floors_in(version, f.c);
     Heading {

@@ -4,13 +4,9 @@
 
 ghost use Rattle.std.specs.Prelude.{◌≡◌, nat_abs};
 
-// |z|. The least i64 has no opposite, but one more than it has.
+// |z|, which every i64 has: the least one's is 2^63.
 pub fn magnitude(z: i64) -> u64
     ensures { result ≡ nat_abs z }
 {
-    if z < 0 {
-        (0 - (z + 1)) as u64 + 1
-    } else {
-        z as u64
-    }
+    z.unsigned_abs()
 }

@@ -1,5 +1,6 @@
 -- The demands of two books joined, of any bytes and whatever answer `Joins` allows: which book is turned back, and when; and the textbook's
 -- words for the plan of both, each carried over from crate `plans`, whose laws are over lists of rules with names.
+use Rattle.std.specs.Prelude.{Result, Ok, Err}
 use mathlib.Core.Path.{◌≡◌, refl, sym, ◌∙◌, ap, subst}
 use mathlib.Core.List.{List}
 use mathlib.Core.Logic.{◌↔◌}
@@ -31,8 +32,8 @@ use Rattle.plans.specs.Planning.{PlannedAs, Proves}
 use Rattle.plans.specs.Adding.{AddsUp}
 use Rattle.plans.proofs.Ordered.{InOrder, NoneTwice}
 use Rattle.plans.proofs.Demands as list
-use Rattle.joining.specs.declared.JointAnswer.{JointAnswer}
-use Rattle.joining.specs.declared.JointAnswer.TheVariants.{SiteRefused, TenantRefused, Planned}
+use Rattle.joining.specs.declared.JointRefusal.{JointRefusal}
+use Rattle.joining.specs.declared.JointRefusal.TheVariants.{Site, Tenant}
 use Rattle.joining.specs.Joining.{joined_names, joined_rules, joined_of, PlannedBy, JoinedBy, Joins, rule_named}
 use Rattle.joint_terms.specs.Terms.{joined_terms}
 use Rattle.joint_terms.proofs.Compared.{joined_small}
@@ -47,65 +48,68 @@ NoCause s = (k i : ℕ) → Applies v2 s k i → ⊥
 
 -- ---- what is turned back
 
-module _ (s u : List ℕ) (a : JointAnswer) (promise : Joins s u a) where
+module _ (s u : List ℕ) (a : Result Plan JointRefusal) (promise : Joins s u a) where
   by_readings : (x y : Reading) → read_of v2 s ≡ x → read_of v2 u ≡ y → JoinedBy (joined_of x y) a
   by_readings x y e q =
       subst (λ (w : Reading). JoinedBy (joined_of x w) a) q
       (subst (λ (w : Reading). JoinedBy (joined_of w (read_of v2 u)) a) e promise.answered)
 
   -- a refused site is answered with its number and record, whatever the tenant's book is
-  pub site-answered : (n r : ℕ) → read_of v2 s ≡ refused n r → a ≡ SiteRefused (refusal n r)
+  pub site-answered : (n r : ℕ) → read_of v2 s ≡ refused n r → a ≡ Err (Site (refusal n r))
   site-answered n r e = by_readings (refused n r) (read_of v2 u) e refl
 
   -- else a refused tenant
   pub tenant-answered : (t : Terms) (es : List Entry) (n r : ℕ) →
       read_of v2 s ≡ accepted t es →
       read_of v2 u ≡ refused n r →
-      a ≡ TenantRefused (refusal n r)
+      a ≡ Err (Tenant (refusal n r))
   tenant-answered t es n r e q = by_readings (accepted t es) (refused n r) e q
 
   -- else the plan of the single list
   pub joined-answered : (t t' : Terms) (es fs : List Entry) →
       read_of v2 s ≡ accepted t es →
       read_of v2 u ≡ accepted t' fs →
-      (p : Plan) × (a ≡ Planned p) × PlannedAs (joined_terms t t') (joined_names es fs) (joined_rules es fs) p
+      (p : Plan) × (a ≡ Ok p) × PlannedAs (joined_terms t t') (joined_names es fs) (joined_rules es fs) p
   joined-answered t t' es fs e q = go a refl (by_readings (accepted t es) (accepted t' fs) e q)
     where
-      go : (b : JointAnswer) →
+      go : (b : Result Plan JointRefusal) →
           a ≡ b →
           PlannedBy (joined_terms t t') (joined_names es fs) (joined_rules es fs) b →
-          (p : Plan) × (a ≡ Planned p) × PlannedAs (joined_terms t t') (joined_names es fs) (joined_rules es fs) p
-      go (SiteRefused x) w h = absurd h
-      go (TenantRefused x) w h = absurd h
-      go (Planned p) w h = (p, w, h)
+          (p : Plan) × (a ≡ Ok p) × PlannedAs (joined_terms t t') (joined_names es fs) (joined_rules es fs) p
+      go (Err x) w h = absurd h
+      go (Ok p) w h = (p, w, h)
 
-  -- two answers of different kinds are never equal
-  site-not-tenant : {x y : Refusal} → SiteRefused x ≡ TenantRefused y → ⊥
+  -- equal answers carry equal refusals, and two answers of different kinds are never equal
+  same_site : {x y : Refusal} → ◌≡◌ {A = Result Plan JointRefusal} (Err (Site x)) (Err (Site y)) → x ≡ y
+  same_site e = cc
+
+  same_tenant : {x y : Refusal} → ◌≡◌ {A = Result Plan JointRefusal} (Err (Tenant x)) (Err (Tenant y)) → x ≡ y
+  same_tenant e = cc
+
+  site-not-tenant : {x y : Refusal} → ◌≡◌ {A = Result Plan JointRefusal} (Err (Site x)) (Err (Tenant y)) → ⊥
   site-not-tenant clash = let z : ◌≡◌ {A = ℕ} 0 1 = cc in let b : ⊥ = omega arith in b
 
-  site-not-planned : {x : Refusal} {p : Plan} → SiteRefused x ≡ Planned p → ⊥
+  site-not-planned : {x : Refusal} {p : Plan} → ◌≡◌ {A = Result Plan JointRefusal} (Err (Site x)) (Ok p) → ⊥
   site-not-planned clash = let z : ◌≡◌ {A = ℕ} 0 1 = cc in let b : ⊥ = omega arith in b
 
-  tenant-not-planned : {x : Refusal} {p : Plan} → TenantRefused x ≡ Planned p → ⊥
+  tenant-not-planned : {x : Refusal} {p : Plan} → ◌≡◌ {A = Result Plan JointRefusal} (Err (Tenant x)) (Ok p) → ⊥
   tenant-not-planned clash = let z : ◌≡◌ {A = ℕ} 0 1 = cc in let b : ⊥ = omega arith in b
 
   -- the site is turned back exactly if a cause of the table applies to its book
-  pub site-refused-exactly : (k i : ℕ) → (a ≡ SiteRefused (refusal k i)) ↔ Applies v2 s k i
+  pub site-refused-exactly : (k i : ℕ) → (a ≡ Err (Site (refusal k i))) ↔ Applies v2 s k i
   site-refused-exactly k i = (
     (λ w. go (read_of v2 s) (read_of v2 u) refl refl w),
     (λ c. site-answered k i (applies_refused v2 s c)),
   )
     where
-      go : (x y : Reading) → read_of v2 s ≡ x → read_of v2 u ≡ y → a ≡ SiteRefused (refusal k i) → Applies v2 s k i
+      go : (x y : Reading) → read_of v2 s ≡ x → read_of v2 u ≡ y → a ≡ Err (Site (refusal k i)) → Applies v2 s k i
       go (refused n r) y e q w =
-          let same : SiteRefused (refusal n r) ≡ SiteRefused (refusal k i) = sym (site-answered n r e) ∙ w in
-          let inner : refusal n r ≡ refusal k i = cc in
-          subst (λ (x : Refusal). Applies v2 s x.number x.at) inner (refusal_applies v2 s e)
+          subst (λ (x : Refusal). Applies v2 s x.number x.at) (same_site (sym (site-answered n r e) ∙ w)) (refusal_applies v2 s e)
       go (accepted t es) (refused n r) e q w = absurd (site-not-tenant (sym w ∙ tenant-answered t es n r e q))
       go (accepted t es) (accepted t' fs) e q w = absurd (site-not-planned (sym w ∙ (joined-answered t t' es fs e q).1))
 
   -- the tenant exactly if none applies to the site's book, and one to the tenant's
-  pub tenant-refused-exactly : (k i : ℕ) → (a ≡ TenantRefused (refusal k i)) ↔ (NoCause s × Applies v2 u k i)
+  pub tenant-refused-exactly : (k i : ℕ) → (a ≡ Err (Tenant (refusal k i))) ↔ (NoCause s × Applies v2 u k i)
   tenant-refused-exactly k i = (
     (λ w. go (read_of v2 s) (read_of v2 u) refl refl w),
     (λ c. back (read_of v2 s) refl c.0 (applies_refused v2 u c.1)),
@@ -114,35 +118,34 @@ module _ (s u : List ℕ) (a : JointAnswer) (promise : Joins s u a) where
       go : (x y : Reading) →
           read_of v2 s ≡ x →
           read_of v2 u ≡ y →
-          a ≡ TenantRefused (refusal k i) →
+          a ≡ Err (Tenant (refusal k i)) →
           NoCause s × Applies v2 u k i
       go (refused n r) y e q w = absurd (site-not-tenant (sym (site-answered n r e) ∙ w))
       go (accepted t es) (refused n r) e q w =
-          let same : TenantRefused (refusal n r) ≡ TenantRefused (refusal k i) = sym (tenant-answered t es n r e q) ∙ w in
-          let inner : refusal n r ≡ refusal k i = cc in (
+          let inner = same_tenant (sym (tenant-answered t es n r e q) ∙ w) in (
             (λ m j c. accepted_no_cause v2 s e c),
             subst (λ (x : Refusal). Applies v2 u x.number x.at) inner (refusal_applies v2 u q),
           )
       go (accepted t es) (accepted t' fs) e q w = absurd (tenant-not-planned (sym w ∙ (joined-answered t t' es fs e q).1))
 
-      back : (x : Reading) → read_of v2 s ≡ x → NoCause s → read_of v2 u ≡ refused k i → a ≡ TenantRefused (refusal k i)
+      back : (x : Reading) → read_of v2 s ≡ x → NoCause s → read_of v2 u ≡ refused k i → a ≡ Err (Tenant (refusal k i))
       back (refused n r) e none q = absurd (none n r (refusal_applies v2 s e))
       back (accepted t es) e none q = tenant-answered t es k i e q
 
   -- both are planned exactly if none applies to either
-  pub planned-exactly : ((p : Plan) × (a ≡ Planned p)) ↔ (NoCause s × NoCause u)
+  pub planned-exactly : ((p : Plan) × (a ≡ Ok p)) ↔ (NoCause s × NoCause u)
   planned-exactly = (
     (λ x. go (read_of v2 s) (read_of v2 u) refl refl x.1),
     (λ none. back (read_of v2 s) (read_of v2 u) refl refl none),
   )
     where
-      go : {p : Plan} (x y : Reading) → read_of v2 s ≡ x → read_of v2 u ≡ y → a ≡ Planned p → NoCause s × NoCause u
+      go : {p : Plan} (x y : Reading) → read_of v2 s ≡ x → read_of v2 u ≡ y → a ≡ Ok p → NoCause s × NoCause u
       go (refused n r) y e q w = absurd (site-not-planned (sym (site-answered n r e) ∙ w))
       go (accepted t es) (refused n r) e q w = absurd (tenant-not-planned (sym (tenant-answered t es n r e q) ∙ w))
       go (accepted t es) (accepted t' fs) e q w =
           ((λ m j c. accepted_no_cause v2 s e c), (λ m j c. accepted_no_cause v2 u q c))
 
-      back : (x y : Reading) → read_of v2 s ≡ x → read_of v2 u ≡ y → NoCause s × NoCause u → (p : Plan) × (a ≡ Planned p)
+      back : (x y : Reading) → read_of v2 s ≡ x → read_of v2 u ≡ y → NoCause s × NoCause u → (p : Plan) × (a ≡ Ok p)
       back (refused n r) y e q none = absurd (none.0 n r (refusal_applies v2 s e))
       back (accepted t es) (refused n r) e q none = absurd (none.1 n r (refusal_applies v2 u q))
       back (accepted t es) (accepted t' fs) e q none = let x = joined-answered t t' es fs e q in (x.0, x.1)
@@ -150,10 +153,10 @@ module _ (s u : List ℕ) (a : JointAnswer) (promise : Joins s u a) where
 -- ---- two accepted books s and u, their answer a and the plan p in it
 
 module _
-    (s u : List ℕ) (a : JointAnswer) (promise : Joins s u a)
+    (s u : List ℕ) (a : Result Plan JointRefusal) (promise : Joins s u a)
     (t t' : Terms) (es fs : List Entry)
     (e : read_of v2 s ≡ accepted t es) (e' : read_of v2 u ≡ accepted t' fs)
-    (p : Plan) (q : a ≡ Planned p) where
+    (p : Plan) (q : a ≡ Ok p) where
   -- what both are planned under
   abbrev pub terms : Terms
   terms = joined_terms t t'
@@ -292,14 +295,14 @@ module _
 
 -- two pairs of books, their answers and the plans in them
 module _
-    (s u : List ℕ) (a : JointAnswer) (promise : Joins s u a)
+    (s u : List ℕ) (a : Result Plan JointRefusal) (promise : Joins s u a)
     (t t' : Terms) (es fs : List Entry)
     (e : read_of v2 s ≡ accepted t es) (e' : read_of v2 u ≡ accepted t' fs)
-    (p : Plan) (q : a ≡ Planned p)
-    (s₂ u₂ : List ℕ) (a₂ : JointAnswer) (promise₂ : Joins s₂ u₂ a₂)
+    (p : Plan) (q : a ≡ Ok p)
+    (s₂ u₂ : List ℕ) (a₂ : Result Plan JointRefusal) (promise₂ : Joins s₂ u₂ a₂)
     (t₂ t₂' : Terms) (es₂ fs₂ : List Entry)
     (e₂ : read_of v2 s₂ ≡ accepted t₂ es₂) (e₂' : read_of v2 u₂ ≡ accepted t₂' fs₂)
-    (p₂ : Plan) (q₂ : a₂ ≡ Planned p₂)
+    (p₂ : Plan) (q₂ : a₂ ≡ Ok p₂)
     (same : joined_terms t t' ≡ joined_terms t₂ t₂') where
   -- alike together, in whatever order and in whichever book each rule stands, they get the same outcome, pair and direction
   pub order-free : AlikeInRules (joined_rules es fs) (joined_rules es₂ fs₂) → p.outcome ≡ p₂.outcome

@@ -1,5 +1,6 @@
 -- From what reading both books left in the runs to the answer: a refused site, a refused tenant, or the plan of the single list, which is
 -- always made, since the numbers of accepted books are all in range and the runs have room.
+use Rattle.std.specs.Prelude.{None, Some, Ok, Err}
 use mathlib.Core.Path.{◌≡◌, refl, sym, ◌∙◌, ap, subst}
 use mathlib.Core.List.{List, [], ◌∷◌, ◌++◌, map}
 use Prim.Native.Nat.{ℕ, zero, suc, ◌+◌, ◌-◌, ◌≤◌, ◌<◌}
@@ -19,15 +20,13 @@ use Rattle.book.specs.Promises.{head_of}
 use Rattle.book.proofs.Bounds.{chain-count, count_room, index-within, rules-small, terms-small}
 use Rattle.book.proofs.Causes.{refusal-number}
 use Rattle.answers.specs.declared.Plan.{Plan}
-use Rattle.answers.specs.Refusal.{refusal}
 use Rattle.engine.specs.declared.Solution.{Solution}
-use Rattle.engine.specs.declared.Solved.TheVariants.{Outside, Walked}
 use Rattle.engine.specs.Solving.{solution_of, solved_of}
 use Rattle.engine.proofs.Tests.{solved}
 use Rattle.model.specs.Step.{walk}
 use Rattle.plans.specs.Planning.{PlannedAs, plan_of}
 use Rattle.plans.proofs.Finish.{finished}
-use Rattle.joining.specs.declared.JointAnswer.TheVariants.{SiteRefused, TenantRefused, Planned}
+use Rattle.joining.specs.declared.JointRefusal.TheVariants.{Site, Tenant}
 use Rattle.joining.specs.declared.read.Heads.{Heads}
 use Rattle.joining.specs.Joining.{tenant_name, joined_names, joined_rules, joined_of, JoinedBy, Joins}
 use Rattle.joint_terms.specs.Terms.{joined_terms}
@@ -67,21 +66,21 @@ module _ (s u : List ℕ) (r : Heads) (names : List ℕ) (l : List ℤ) (read : 
 
   -- ---- a refused book
 
-  pub site-turned : (r.site.refusal.number ≡ 0 → ⊥) → Joins s u (SiteRefused r.site.refusal)
+  pub site-turned : (r.site.refusal.number ≡ 0 → ⊥) → Joins s u (Err (Site r.site.refusal))
   site-turned some = record { answered = go (read_of v2 s) refl }
     where
-      go : (x : Reading) → read_of v2 s ≡ x → JoinedBy (joined_of x (read_of v2 u)) (SiteRefused r.site.refusal)
-      go (refused n i) e = ap (λ (h : Head). SiteRefused h.refusal) (site_of (refused n i) e)
+      go : (x : Reading) → read_of v2 s ≡ x → JoinedBy (joined_of x (read_of v2 u)) (Err (Site r.site.refusal))
+      go (refused n i) e = ap (λ (h : Head). Err (Site h.refusal)) (site_of (refused n i) e)
       go (accepted t es) e = absurd (some (ap (λ (h : Head). h.refusal.number) (site_of (accepted t es) e)))
 
   pub tenant-turned : r.site.refusal.number ≡ 0 →
       (r.tenant.refusal.number ≡ 0 → ⊥) →
-      Joins s u (TenantRefused r.tenant.refusal)
+      Joins s u (Err (Tenant r.tenant.refusal))
   tenant-turned clear some = record { answered = go (read_of v2 s) (read_of v2 u) refl refl }
     where
-      go : (x y : Reading) → read_of v2 s ≡ x → read_of v2 u ≡ y → JoinedBy (joined_of x y) (TenantRefused r.tenant.refusal)
+      go : (x y : Reading) → read_of v2 s ≡ x → read_of v2 u ≡ y → JoinedBy (joined_of x y) (Err (Tenant r.tenant.refusal))
       go (refused n i) y e q = absurd (site-clear clear e)
-      go (accepted t es) (refused n i) e q = ap (λ (h : Head). TenantRefused h.refusal) (tenant_of (refused n i) q)
+      go (accepted t es) (refused n i) e q = ap (λ (h : Head). Err (Tenant h.refusal)) (tenant_of (refused n i) q)
       go (accepted t es) (accepted t' fs) e q =
           absurd (some (ap (λ (h : Head). h.refusal.number) (tenant_of (accepted t' fs) q)))
 
@@ -125,7 +124,7 @@ module _ (s u : List ℕ) (r : Heads) (names : List ℕ) (l : List ℤ) (read : 
 
     -- the engine walks along the single list
     planned : solved_of (joined_terms r.site.terms r.tenant.terms) l (r.site.n + r.tenant.n)
-        ≡ Walked
+        ≡ Some
         (solution_of (joined_terms t t').objective
         (walk tie (joined_terms t t').floors (joined_terms t t').objective (joined_rules es fs)))
     planned =
@@ -133,7 +132,7 @@ module _ (s u : List ℕ) (r : Heads) (names : List ℕ) (l : List ℤ) (read : 
         (site-count i + tenant-count i))
         ∙ solved (joined_terms t t') l (length es + length fs) (joined_small t t' (terms-small v2 s e) (terms-small v2 u q))
         laid.room (subst SmallSystem (sym laid.rules) together)
-        ∙ ap (λ (S : List Constraint). Walked
+        ∙ ap (λ (S : List Constraint). Some
         (solution_of (joined_terms t t').objective (walk tie (joined_terms t t').floors (joined_terms t t').objective S))) laid.rules
 
     module _ (names' : List ℕ) (renamed : Renamed names r.site.n r.tenant.n names') where
@@ -161,7 +160,7 @@ module _ (s u : List ℕ) (r : Heads) (names : List ℕ) (l : List ℤ) (read : 
           go (no late) = behind (i - length es) (omega arith) (omega (arith, total))
 
       answer : {x : Solution} →
-          Walked x ≡ solved_of (joined_terms r.site.terms r.tenant.terms) l (r.site.n + r.tenant.n) →
+          Some x ≡ solved_of (joined_terms r.site.terms r.tenant.terms) l (r.site.n + r.tenant.n) →
           {p : Plan} →
           p ≡ plan_of names' x →
           PlannedAs (joined_terms t t') (joined_names es fs) (joined_rules es fs) p
@@ -195,7 +194,7 @@ module _ (s u : List ℕ) (r : Heads) (names : List ℕ) (l : List ℤ) (read : 
     renames = either renaming
 
     pub never-outside :
-        Outside ≡ solved_of (joined_terms r.site.terms r.tenant.terms) l (r.site.n + r.tenant.n) →
+        None ≡ solved_of (joined_terms r.site.terms r.tenant.terms) l (r.site.n + r.tenant.n) →
         ⊥
     never-outside w =
         either (λ t t' es fs e q. let clash = w ∙ planned t t' es fs e q in let z : ◌≡◌ {A = ℕ} 0 1 = cc in let b : ⊥ = omega arith in b)
@@ -203,15 +202,15 @@ module _ (s u : List ℕ) (r : Heads) (names : List ℕ) (l : List ℤ) (read : 
     pub joined-planned : (names' : List ℕ) →
         Renamed names r.site.n r.tenant.n names' →
         {x : Solution} →
-        Walked x ≡ solved_of (joined_terms r.site.terms r.tenant.terms) l (r.site.n + r.tenant.n) →
+        Some x ≡ solved_of (joined_terms r.site.terms r.tenant.terms) l (r.site.n + r.tenant.n) →
         {p : Plan} →
         p ≡ plan_of names' x →
-        Joins s u (Planned p)
+        Joins s u (Ok p)
     joined-planned names' renamed {x} w {p} f =
         either
         (λ t t' es fs e q. record {
           answered =
-              subst (λ (y : Reading). JoinedBy (joined_of y (read_of v2 u)) (Planned p)) (sym e)
-              (subst (λ (y : Reading). JoinedBy (joined_of (accepted t es) y) (Planned p)) (sym q)
+              subst (λ (y : Reading). JoinedBy (joined_of y (read_of v2 u)) (Ok p)) (sym e)
+              (subst (λ (y : Reading). JoinedBy (joined_of (accepted t es) y) (Ok p)) (sym q)
               (answer t t' es fs e q names' renamed w f));
         })

@@ -1,12 +1,12 @@
 -- A site without rules whose floors are the least there are changes nothing but names: the tenant's book is planned as it would be alone,
 -- and the witness is the same certificate with the tenant's names.
+use Rattle.std.specs.Prelude.{Result, Ok}
 use mathlib.Core.Path.{◌≡◌, refl, sym, ◌∙◌, ap, subst}
 use mathlib.Core.Bool.{Bool, cond}
 use mathlib.Core.List.{List, [], map}
-use Prim.Native.Nat.{ℕ, suc}
+use Prim.Native.Nat.{ℕ}
 use native.Mathlib.Omega.{arith}
 use borrow.Author.Tests.{le-leb}
-use lib.Dec.{leb}
 use lib.IntN.{ℤ, pos, negsuc}
 use Rattle.ints.specs.Within.{Within}
 use Rattle.lp.specs.declared.Certificate.{Certificate}
@@ -21,8 +21,7 @@ use Rattle.book.proofs.Bounds.{terms-small}
 use Rattle.answers.specs.declared.Plan.{Plan}
 use Rattle.witness.specs.Witness.{nobody, coded, rising}
 use Rattle.plans.specs.Planning.{Witnessed, PlannedAs}
-use Rattle.joining.specs.declared.JointAnswer.{JointAnswer}
-use Rattle.joining.specs.declared.JointAnswer.TheVariants.{Planned}
+use Rattle.joining.specs.declared.JointRefusal.{JointRefusal}
 use Rattle.joining.specs.Joining.{tenant_name, Joins}
 use Rattle.joint_terms.specs.Terms.{greater, joined_terms}
 use Rattle.joining.proofs.Demands.{planned}
@@ -113,14 +112,14 @@ module _ (t : Terms) (fs : List Entry) (p : Plan) (h : PlannedAs t (map tenant_n
           (subst (Witnessed t (records_of fs) (rules_of fs) p.place (rising (coded (records_of fs) nobody))) (sym e) refl)
 
 -- joined with such a site, the tenant's book gets its own plan, but for the names in its witness
-pub neutral_site : (s u : List ℕ) (a : JointAnswer) →
+pub neutral_site : (s u : List ℕ) (a : Result Plan JointRefusal) →
     Joins s u a →
     (t t' : Terms) (fs : List Entry) →
     read_of v2 s ≡ accepted t [] →
     t.floors ≡ least_floors →
     read_of v2 u ≡ accepted t' fs →
     (p : Plan) →
-    a ≡ Planned p →
+    a ≡ Ok p →
     NamesAlone t' fs p
 neutral_site s u a promise t t' fs e low e' p q =
     names-alone t' fs p

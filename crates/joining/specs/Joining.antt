@@ -2,7 +2,7 @@
 -- rules, the site's and then the tenant's, under the tenant's objective and of each floor the greater; what is answered is document 01's
 -- answer to that list, whatever its length. The rule in the site's record r has the name r, and that in the tenant's record r the name 4,096
 -- + r, so that each name says its book.
-use Rattle.std.specs.Prelude.{◌≡◌, cond, List, ◌++◌, map, ℕ, zero, suc, ◌+◌, ◌-◌, ltb}
+use Rattle.std.specs.Prelude.{◌≡◌, cond, List, ◌++◌, map, Result, Ok, Err, ℕ, zero, suc, ◌+◌, ◌-◌, ltb}
 use Rattle.lp.specs.declared.Constraint.{Constraint}
 use Rattle.lp.specs.declared.Floors.{Floors}
 use Rattle.lp.specs.declared.Terms.{Terms}
@@ -11,11 +11,12 @@ use Rattle.records.specs.Layout.{v2}
 use Rattle.records.specs.Record.{record_at, rule_of}
 use Rattle.records.specs.Planned.{planned_rule}
 use Rattle.book.specs.Reading.{Reading, refused, accepted, Entry, read_of, rules_of, records_of}
+use Rattle.answers.specs.declared.Plan.{Plan}
 use Rattle.answers.specs.Refusal.{refusal}
 use Rattle.plans.specs.Planning.{PlannedAs}
 use Rattle.joint_terms.specs.Terms.{joined_terms}
-use Rattle.joining.specs.declared.JointAnswer.{JointAnswer}
-use Rattle.joining.specs.declared.JointAnswer.TheVariants.{SiteRefused, TenantRefused, Planned}
+use Rattle.joining.specs.declared.JointRefusal.{JointRefusal}
+use Rattle.joining.specs.declared.JointRefusal.TheVariants.{Site, Tenant}
 
 -- ---- the single list
 
@@ -42,18 +43,17 @@ joined_of (accepted t es) (accepted u fs) = single (joined_terms t u) (joined_na
 
 -- ---- the answer to it
 
-abbrev pub PlannedBy : Terms → List ℕ → List Constraint → JointAnswer → Type 0
-PlannedBy t names rules (SiteRefused x) = ⊥
-PlannedBy t names rules (TenantRefused x) = ⊥
-PlannedBy t names rules (Planned p) = PlannedAs t names rules p
+abbrev pub PlannedBy : Terms → List ℕ → List Constraint → Result Plan JointRefusal → Type 0
+PlannedBy t names rules (Err x) = ⊥
+PlannedBy t names rules (Ok p) = PlannedAs t names rules p
 
-abbrev pub JoinedBy : Joined → JointAnswer → Type 0
-JoinedBy (site-refused n r) a = a ≡ SiteRefused (refusal n r)
-JoinedBy (tenant-refused n r) a = a ≡ TenantRefused (refusal n r)
+abbrev pub JoinedBy : Joined → Result Plan JointRefusal → Type 0
+JoinedBy (site-refused n r) a = a ≡ Err (Site (refusal n r))
+JoinedBy (tenant-refused n r) a = a ≡ Err (Tenant (refusal n r))
 JoinedBy (single t names rules) a = PlannedBy t names rules a
 
 -- the promise of `join`
-pub record Joins (s u : List ℕ) (a : JointAnswer) : Type 0 where
+pub record Joins (s u : List ℕ) (a : Result Plan JointRefusal) : Type 0 where
   pub answered : JoinedBy (joined_of (read_of v2 s) (read_of v2 u)) a
 
 -- ---- what a code of a witness stands for

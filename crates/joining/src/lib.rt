@@ -7,48 +7,33 @@
 mod read;
 mod run;
 
-ghost use Rattle.std.specs.Prelude.{◌≡◌};
+ghost use Rattle.std.specs.Prelude.{◌≡◌, ◌+◌, ◌*◌, ◌≤◌};
 ghost use Rattle.joining.specs.Joining.{Joins};
 ghost use Rattle.joining.specs.Running.{BothFew, both_within};
 
 use answers::{Plan, Refusal};
 use run::join_in;
 
-// The site's refusal; else the tenant's; else the plan of both books' rules. In its witness 0 is floor x, 1 is floor y, r + 1 is the rule
-// in the site's record r, and 4,097 + r the rule in the tenant's record r.
+// The site's refusal; else the tenant's.
 #[derive(Clone, Copy)]
-pub enum JointAnswer {
-    SiteRefused(Refusal),
-    TenantRefused(Refusal),
-    Planned(Plan),
+pub enum JointRefusal {
+    Site(Refusal),
+    Tenant(Refusal),
 }
 
-// Of books with 30 rules at most each.
-fn join_short(site: &[u8], tenant: &[u8]) -> JointAnswer
-    requires { BothFew site.now tenant.now 30 }
+// Of books with at most RULES rules each. Each size is an instance of its own.
+fn join_sized<const RULES: usize, const NAMES: usize, const NUMBERS: usize>(
+    site: &[u8],
+    tenant: &[u8],
+) -> Result<Plan, JointRefusal>
+    requires few { BothFew site.now tenant.now RULES }
+    requires most { RULES ≤ 4095 }
+    requires names { NAMES ≡ 2 * RULES }
+    requires numbers { NUMBERS ≡ 6 * RULES + 6 }
     ensures { Joins site.now tenant.now result }
 {
-    let mut names = [0u16; 60];
-    let mut entries = [0i64; 186];
-    join_in(site, tenant, &mut names, &mut entries)
-}
-
-// Of ones with 255.
-fn join_middle(site: &[u8], tenant: &[u8]) -> JointAnswer
-    requires { BothFew site.now tenant.now 255 }
-    ensures { Joins site.now tenant.now result }
-{
-    let mut names = [0u16; 510];
-    let mut entries = [0i64; 1536];
-    join_in(site, tenant, &mut names, &mut entries)
-}
-
-// Of ones with as many as a book can have.
-fn join_long(site: &[u8], tenant: &[u8]) -> JointAnswer
-    ensures { Joins site.now tenant.now result }
-{
-    let mut names = [0u16; 8190];
-    let mut entries = [0i64; 24576];
+    let mut names = [0u16; NAMES];
+    let mut entries = [0i64; NUMBERS];
     join_in(site, tenant, &mut names, &mut entries)
 }
 
@@ -60,32 +45,33 @@ fn within(site: &[u8], tenant: &[u8], bytes: usize) -> bool
 }
 
 // Of ones with 255 at most.
-fn join_few(site: &[u8], tenant: &[u8]) -> JointAnswer
+fn join_few(site: &[u8], tenant: &[u8]) -> Result<Plan, JointRefusal>
     requires { BothFew site.now tenant.now 255 }
     ensures { Joins site.now tenant.now result }
 {
     if within(site, tenant, 434) {
-        join_short(site, tenant)
+        join_sized::<30, 60, 186>(site, tenant)
     } else {
-        join_middle(site, tenant)
+        join_sized::<255, 510, 1536>(site, tenant)
     }
 }
 
 // Of any books. It has the long runs in its frame, and laying that out takes a third of what two short books take: so who knows that both
 // are short goes to `join_few`.
-fn join_any(site: &[u8], tenant: &[u8]) -> JointAnswer
+fn join_any(site: &[u8], tenant: &[u8]) -> Result<Plan, JointRefusal>
     ensures { Joins site.now tenant.now result }
 {
     if within(site, tenant, 3584) {
         join_few(site, tenant)
     } else {
-        join_long(site, tenant)
+        join_sized::<4095, 8190, 24576>(site, tenant)
     }
 }
 
-// The plan of two books, or the refusal of one of them. Every field is fixed by the bytes but the witness, which is any valid one. A long
+// The plan of two books, or the refusal of one of them. Every field is fixed by the bytes but the witness, which is any valid one: in it
+// 0 is floor x, 1 is floor y, r + 1 is the rule in the site's record r, and 4,097 + r the rule in the tenant's record r. A long
 // site and a long tenant each have a call of `join_any`, since a function that is called in one place is compiled into it, with its frame.
-pub fn join(site: &[u8], tenant: &[u8]) -> JointAnswer
+pub fn join(site: &[u8], tenant: &[u8]) -> Result<Plan, JointRefusal>
     ensures { Joins site.now tenant.now result }
 {
     if site.len() > 3584 {

@@ -39,10 +39,7 @@ pub fn rename(names: &mut [u16], n: usize, m: usize)
     requires { Renaming names.old n m }
     ensures { Renamed names.old n m names.new }
 {
-    let end = n + m;
-    let mut i = n;
-    while i < end {
-        names[i] = names[i] + 4096;
-        i += 1;
+    for i in n..n + m {
+        names[i] += 4096;
     }
 }

@@ -2,13 +2,18 @@
 ghost use Rattle.joining.specs.Joining.{Joins};
 ghost use Rattle.joining.specs.Running.{Roomy};
 
-use crate::JointAnswer;
+use crate::JointRefusal;
 use crate::read::{read_both, rename};
-use engine::Solved;
+use answers::Plan;
 use joint_terms::joined_terms;
 
 // The site's refusal comes before any of the tenant's. Accepted books' numbers are all in range, so that the engine plans their rules.
-pub fn join_in(site: &[u8], tenant: &[u8], names: &mut [u16], entries: &mut [i64]) -> JointAnswer
+pub fn join_in(
+    site: &[u8],
+    tenant: &[u8],
+    names: &mut [u16],
+    entries: &mut [i64],
+) -> Result<Plan, JointRefusal>
     requires { Roomy site.now tenant.now names.old entries.old }
     ensures { Joins site.now tenant.now result }
 {
@@ -16,12 +21,12 @@ pub fn join_in(site: &[u8], tenant: &[u8], names: &mut [u16], entries: &mut [i64
     let first = heads.site;
     let refusal = first.refusal;
     if refusal.number != 0 {
-        return JointAnswer::SiteRefused(refusal);
+        return Err(JointRefusal::Site(refusal));
     }
     let second = heads.tenant;
     let refusal = second.refusal;
     if refusal.number != 0 {
-        return JointAnswer::TenantRefused(refusal);
+        return Err(JointRefusal::Tenant(refusal));
     }
     rename(&mut *names, first.n, second.n);
     match engine::solve(
@@ -29,7 +34,7 @@ pub fn join_in(site: &[u8], tenant: &[u8], names: &mut [u16], entries: &mut [i64
         &mut *entries,
         first.n + second.n,
     ) {
-        Solved::Outside => JointAnswer::TenantRefused(refusal),
-        Solved::Walked(solution) => JointAnswer::Planned(plans::plan_of(solution, &*names)),
+        None => Err(JointRefusal::Tenant(refusal)),
+        Some(solution) => Ok(plans::plan_of(solution, &*names)),
     }
 }

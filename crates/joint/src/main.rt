@@ -4,7 +4,7 @@
 
 #![tactic(auto)]
 
-use files::{Taken, load};
+use files::load;
 use std::io;
 
 // The line of two books.
@@ -17,10 +17,10 @@ fn show(rt: &HostRuntime, site: &[u8], tenant: &[u8]) -> io::Result<()> {
 fn main(rt: HostRuntime) -> io::Result<()> {
     let mut site = [0u8; 57345];
     let mut tenant = [0u8; 57345];
-    let Taken::Bytes(n) = load(&rt, 1, b"joint SITE TENANT", &mut site) else {
+    let Some(n) = load(&rt, 1, b"joint SITE TENANT", &mut site) else {
         return Ok(());
     };
-    let Taken::Bytes(m) = load(&rt, 2, b"joint SITE TENANT", &mut tenant) else {
+    let Some(m) = load(&rt, 2, b"joint SITE TENANT", &mut tenant) else {
         return Ok(());
     };
     show(&rt, &site[..n], &tenant[..m])

@@ -10,8 +10,8 @@ ghost use Rattle.joint_line.specs.JointLine.{refused_line, JointWritten};
 ghost use Rattle.joint_line.specs.OfBooks.{JointLine};
 
 use answer_line::write_line_of;
-use answers::{Answer, Refusal};
-use joining::JointAnswer;
+use answers::{Plan, Refusal};
+use joining::JointRefusal;
 use line::append_turned;
 use report::Naming;
 use text::append_word;
@@ -30,13 +30,13 @@ fn refused_line(tenant: bool, refusal: Refusal, out: &mut [u8]) -> usize
 
 // The line of an answer, at the start of a buffer of at least 256 bytes, and its length. A smaller buffer is left as it is, and 0 handed
 // back.
-pub fn write_joint_line(answer: JointAnswer, out: &mut [u8]) -> usize
+pub fn write_joint_line(answer: Result<Plan, JointRefusal>, out: &mut [u8]) -> usize
     ensures { JointWritten answer out.old out.new result }
 {
     match answer {
-        JointAnswer::SiteRefused(refusal) => refused_line(false, refusal, out),
-        JointAnswer::TenantRefused(refusal) => refused_line(true, refusal, out),
-        JointAnswer::Planned(plan) => write_line_of(Naming::TwoBooks, Answer::Planned(plan), out),
+        Err(JointRefusal::Site(refusal)) => refused_line(false, refusal, out),
+        Err(JointRefusal::Tenant(refusal)) => refused_line(true, refusal, out),
+        Ok(plan) => write_line_of(Naming::TwoBooks, Ok(plan), out),
     }
 }
 

@@ -4,16 +4,9 @@
 #![tactic(auto)]
 
 ghost use Rattle.std.specs.Prelude.{◌≡◌};
-ghost use Rattle.joint_terms.specs.Terms.{greater as greater_of, joined_terms};
+ghost use Rattle.joint_terms.specs.Terms.{joined_terms};
 
 use lp::{Floors, Terms};
-
-// The greater of two numbers.
-fn greater(a: i64, b: i64) -> i64
-    ensures { result ≡ greater_of a b }
-{
-    if a <= b { b } else { a }
-}
 
 // The terms of both.
 pub fn joined_terms(site: Terms, tenant: Terms) -> Terms
@@ -22,8 +15,8 @@ pub fn joined_terms(site: Terms, tenant: Terms) -> Terms
     let first = site.floors;
     let second = tenant.floors;
     let objective = tenant.objective;
-    let lx = greater(first.lx, second.lx);
-    let ly = greater(first.ly, second.ly);
+    let lx = first.lx.max(second.lx);
+    let ly = first.ly.max(second.ly);
     let floors = Floors { lx, ly };
     Terms { objective, floors }
 }

@@ -4,9 +4,9 @@ ghost use Rattle.std.specs.Prelude.{◌≡◌};
 ghost use Rattle.records.specs.Layout.{layout_of};
 ghost use Rattle.book.specs.Judging.{is_passed, again};
 
-use book::Judged;
-use records::Version;
+use answers::Refusal;
 use records::fields::fields_at;
+use records::{Sound, Version};
 
 // Whether the first n links from the header on lead to a record.
 fn passed(version: Version, book: &[u8], n: usize, index: u16) -> bool
@@ -14,22 +14,23 @@ fn passed(version: Version, book: &[u8], n: usize, index: u16) -> bool
 {
     let mut found = false;
     let mut at: u16 = 0;
-    let mut k: usize = 0;
-    while k < n {
+    for _ in 0..n {
         at = fields_at(version, book, at).link;
-        found = found | (index == at);
-        k += 1;
+        found |= index == at;
     }
     found
 }
 
 // The refusal of a link of record `at` to a record whose label was met, where n records were passed.
-pub fn again(version: Version, book: &[u8], n: usize, at: u16, link: u16) -> Judged
+pub fn again(version: Version, book: &[u8], n: usize, at: u16, link: u16) -> Result<Sound, Refusal>
     ensures { result ≡ again (layout_of version) book.now n at link }
 {
     if passed(version, book, n, link) {
-        Judged::Refused(7, at)
+        Err(Refusal { number: 7, at })
     } else {
-        Judged::Refused(12, link)
+        Err(Refusal {
+            number: 12,
+            at: link,
+        })
     }
 }

@@ -9,9 +9,9 @@ ghost use Rattle.records.specs.Layout.{layout_of};
 ghost use Rattle.book.specs.Judging.{Judges};
 
 use again::again;
-use book::Judged;
+use answers::Refusal;
 use reader::visit;
-use records::{Decoded, Version};
+use records::{Sound, Version};
 use rules::number_of;
 use tables::{note, noted};
 
@@ -26,21 +26,22 @@ pub fn judge(
     n: usize,
     at: u16,
     link: u16,
-) -> Judged
+) -> Result<Sound, Refusal>
     ensures { Judges (layout_of version) book.now labels.old count n at link
         result labels.new }
 {
     if link > count {
-        return Judged::Refused(6, at);
+        return Err(Refusal { number: 6, at });
     }
     let decoded = visit(version, book, link);
-    let Decoded::Sound(rule, next) = decoded else {
-        return Judged::Refused(number_of(decoded), link);
+    let Ok(sound) = decoded else {
+        let number = number_of(decoded);
+        return Err(Refusal { number, at: link });
     };
-    let label = rule.label;
+    let label = sound.rule.label;
     if noted(&*labels, label) {
         return again(version, book, n, at, link);
     }
     note(labels, label);
-    Judged::Sound(rule, next)
+    Ok(sound)
 }

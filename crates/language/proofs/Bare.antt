@@ -6,9 +6,8 @@ use Prim.Native.Nat.{ℕ, zero, suc}
 use lib.Dec.{eqb}
 use borrow.Author.Tests.{ne_eqb}
 use native.Mathlib.Omega.{arith}
-use Rattle.forms.specs.declared.Value.{Value}
 use Rattle.language.specs.Grammar.{Factor, Term, Side, Relation, Rule, number, rate_x, rate_y, minus, group, factor, times, term, plus, less, at_most, at_least, pad, spell_factor, spell_term, spell_side, spell_relation, spell, Digits, none, more, LawfulFactor, LawfulTerm, LawfulSide, LawfulRule}
-use Rattle.forms.specs.Value.{negated, sum, difference, product, conclude}
+use Rattle.forms.specs.Value.{Value, negated, sum, difference, product, conclude}
 use Rattle.language.specs.Value.{value_factor, value_term, value_side, kind_of, value_rule}
 use Rattle.language.specs.Parser.{answer}
 use Rattle.language.proofs.Complete.{unique-sides}

@@ -7,9 +7,8 @@ use mathlib.Core.List.{List, ◌∷◌}
 use Prim.Native.Nat.{ℕ, suc, ◌≤◌, ◌<◌}
 use native.Mathlib.Omega.{arith}
 use lib.Dec.{eqb}
-use Rattle.forms.specs.declared.Value.{Value}
 use Rattle.language.specs.Grammar.{Factor, Term, Side, factor, times, term, plus, less, pad, spell_factor, spell_term, spell_side, LawfulFactor, LawfulTerm, LawfulSide}
-use Rattle.forms.specs.Value.{sum, difference, product}
+use Rattle.forms.specs.Value.{Value, sum, difference, product}
 use Rattle.language.specs.Value.{value_factor, value_term, value_side}
 use Rattle.language.specs.Parser.{Parsed, bind, lead, next, beyond, factor_by, term_by, more_factors, side_by, more_terms}
 use Rattle.language.proofs.Steps.{term-step, side-step, factors_star, terms-plus, terms-less}

@@ -10,6 +10,7 @@ use lib.Dec.{leb}
 use lib.ListN.{length}
 use borrow.Author.Tests.{leb-true, leb-false, le-leb}
 use Rattle.language.specs.Grammar.{Rule, spell, LawfulRule}
+use Rattle.forms.specs.declared.Flaw.TheVariants.{Text}
 use Rattle.forms.specs.Value.{no_rule}
 use Rattle.language.specs.Value.{value_rule}
 use Rattle.language.specs.Parser.{Parsed, fail, got, parse, judged, answer}
@@ -20,7 +21,7 @@ use Rattle.language.proofs.Complete.{parse_complete}
 pub answered : (r : Rule) → LawfulRule r → answer (spell r) ≡ value_rule r
 unfolding answer
 answered r l =
-    ap (λ (t : Bool). cond t (judged (parse (spell r))) (no_rule 13)) (le-leb (length (spell r)) 120 l.short)
+    ap (λ (t : Bool). cond t (judged (parse (spell r))) (no_rule Text)) (le-leb (length (spell r)) 120 l.short)
     ∙ ap judged (parse_complete r l.left l.right)
 
 -- a text of the language: the tree that spells it, and the answer
@@ -33,7 +34,7 @@ pub record Reads (s : List ℕ) : Type 0 where
 -- a text that no lawful tree spells
 pub record Refuses (s : List ℕ) : Type 0 where
   pub nothing : (r : Rule) → LawfulRule r → s ≡ spell r → ⊥
-  pub answer : answer s ≡ no_rule 13
+  pub answer : answer s ≡ no_rule Text
 
 too_long : (s : List ℕ) → leb (length s) 120 ≡ false → (r : Rule) → LawfulRule r → s ≡ spell r → ⊥
 too_long s e r l p = absurd (omega (arith, leb-false (length s) 120 e, ap length p, l.short))

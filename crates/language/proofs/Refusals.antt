@@ -10,17 +10,13 @@ use lib.Dec.{leb}
 use lib.IntN.{pos, nat_abs}
 use borrow.Author.Tests.{leb-true}
 use Rattle.forms.specs.declared.Form.{Form}
-use Rattle.forms.specs.declared.Value.{Value}
-use Rattle.forms.specs.declared.Value.TheVariants.{Linear, Beyond}
+use Rattle.std.specs.Prelude.{Ok, Err}
+use Rattle.forms.specs.declared.Flaw.TheVariants.{Text, Product, Size}
 use Rattle.forms.specs.declared.Written.{Written}
-use Rattle.answers.specs.declared.Refusal.{Refusal}
-use Rattle.answers.specs.Refusal.{refusal}
-use Rattle.forms.specs.declared.Typed.{Typed}
-use Rattle.forms.specs.declared.Typed.TheVariants.{Rule, Refused}
 use Rattle.language.specs.Grammar as G
 use Rattle.language.specs.Grammar.{number, rate_x, rate_y, minus, group, factor, times, term, plus, less, at_most, at_least}
 use Rattle.text.specs.Number.{value_from}
-use Rattle.forms.specs.Value.{inside, limit, form, limited, numeral, constant, multiplied, mul_forms, add_forms, sub_forms, negated, sum, difference, product, combine, no_rule, written, final, conclude}
+use Rattle.forms.specs.Value.{Value, Typed, number_of, refusal_of, inside, limit, form, limited, numeral, constant, multiplied, mul_forms, add_forms, sub_forms, negated, sum, difference, product, combine, no_rule, written, final, conclude}
 use Rattle.language.specs.Value.{value_factor, value_term, value_side, kind_of, value_rule}
 use Rattle.language.specs.Parser.{answer}
 use Rattle.language.proofs.Language.{answered, Reads, Refuses, language}
@@ -29,14 +25,14 @@ abbrev pub Fault : ℕ → Type 0
 Fault n = (n ≡ 14) ⊎ (n ≡ 15)
 
 abbrev pub Plain : Value → Type 0
-Plain (Linear f) = Unit {0}
-Plain (Beyond n) = Fault n
+Plain (Ok f) = Unit {0}
+Plain (Err e) = Fault (number_of e)
 
 limited-plain : (f : Form) → Plain (limited f)
 unfolding limited
 limited-plain f = go (inside limit f.a && (inside limit f.b && inside limit f.c))
   where
-    go : (t : Bool) → Plain (cond t (Linear f) (Beyond 15))
+    go : (t : Bool) → Plain (cond t (Ok f) (Err Size))
     go true = tt
     go false = inr refl
 
@@ -44,7 +40,7 @@ numeral-plain : (n : ℕ) → Plain (numeral n)
 unfolding numeral
 numeral-plain n = go (leb n limit)
   where
-    go : (t : Bool) → Plain (cond t (Linear (form (pos 0) (pos 0) (pos n))) (Beyond 15))
+    go : (t : Bool) → Plain (cond t (Ok (form (pos 0) (pos 0) (pos n))) (Err Size))
     go true = tt
     go false = inr refl
 
@@ -52,7 +48,7 @@ multiplied-plain : (f g : Form) → Plain (multiplied f g)
 unfolding multiplied
 multiplied-plain f g = go (constant f) (constant g)
   where
-    go : (t u : Bool) → Plain (cond t (limited (mul_forms f g)) (cond u (limited (mul_forms f g)) (Beyond 14)))
+    go : (t u : Bool) → Plain (cond t (limited (mul_forms f g)) (cond u (limited (mul_forms f g)) (Err Product)))
     go true u = limited-plain (mul_forms f g)
     go false true = limited-plain (mul_forms f g)
     go false false = inl refl
@@ -63,15 +59,15 @@ combine-plain : (op : Form → Form → Value) →
     Plain v →
     Plain w →
     Plain (combine op v w)
-combine-plain op h (Linear f) (Linear g) p q = h f g
-combine-plain op h (Linear f) (Beyond n) p q = q
-combine-plain op h (Beyond n) (Linear g) p q = p
-combine-plain op h (Beyond n) (Beyond m) p q = p
+combine-plain op h (Ok f) (Ok g) p q = h f g
+combine-plain op h (Ok f) (Err e) p q = q
+combine-plain op h (Err e) (Ok g) p q = p
+combine-plain op h (Err e) (Err d) p q = p
 
 negated-plain : (v : Value) → Plain v → Plain (negated v)
 unfolding negated
-negated-plain (Linear f) p = tt
-negated-plain (Beyond n) p = p
+negated-plain (Ok f) p = tt
+negated-plain (Err e) p = p
 
 product-plain : (v w : Value) → Plain v → Plain w → Plain (product v w)
 unfolding product
@@ -115,8 +111,8 @@ pub record InRange (w : Written) : Type 0 where
   pub c : nat_abs w.c ≤ 1000000000
 
 abbrev pub Sound : Typed → Type 0
-Sound (Rule w) = InRange w
-Sound (Refused r) = Fault r.number × (r.at ≡ 0)
+Sound (Ok w) = InRange w
+Sound (Err e) = Fault (refusal_of e).number × ((refusal_of e).at ≡ 0)
 
 final-sound : (w : Written) → Kind w.kind → Sound (final w)
 unfolding final
@@ -128,7 +124,7 @@ final-sound w k = go (inside 32767 w.a) refl (inside 32767 w.b) refl (inside lim
         inside 32767 w.b ≡ t →
         (u : Bool) →
         inside limit w.c ≡ u →
-        Sound (cond (s && (t && u)) (Rule w) (no_rule 15))
+        Sound (cond (s && (t && u)) (Ok w) (no_rule Size))
     go true e true f true g =
         record {
           kind = k;
@@ -143,10 +139,10 @@ final-sound w k = go (inside 32767 w.a) refl (inside 32767 w.b) refl (inside lim
 
 conclude-sound : (k : ℕ) → Kind k → (v w : Value) → Plain v → Plain w → Sound (conclude k v w)
 unfolding conclude
-conclude-sound k h (Linear f) (Linear g) p q = final-sound (written k f g) h
-conclude-sound k h (Linear f) (Beyond n) p q = (q, refl)
-conclude-sound k h (Beyond n) (Linear g) p q = (p, refl)
-conclude-sound k h (Beyond n) (Beyond m) p q = (p, refl)
+conclude-sound k h (Ok f) (Ok g) p q = final-sound (written k f g) h
+conclude-sound k h (Ok f) (Err e) p q = (q, refl)
+conclude-sound k h (Err e) (Ok g) p q = (p, refl)
+conclude-sound k h (Err e) (Err d) p q = (p, refl)
 
 kind-of : (k : G.Relation) → Kind (kind_of k)
 kind-of at_most = inl refl
@@ -159,16 +155,15 @@ value-sound r =
     conclude-sound (kind_of r.relation) (kind-of r.relation) (value_side r.left) (value_side r.right) (side-plain r.left)
     (side-plain r.right)
 
-thirteen : (t : Typed) → Sound t → t ≡ no_rule 13 → ⊥
-thirteen (Rule w) h e = let z : ◌≡◌ {A = ℕ} 0 1 = cc in omega arith
-thirteen (Refused r) (inl h, k) e =
-    let same : r ≡ refusal 13 0 = cc in
-    let z : r.number ≡ 13 = ap (λ (s : Refusal). s.number) same in
-    omega arith
-thirteen (Refused r) (inr h, k) e =
-    let same : r ≡ refusal 13 0 = cc in
-    let z : r.number ≡ 13 = ap (λ (s : Refusal). s.number) same in
-    omega arith
+not_thirteen : Fault 13 → ⊥
+not_thirteen (inl h) = omega arith
+not_thirteen (inr h) = omega arith
+
+thirteen : (t : Typed) → Sound t → t ≡ no_rule Text → ⊥
+thirteen (Ok w) h e = cc
+thirteen (Err x) h e =
+    let same : x ≡ Text = cc in
+    not_thirteen (subst (λ y. Fault (number_of y)) same h.0)
 
 -- ---- the language, in both directions
 
@@ -185,9 +180,9 @@ read-exactly s = ((λ h. tree h (language s)), (λ t. spelt-sound s t.0 t.1 t.2)
     tree h (inr n) = absurd (thirteen (answer s) h n.answer)
 
 -- 13 exactly if no lawful tree spells the text
-pub refused_13_exactly : (s : List ℕ) → (answer s ≡ no_rule 13) ↔ ((r : G.Rule) → G.LawfulRule r → s ≡ G.spell r → ⊥)
+pub refused_13_exactly : (s : List ℕ) → (answer s ≡ no_rule Text) ↔ ((r : G.Rule) → G.LawfulRule r → s ≡ G.spell r → ⊥)
 refused_13_exactly s = ((λ e r l p. thirteen (answer s) (spelt-sound s r l p) e), (λ none. refused none (language s)))
   where
-    refused : ((r : G.Rule) → G.LawfulRule r → s ≡ G.spell r → ⊥) → Reads s ⊎ Refuses s → answer s ≡ no_rule 13
+    refused : ((r : G.Rule) → G.LawfulRule r → s ≡ G.spell r → ⊥) → Reads s ⊎ Refuses s → answer s ≡ no_rule Text
     refused none (inl r) = absurd (none r.tree r.lawful r.text)
     refused none (inr n) = n.answer

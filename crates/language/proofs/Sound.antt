@@ -7,7 +7,7 @@ use native.Mathlib.Omega.{arith}
 use lib.Dec.{leb, eqb}
 use lib.ListN.{length}
 use borrow.Author.Tests.{leb-true, eqb-true}
-use Rattle.forms.specs.declared.Value.{Value}
+use Rattle.forms.specs.Value.{Value}
 use Rattle.language.specs.Grammar.{Factor, Term, Side, Relation, Rule, number, rate_x, rate_y, minus, group, at_most, at_least, pad, spell_factor, spell_term, spell_side, spell_relation, spell, Digits, none, more, LawfulFactor, LawfulTerm, LawfulSide}
 use Rattle.language.specs.Parser.{Parsed, fail, got, bind, first, tail, digit, lead, skip, run, past, next, beyond, inner, closed, number_at, factor_by, term_by, more_factors, side_by, more_terms, side_of, ended, right_of, relation_of, parse}
 use Rattle.language.proofs.Digits.{digit_range, run-some}

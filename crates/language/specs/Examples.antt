@@ -1,9 +1,8 @@
 -- Texts with what they read as, spelt out. A new case is a line.
-use Rattle.std.specs.Prelude.{List, [], ◌∷◌, ℕ, ℤ, pos, neg_ℤ}
+use Rattle.std.specs.Prelude.{List, [], ◌∷◌, ℕ, ℤ, pos, neg_ℤ, Ok}
 use Prim.Native.String.{String}
-use Rattle.forms.specs.declared.Typed.{Typed}
-use Rattle.forms.specs.declared.Typed.TheVariants.{Rule}
-use Rattle.forms.specs.Value.{no_rule}
+use Rattle.forms.specs.declared.Flaw.TheVariants.{Text, Product, Size}
+use Rattle.forms.specs.Value.{Typed, no_rule}
 
 pub record Example : Type 0 where
   pub written : String
@@ -13,7 +12,7 @@ abbrev row : String → Typed → Example
 row written reads = record { written = written; reads = reads }
 
 abbrev rule : ℕ → ℤ → ℤ → ℤ → Typed
-rule kind a b c = Rule (record { kind = kind; a = a; b = b; c = c })
+rule kind a b c = Ok (record { kind = kind; a = a; b = b; c = c })
 
 abbrev minus : ℕ → ℤ
 minus n = neg_ℤ (pos n)
@@ -31,38 +30,38 @@ examples =
     ∷ row "x--y<=1" (rule 1 (pos 1) (pos 1) (pos 1))
     -- spaces before, between and after items, and not inside one
     ∷ row "  x  +  1  <=  1  " (rule 1 (pos 1) (pos 0) (pos 0))
-    ∷ row "x< =1" (no_rule 13)
-    ∷ row "1 0<=x" (no_rule 13)
+    ∷ row "x< =1" (no_rule Text)
+    ∷ row "1 0<=x" (no_rule Text)
     -- 14 at the first product of two operands that both have a coefficient
     ∷ row "(x-x)*y<=1" (rule 1 (pos 0) (pos 0) (pos 1))
-    ∷ row "x*y*0<=0" (no_rule 14)
+    ∷ row "x*y*0<=0" (no_rule Product)
     -- 15 at a number and at an operation
-    ∷ row "0*1000000001<=x" (no_rule 15)
+    ∷ row "0*1000000001<=x" (no_rule Size)
     ∷ row "1000000000<=x" (rule 1 (minus 1) (pos 0) (minus 1000000000))
-    ∷ row "1000000000+1-1<=x" (no_rule 15)
-    ∷ row "-1000000000-1+1<=x" (no_rule 15)
-    ∷ row "2*500000001*0<=x" (no_rule 15)
+    ∷ row "1000000000+1-1<=x" (no_rule Size)
+    ∷ row "-1000000000-1+1<=x" (no_rule Size)
+    ∷ row "2*500000001*0<=x" (no_rule Size)
     -- which refusal comes first: the left side, the left operand, 14 before 15
-    ∷ row "1000000001<=x*y" (no_rule 15)
-    ∷ row "x*y+1000000001<=0" (no_rule 14)
-    ∷ row "1000000000*x*(2*x)<=0" (no_rule 14)
-    ∷ row "x*y<=1000000001<=" (no_rule 13)
+    ∷ row "1000000001<=x*y" (no_rule Size)
+    ∷ row "x*y+1000000001<=0" (no_rule Product)
+    ∷ row "1000000000*x*(2*x)<=0" (no_rule Product)
+    ∷ row "x*y<=1000000001<=" (no_rule Text)
     -- the limits of the final numbers and of the language
     ∷ row "32767*x<=0" (rule 1 (pos 32767) (pos 0) (pos 0))
-    ∷ row "32768*x<=0" (no_rule 15)
+    ∷ row "32768*x<=0" (no_rule Size)
     ∷ row "-32767*x<=0" (rule 1 (minus 32767) (pos 0) (pos 0))
-    ∷ row "-32768*x<=0" (no_rule 15)
+    ∷ row "-32768*x<=0" (no_rule Size)
     ∷ row "32767*y<=0" (rule 1 (pos 0) (pos 32767) (pos 0))
-    ∷ row "32768*y<=0" (no_rule 15)
+    ∷ row "32768*y<=0" (no_rule Size)
     ∷ row "x-1000000000<=0" (rule 1 (pos 1) (pos 0) (pos 1000000000))
-    ∷ row "x-1000000000<=1" (no_rule 15)
+    ∷ row "x-1000000000<=1" (no_rule Size)
     ∷ row "((((((((x))))))))<=1" (rule 1 (pos 1) (pos 0) (pos 1))
-    ∷ row "(((((((((x)))))))))<=1" (no_rule 13)
+    ∷ row "(((((((((x)))))))))<=1" (no_rule Text)
     ∷ row "x<=((((((((1))))))))" (rule 1 (pos 1) (pos 0) (pos 1))
-    ∷ row "x<=(((((((((1)))))))))" (no_rule 13)
+    ∷ row "x<=(((((((((1)))))))))" (no_rule Text)
     ∷ row "0000000001<=x" (rule 1 (minus 1) (pos 0) (minus 1))
-    ∷ row "00000000001<=x" (no_rule 13)
+    ∷ row "00000000001<=x" (no_rule Text)
     -- 120 and 121 bytes, most of them spaces: of a row that takes far more steps the checker would not say in what it is wrong
     ∷ row "x<=                                                         1                                                           " (rule 1 (pos 1) (pos 0) (pos 1))
-    ∷ row "x<=                                                         1                                                            " (no_rule 13)
+    ∷ row "x<=                                                         1                                                            " (no_rule Text)
     ∷ []

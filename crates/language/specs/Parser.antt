@@ -1,9 +1,9 @@
 -- The parser as a function of texts: side, term and factor call each other, and the remaining text falls. It hands back the tree that
 -- it read. A call takes one unit of fuel, of which three for each byte and three more are enough.
 use Rattle.std.specs.Prelude.{Bool, cond, ◌&&◌, List, [], ◌∷◌, ℕ, zero, suc, ◌+◌, ◌*◌, leb, eqb, length}
-use Rattle.forms.specs.declared.Typed.{Typed}
+use Rattle.forms.specs.declared.Flaw.TheVariants.{Text}
 use Rattle.language.specs.Grammar.{Factor, Term, Side, Relation, Rule, number, rate_x, rate_y, minus, group, factor, times, term, plus, less, at_most, at_least}
-use Rattle.forms.specs.Value.{no_rule}
+use Rattle.forms.specs.Value.{Typed, no_rule}
 use Rattle.language.specs.Value.{value_rule}
 
 -- what was read, with the text after it
@@ -122,9 +122,9 @@ unfoldable pub parse : List ℕ → Parsed Rule
 parse s = bind (side_of s) (λ a r. relation_of a r)
 
 abbrev pub judged : Parsed Rule → Typed
-judged fail = no_rule 13
+judged fail = no_rule Text
 judged (got r s) = value_rule r
 
 -- what a text reads as: 13 if it is too long or spells no rule, else the value of its rule
 unfoldable pub answer : List ℕ → Typed
-answer s = cond (leb (length s) 120) (judged (parse s)) (no_rule 13)
+answer s = cond (leb (length s) 120) (judged (parse s)) (no_rule Text)

@@ -1,20 +1,17 @@
 -- The value of a tree: the form a·x + b·y + c that it comes to, or the refusal, 14 or 15, of the first number or operation concerned.
 -- Of a rule: the left side, then the right, then the final a, b and c. It rests on the trees (Grammar) and on the operations on values
 -- (`forms`).
-use Rattle.std.specs.Prelude.{ℕ, pos}
+use Rattle.std.specs.Prelude.{ℕ, pos, Ok}
 use Rattle.text.specs.Number.{value_from}
-use Rattle.forms.specs.declared.Value.{Value}
-use Rattle.forms.specs.declared.Value.TheVariants.{Linear}
-use Rattle.forms.specs.declared.Typed.{Typed}
-use Rattle.forms.specs.Value.{form, numeral, negated, sum, difference, product, conclude}
+use Rattle.forms.specs.Value.{Value, Typed, form, numeral, negated, sum, difference, product, conclude}
 use Rattle.language.specs.Grammar as G
 use Rattle.language.specs.Grammar.{number, rate_x, rate_y, minus, group, factor, times, term, plus, less, at_most, at_least}
 
 unfoldable mutual
   pub value_factor : G.Factor → Value
   value_factor (number i digits) = numeral (value_from 0 digits)
-  value_factor (rate_x i) = Linear (form (pos 1) (pos 0) (pos 0))
-  value_factor (rate_y i) = Linear (form (pos 0) (pos 1) (pos 0))
+  value_factor (rate_x i) = Ok (form (pos 1) (pos 0) (pos 0))
+  value_factor (rate_y i) = Ok (form (pos 0) (pos 1) (pos 0))
   value_factor (minus i f) = negated (value_factor f)
   value_factor (group i s j) = value_side s
 

@@ -1,5 +1,6 @@
 -- The run with the floors before its rules and the horizon after them. The rules stay, to frame it twice is to frame it once, and what is
 -- listed from the framed run is what is listed from the run as it was.
+use Rattle.std.specs.Prelude.{Option, None, Some}
 use mathlib.Core.Path.{◌≡◌, refl, sym, ◌∙◌, ap, ap₂, subst}
 use mathlib.Core.List.{List, ◌∷◌}
 use mathlib.Core.Bool.{Bool, true, false, cond}
@@ -18,8 +19,6 @@ use Rattle.amounts.specs.Tests.{rule_in_range, floors_in_range}
 use Rattle.engine.proofs.Laid.{put_other, laid, laid-rules}
 use Rattle.boundary.specs.Size.{horizon}
 use Rattle.boundary.specs.Ring.{grown, corners}
-use Rattle.region.specs.declared.Listed.{Listed}
-use Rattle.region.specs.declared.Listed.TheVariants as listed
 use Rattle.region.specs.Listing.{Lists, taken, framed, corners_of, put_points}
 use Rattle.region.proofs.Theorems.{order-names-rules}
 use Rattle.region.proofs.Frames.{fit, fit-taken, framed-length, framed-x, framed-y, framed-horizon, chosen-framed}
@@ -61,7 +60,7 @@ framed-twice f e n room =
 -- ---- what a listing leaves
 
 -- a sample of the rules was listed, or not
-pub stays : (f : Floors) (e : List ℤ) (n : ℕ) {order ring ring' : List ℕ} {out e' out' : List ℤ} {r : Listed} →
+pub stays : (f : Floors) (e : List ℤ) (n : ℕ) {order ring ring' : List ℕ} {out e' out' : List ℤ} {r : Option ℕ} →
     Lists f e n order ring out r e' ring' out' →
     Stays f e n e'
 stays f e n {order = order} {ring = ring} {out = out} {e' = e'} l = go (taken f e n order (length ring) (length out)) refl l.run
@@ -108,15 +107,15 @@ module _
     points : corners_of f F order ≡ corners_of f e order
     points = ap (λ S. corners (grown f S)) (chosen-framed f e n order (order-names-rules n order names.to names.from))
 
-    from-framed : {r : Listed} {e'' : List ℤ} {ring' : List ℕ} {out' : List ℤ} →
+    from-framed : {r : Option ℕ} {e'' : List ℤ} {ring' : List ℕ} {out' : List ℤ} →
         Lists f F n order ring out r e'' ring' out' →
         Lists f e n order ring out r e'' ring' out'
     from-framed l =
         record {
           answer =
               l.answer
-              ∙ ap (λ b. cond b (listed.Corners (length (corners_of f F order))) listed.Outside) (there ∙ sym here)
-              ∙ ap (λ (vs : List Point). cond (taken f e n order (length ring) (length out)) (listed.Corners (length vs)) listed.Outside)
+              ∙ ap (λ b. cond b (Some (length (corners_of f F order))) None) (there ∙ sym here)
+              ∙ ap (λ (vs : List Point). cond (taken f e n order (length ring) (length out)) (Some (length vs)) None)
               points;
           listed =
               l.listed
@@ -132,7 +131,7 @@ module _
 
   pub lists-again : {e' : List ℤ} →
       Stays f e n e' →
-      {r : Listed} {e'' : List ℤ} {ring' : List ℕ} {out' : List ℤ} →
+      {r : Option ℕ} {e'' : List ℤ} {ring' : List ℕ} {out' : List ℤ} →
       Lists f e' n order ring out r e'' ring' out' →
       Lists f e n order ring out r e'' ring' out'
   lists-again (asked.untouched q) {r} {e''} {ring'} {out'} l =

@@ -1,4 +1,5 @@
 -- The promise of `lay` on each of its two ways; and what is listed where all numbers are within their ranges.
+use Rattle.std.specs.Prelude.{Option, None, Some}
 use mathlib.Core.Path.{◌≡◌, refl, sym, ◌∙◌, ap}
 use mathlib.Core.List.Memᴰ
 use mathlib.Core.List.{List, [], ◌∷◌, map, Memᴰ}
@@ -17,8 +18,6 @@ use Rattle.theory.proofs.Lists.{for-members}
 use Rattle.engine.specs.Entries.{entries}
 use Rattle.amounts.specs.Tests.{rule_in_range, floors_in_range}
 use Rattle.amounts.proofs.Tests.{both, rule-small, floors-small}
-use Rattle.region.specs.declared.Listed.{Listed}
-use Rattle.region.specs.declared.Listed.TheVariants as listed
 use Rattle.region.specs.Listing.{Lists, taken, framed, corners_of, put_points}
 use Rattle.region.proofs.Theorems.{places, order-names-rules, listed-at-most}
 use Rattle.region.proofs.Frames.{fit, fit-taken, outside}
@@ -28,9 +27,9 @@ use Rattle.laying.specs.Asked.{Ordering, Ordered}
 use Rattle.laying.proofs.Framed.{framed-rules, lists-again}
 
 -- corners are listed
-abbrev inside : Listed → Bool
-inside listed.Outside = false
-inside (listed.Corners k) = true
+abbrev inside : Option ℕ → Bool
+inside None = false
+inside (Some k) = true
 
 -- ---- what the test says
 
@@ -90,7 +89,7 @@ module _ (f : Floors) (e : List ℤ) (order ring : List ℕ) (corners : List ℤ
     pub lays-listed : {e' : List ℤ} {order' : List ℕ} →
         Ordered f e (length order) e' order' →
         length order' ≡ length order →
-        {r : Listed} {e'' : List ℤ} {ring' : List ℕ} {corners' : List ℤ} →
+        {r : Option ℕ} {e'' : List ℤ} {ring' : List ℕ} {corners' : List ℤ} →
         Lists f e' (length order) order' ring corners r e'' ring' corners' →
         Lays f e order ring corners r e'' order' ring' corners'
     lays-listed {order' = order'} o same l =
@@ -103,7 +102,7 @@ module _ (f : Floors) (e : List ℤ) (order ring : List ℕ) (corners : List ℤ
           left = λ r. absurd (true≢false (sym so ∙ told ∙ r));
         }
 
-  pub lays-outside : t ≡ false → Lays f e order ring corners listed.Outside e order ring corners
+  pub lays-outside : t ≡ false → Lays f e order ring corners None e order ring corners
   lays-outside not =
       record {
         listed =
@@ -130,18 +129,18 @@ module _ (f : Floors) (e : List ℤ) (order ring : List ℕ) (corners : List ℤ
 
 module _
     (f : Floors) (e : List ℤ) (order ring : List ℕ) (corners : List ℤ)
-    {r : Listed} {e' : List ℤ} {order' ring' : List ℕ} {corners' : List ℤ}
+    {r : Option ℕ} {e' : List ℤ} {order' ring' : List ℕ} {corners' : List ℤ}
     (h : Lays f e order ring corners r e' order' ring' corners') where
   abbrev n : ℕ
   n = length order
 
   -- corners are listed only if all is within its range
-  pub listed-within : {k : ℕ} → r ≡ listed.Corners k → within f e n (length ring) (length corners) ≡ true
+  pub listed-within : {k : ℕ} → r ≡ Some k → within f e n (length ring) (length corners) ≡ true
   listed-within {k} q = go (taken f e n order' (length ring) (length corners)) refl (sym h.listed.answer ∙ q)
     where
       go : (b : Bool) →
           taken f e n order' (length ring) (length corners) ≡ b →
-          cond b (listed.Corners (length (corners_of f e order'))) listed.Outside ≡ listed.Corners k →
+          cond b (Some (length (corners_of f e order'))) None ≡ Some k →
           within f e n (length ring) (length corners) ≡ true
       go true t z =
           let x = fit f e n order' (length ring) (length corners) t in
@@ -179,8 +178,8 @@ module _
           ordered = order-names-rules n order' names.to names.from;
         })
 
-    pub all_listed : r ≡ listed.Corners (length (corners_of f e order'))
-    all_listed = h.listed.answer ∙ ap (λ b. cond b (listed.Corners (length (corners_of f e order'))) listed.Outside) is-taken
+    pub all_listed : r ≡ Some (length (corners_of f e order'))
+    all_listed = h.listed.answer ∙ ap (λ b. cond b (Some (length (corners_of f e order'))) None) is-taken
 
     pub all-put : corners' ≡ put_points corners 0 (corners_of f e order')
     all-put = h.listed.listed ∙ ap (λ b. cond b (put_points corners 0 (corners_of f e order')) corners) is-taken
@@ -201,9 +200,9 @@ module _
         ∙ corners-read f e order' corners (omega (arith, inner.order.corners-room, h.as_long))
 
 -- as many points as the listing says, and 0 where there is none
-abbrev pub count_of : Listed → ℕ
-count_of listed.Outside = 0
-count_of (listed.Corners k) = k
+abbrev pub count_of : Option ℕ → ℕ
+count_of None = 0
+count_of (Some k) = k
 
 -- ---- systems within their ranges
 

@@ -1,12 +1,11 @@
 -- The promise of `lay`: what `region::corners` promises, for an order that names each of the rules that stand in the run and nothing else.
 -- Which order that is, is free: it is chosen for speed, and every number of the other runs follows from it.
-use Rattle.std.specs.Prelude.{◌≡◌, Bool, true, false, ◌&&◌, ℕ, ◌+◌, ◌*◌, leb, length, ℤ}
+use Rattle.std.specs.Prelude.{◌≡◌, Bool, true, false, ◌&&◌, ℕ, ◌+◌, ◌*◌, leb, length, ℤ, Option}
 use mathlib.Core.List.{List, Memᴰ}
 use Rattle.lp.specs.declared.Floors.{Floors}
 use Rattle.lp.specs.Outcome.{every}
 use Rattle.engine.specs.Entries.{entries}
 use Rattle.amounts.specs.Tests.{rule_in_range, floors_in_range}
-use Rattle.region.specs.declared.Listed.{Listed}
 use Rattle.region.specs.Listing.{Lists}
 use Rattle.region.proofs.Theorems.{places}
 
@@ -29,7 +28,7 @@ within f e n ring corners = ready f n ring corners && (leb (3 * (n + 3)) (length
 
 pub record Lays
     (f : Floors) (e : List ℤ) (order ring : List ℕ) (corners : List ℤ)
-    (r : Listed) (e' : List ℤ) (order' ring' : List ℕ) (corners' : List ℤ) : Type 0 where
+    (r : Option ℕ) (e' : List ℤ) (order' ring' : List ℕ) (corners' : List ℤ) : Type 0 where
   pub listed : Lists f e (length order) order' ring corners r e' ring' corners'
   pub as_long : length order' ≡ length order
   pub named : ready f (length order) (length ring) (length corners) ≡ true → Names (length order) order'

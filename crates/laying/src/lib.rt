@@ -8,10 +8,10 @@ mod room;
 
 ghost use Rattle.laying.specs.Laying.{Lays};
 
+use amounts::range::floors_in_range;
 use lp::Floors;
 use order::put_order;
-use region::Listed;
-use room::{floors_in_range, has_room};
+use room::has_room;
 
 // Lists the corners of the rules that stand in the run from its seventh number on, as many as the order is long: see `region::corners`,
 // which says what is listed and what is outside. The order is put in: by the angles of the rules' normals, or, if a sample of the rules
@@ -23,7 +23,7 @@ pub fn lay(
     ring: &mut [u16],
     corners: &mut [i64],
     sampled: bool,
-) -> Listed
+) -> Option<usize>
     ensures { Lays floors run.old order.old ring.old corners.old
         result run.new order.new ring.new corners.new }
 {
@@ -32,5 +32,5 @@ pub fn lay(
         put_order(floors, &mut *run, &mut *order, sampled);
         return region::corners(floors, run, n, &*order, ring, corners);
     }
-    Listed::Outside
+    None
 }

@@ -7,8 +7,7 @@ ghost use Rattle.region.proofs.Theorems.{places};
 ghost use Rattle.laying.specs.Asked.{Ordering, Stays, Ordered};
 
 use lp::{Constraint, Floors};
-use region::Listed;
-use sorting::keys::{By, Frame};
+use sorting::keys::{ByAngle, Frame};
 use sorting::sort;
 
 // The run counts 2, 3, 4 and so on: rule i is entry i + 2.
@@ -16,10 +15,8 @@ fn count_rules(order: &mut [u16])
     requires { length order.old ≤ 65533 }
     ensures { order.new ≡ places 2 (length order.old) }
 {
-    let mut i: u16 = 0;
-    while (i as usize) < order.len() {
-        order[i as usize] = i + 2;
-        i += 1;
+    for (i, place) in order.iter_mut().enumerate() {
+        *place = i as u16 + 2;
     }
 }
 
@@ -54,6 +51,7 @@ fn put_sample(order: &mut [u16]) -> usize
     ensures { result ≤ length order.old }
 {
     let step = order.len() / 64 + 1;
+    // Two places move: `at` along the chain by steps, and k along the sample. A `for` over one would count the other by hand.
     let mut k = 0;
     let mut at = 0;
     while at < order.len() {
@@ -65,11 +63,8 @@ fn put_sample(order: &mut [u16]) -> usize
 }
 
 // Whether so many corners are many for a sample.
-fn is_many(listed: Listed) -> bool {
-    match listed {
-        Listed::Outside => false,
-        Listed::Corners(count) => 16 < count,
-    }
+fn is_many(listed: Option<usize>) -> bool {
+    listed.is_some_and(|count| 16 < count)
 }
 
 // Whether the rules are to be sorted: without a sample always, and else if many of the sample are edges. The sample's boundary has runs of
@@ -97,6 +92,10 @@ pub fn put_order(floors: Floors, run: &mut [i64], order: &mut [u16], sampled: bo
     let sorted = is_sorted(floors, &mut *run, &mut *order, sampled);
     count_rules(&mut *order);
     if sorted {
-        sort(By::Angle(frame(floors)), &*run, order);
+        let angles = ByAngle {
+            keys: &*run,
+            frame: frame(floors),
+        };
+        sort(&angles, order);
     }
 }

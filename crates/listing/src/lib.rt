@@ -13,10 +13,8 @@ fn put_points(keys: &[i64], run: &[u16], n: usize, out: &mut [u8])
     requires { Listing run.now n out.old }
     ensures { out.new ≡ written keys.now run.now n out.old }
 {
-    let mut i = 0;
-    while i < n {
+    for i in 0..n {
         put_point(&mut *out, 24 * i, point_at(keys, run[i]));
-        i += 1;
     }
 }
 

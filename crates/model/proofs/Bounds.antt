@@ -1,6 +1,7 @@
 -- The walk stays within document 01's bounds: `walk-small`, for every list of lawful rules and so for every prefix of a chain. A meeting
 -- point of lawful constraints is within them as it is made, and reducing makes nothing larger. `slack-small` then says that no sum of a·X
 -- + b·Y − c·D leaves 64 bits.
+use Rattle.std.specs.Prelude.{Option, None, Some, Result, Ok, Err}
 use mathlib.Core.Path.{◌≡◌, refl}
 use mathlib.Core.List.{List, [], ◌∷◌, ◌++◌, Memᴰ}
 use mathlib.Core.Bool.{Bool, true, false, not, ◌&&◌}
@@ -29,22 +30,12 @@ use Rattle.lp.specs.Outcome.{det, meet, keeps, above, reduce, reduce_ray, tie_or
 use Rattle.lp.specs.Certificate.{is_zero}
 use Rattle.lp.specs.Prefixes.{one_if}
 use Rattle.lp.specs.Document.{tie, zero_floors}
-use Rattle.model.specs.declared.Found.{Found}
-use Rattle.model.specs.declared.Found.TheVariants as found
-use Rattle.model.specs.declared.Broken.{Broken}
-use Rattle.model.specs.declared.Broken.TheVariants as broken
-use Rattle.model.specs.declared.Restart.{Restart}
-use Rattle.model.specs.declared.Restart.TheVariants.{Moved, Failed}
-use Rattle.model.specs.declared.Cone.{Cone}
-use Rattle.model.specs.declared.Cone.TheVariants.{Empty, Wedge}
-use Rattle.model.specs.declared.Gain.{Gain}
-use Rattle.model.specs.declared.Gain.TheVariants as gain
-use Rattle.model.specs.declared.Best.{Best}
-use Rattle.model.specs.declared.Best.TheVariants as best
+use Rattle.lp.specs.declared.Certificate.{Certificate}
+use Rattle.model.specs.declared.Met.{Met}
 use Rattle.model.specs.declared.State.{State}
 use Rattle.model.specs.declared.State.TheVariants.{Ended, Going}
 use Rattle.model.specs.declared.Walk.{Walk}
-use Rattle.model.specs.Scan.{facing, direction, tighter, tightest, first_broken}
+use Rattle.model.specs.Scan.{met, facing, direction, tighter, tightest, first_broken}
 use Rattle.model.specs.Step.{alone, line_weight, conflict, checked, resettled, restart, narrowed, narrow, gaining, found_point}
 use Rattle.model.specs.Step.{tightest_point, reopened, improved, is_open, breaks, going, settled, stepped, step, opening, begin}
 use Rattle.model.specs.Step.{walk_from, walk, said, said_ray}
@@ -144,21 +135,21 @@ module _ {l : Constraint} (sl : SmallConstraint l) where
   pub tighter-small :
       (i : ℕ) {m : Constraint} →
       SmallConstraint m →
-      (f : Found) →
+      (f : Option Met) →
       SmallFound f →
       SmallFound (tighter l i m f)
-  tighter-small i {m} sm found.Nothing sf = go (lt_z (pos 0) (det m l)) lt_z_yes
+  tighter-small i {m} sm None sf = go (lt_z (pos 0) (det m l)) lt_z_yes
     where
-      go : (t : Bool) → (T t → pos 0 <ᶻ det m l) → SmallFound (elim t [ true ↦ found.At i m (meet m l) | false ↦ found.Nothing ])
+      go : (t : Bool) → (T t → pos 0 <ᶻ det m l) → SmallFound (elim t [ true ↦ Some (met i m (meet m l)) | false ↦ None ])
       go true h = (sm, meet-small sm sl (h tt))
       go false h = tt
-  tighter-small i {m} sm (found.At j k p) sf = go (lt_z (pos 0) (det m l)) lt_z_yes (keeps m p)
+  tighter-small i {m} sm (Some found) sf = go (lt_z (pos 0) (det m l)) lt_z_yes (keeps m found.point)
     where
       go :
           (t : Bool) →
           (T t → pos 0 <ᶻ det m l) →
           (u : Bool) →
-          SmallFound (elim t [ true ↦ elim u [ true ↦ found.At j k p | false ↦ found.At i m (meet m l) ] | false ↦ found.At j k p ])
+          SmallFound (elim t [ true ↦ elim u [ true ↦ Some found | false ↦ Some (met i m (meet m l)) ] | false ↦ Some found ])
       go true h true = sf
       go true h false = (sm, meet-small sm sl (h tt))
       go false h u = sf
@@ -166,7 +157,7 @@ module _ {l : Constraint} (sl : SmallConstraint l) where
   pub tightest-small :
       (i : ℕ) (S : List Constraint) →
       SmallSystem S →
-      (f : Found) →
+      (f : Option Met) →
       SmallFound f →
       SmallFound (tightest l i S f)
   tightest-small i [] ss f sf = sf
@@ -182,7 +173,7 @@ first_broken-small v i (m ∷ S) ss = go (keeps m v) (first_broken-small v (suc 
     go :
         (t : Bool) →
         SmallBroken (first_broken v (suc i) S) →
-        SmallBroken (elim t [ true ↦ first_broken v (suc i) S | false ↦ broken.At i m ])
+        SmallBroken (elim t [ true ↦ first_broken v (suc i) S | false ↦ Some (i, m) ])
     go true h = h
     go false h = ss.0
 
@@ -209,48 +200,48 @@ conflict-small side n j i sh sk sm =
     }
 
 module _ (S : List Constraint) (ss : SmallSystem S) {h : Constraint} (sh : SmallConstraint h) where
-  along-line : (side : Bool) → SmallFound (tightest (facing side h) 0 S found.Nothing)
-  along-line side = tightest-small (facing-small side sh) 0 S ss found.Nothing tt
+  along-line : (side : Bool) → SmallFound (tightest (facing side h) 0 S None)
+  along-line side = tightest-small (facing-small side sh) 0 S ss None tt
 
-  resettled-small : (side : Bool) (n : ℕ) (f : Found) → SmallFound f → SmallRestart (resettled S side n h f)
-  resettled-small side n found.Nothing sf = alone-small n
-  resettled-small side n (found.At j k p) sf = go (first_broken p 0 S) (first_broken-small p 0 S ss)
+  resettled-small : (side : Bool) (n : ℕ) (f : Option Met) → SmallFound f → SmallRestart (resettled S side n h f)
+  resettled-small side n None sf = alone-small n
+  resettled-small side n (Some found) sf = go (first_broken found.point 0 S) (first_broken-small found.point 0 S ss)
     where
-      go : (b : Broken) → SmallBroken b → SmallRestart (checked side n h j k p b)
-      go broken.Nowhere sb = reduce-small sf.1
-      go (broken.At i m) sb = conflict-small side n j i sh sf.0 sb
+      go : (b : Option (ℕ × Constraint)) → SmallBroken b → SmallRestart (checked side n h found.index found.entry found.point b)
+      go None sb = reduce-small sf.1
+      go (Some (i, m)) sb = conflict-small side n found.index i sh sf.0 sb
 
   pub restart-small : (t : Tie) (n : ℕ) → SmallRestart (restart t S n h)
   restart-small t n = go (is_zero h.a && is_zero h.b) (above (tie_order t) (direction h))
     where
       go :
           (z side : Bool) →
-          SmallRestart (elim z [ true ↦ Failed (alone n) | false ↦ resettled S side n h (tightest (facing side h) 0 S found.Nothing) ])
+          SmallRestart (elim z [ true ↦ Err (alone n) | false ↦ resettled S side n h (tightest (facing side h) 0 S None) ])
       go true side = alone-small n
-      go false side = resettled-small side n (tightest (facing side h) 0 S found.Nothing) (along-line side)
+      go false side = resettled-small side n (tightest (facing side h) 0 S None) (along-line side)
 
   -- ---- the optimum
 
   pub tightest_point-small : (fs : List Functional) → SmallPoint (tightest_point fs S h)
-  tightest_point-small fs = go (tightest (facing (above fs (direction h)) h) 0 S found.Nothing) (along-line (above fs (direction h)))
+  tightest_point-small fs = go (tightest (facing (above fs (direction h)) h) 0 S None) (along-line (above fs (direction h)))
     where
-      go : (f : Found) → SmallFound f → SmallPoint (found_point f)
-      go found.Nothing sf =
+      go : (f : Option Met) → SmallFound f → SmallPoint (found_point f)
+      go None sf =
           record { x-small = within-numeral tt; y-small = within-numeral tt; d_small = within-numeral tt; d-proper = lt_z_yes tt }
-      go (found.At j k p) sf = reduce-small sf.1
+      go (Some found) sf = reduce-small sf.1
 
   pub improved-small :
-      (fs : List Functional) (f : Functional) (cone : Cone) (b : Best) →
+      (fs : List Functional) (f : Functional) (rays : Option (Ray × Ray)) (b : Option Point) →
       SmallBest b →
-      SmallBest (improved fs f S h cone b)
-  improved-small fs f cone best.Open sb = go (gaining f cone)
+      SmallBest (improved fs f S h rays b)
+  improved-small fs f rays None sb = go (gaining f rays)
     where
-      go : (g : Gain) → SmallBest (reopened fs S h g)
-      go (gain.Along d) = tt
-      go gain.Nowhere = tightest_point-small fs
-  improved-small fs f cone (best.At v) sb = go (keeps h v)
+      go : (g : Option Ray) → SmallBest (reopened fs S h g)
+      go (Some d) = tt
+      go None = tightest_point-small fs
+  improved-small fs f rays (Some v) sb = go (keeps h v)
     where
-      go : (t : Bool) → SmallBest (elim t [ true ↦ best.At v | false ↦ best.At (tightest_point fs S h) ])
+      go : (t : Bool) → SmallBest (elim t [ true ↦ Some v | false ↦ Some (tightest_point fs S h) ])
       go true = sb
       go false = tightest_point-small fs
 
@@ -259,11 +250,11 @@ module _ (S : List Constraint) (ss : SmallSystem S) {h : Constraint} (sh : Small
 pub narrow-small :
     {h : Constraint} →
     SmallConstraint h →
-    (cone : Cone) →
-    SmallCone cone →
-    SmallCone (narrow h cone)
-narrow-small sh Empty sc = tt
-narrow-small {h} sh (Wedge lo hi) sc = go (le_z (rise h lo) (pos 0)) (le_z (rise h hi) (pos 0))
+    (rays : Option (Ray × Ray)) →
+    SmallCone rays →
+    SmallCone (narrow h rays)
+narrow-small sh None sc = tt
+narrow-small {h} sh (Some (lo, hi)) sc = go (le_z (rise h lo) (pos 0)) (le_z (rise h hi) (pos 0))
   where
     go : (t u : Bool) → SmallCone (narrowed h lo hi t u)
     go true true = sc
@@ -271,23 +262,23 @@ narrow-small {h} sh (Wedge lo hi) sc = go (le_z (rise h lo) (pos 0)) (le_z (rise
     go false true = (opposite-small sh, sc.1)
     go false false = tt
 
-pub gaining-small : (f : Functional) (cone : Cone) → SmallCone cone → SmallGain (gaining f cone)
-gaining-small f Empty sc = tt
-gaining-small f (Wedge lo hi) sc = go (lt_z (pos 0) (along f lo)) (lt_z (pos 0) (along f hi))
+pub gaining-small : (f : Functional) (rays : Option (Ray × Ray)) → SmallCone rays → SmallGain (gaining f rays)
+gaining-small f None sc = tt
+gaining-small f (Some (lo, hi)) sc = go (lt_z (pos 0) (along f lo)) (lt_z (pos 0) (along f hi))
   where
-    go : (t u : Bool) → SmallGain (elim t [ true ↦ gain.Along lo | false ↦ elim u [ true ↦ gain.Along hi | false ↦ gain.Nowhere ] ])
+    go : (t u : Bool) → SmallGain (elim t [ true ↦ Some lo | false ↦ elim u [ true ↦ Some hi | false ↦ None ] ])
     go true u = sc.0
     go false true = sc.1
     go false false = tt
 
 pub said-small : (f : Functional) (x : State) → SmallState x → SmallOutcome (said f x)
 said-small f (Ended p k) h = tt
-said-small f (Going s cone best.Open) h = go (gaining f cone) (gaining-small f cone h.1)
+said-small f (Going s rays None) h = go (gaining f rays) (gaining-small f rays h.1)
   where
-    go : (g : Gain) → SmallGain g → SmallOutcome (said_ray s g)
-    go (gain.Along d) k = (h.0, reduce_ray-small k)
-    go gain.Nowhere k = h.0
-said-small f (Going s cone (best.At v)) h = h.2
+    go : (g : Option Ray) → SmallGain g → SmallOutcome (said_ray s g)
+    go (Some d) k = (h.0, reduce_ray-small k)
+    go None k = h.0
+said-small f (Going s rays (Some v)) h = h.2
 
 -- ---- the walk
 
@@ -303,7 +294,7 @@ module _ (t : Tie) (f : Functional) (S : List Constraint) (ss : SmallSystem S) (
   step_small k w sw = from w.state sw.state_small
     where
       later :
-          (s : State) (sst : SmallState s) (b : Best) (u : Bool) →
+          (s : State) (sst : SmallState s) (b : Option Point) (u : Bool) →
           SmallWalk (suc k)
           (record { state = s; moves = w.moves + one_if (breaks h b); opened = w.opened; restarts = w.restarts + one_if u })
       later s sst b u =
@@ -315,23 +306,23 @@ module _ (t : Tie) (f : Functional) (S : List Constraint) (ss : SmallSystem S) (
           }
 
       settle :
-          (cone : Cone) →
-          SmallCone cone →
-          (b : Best) →
+          (rays : Option (Ray × Ray)) →
+          SmallCone rays →
+          (b : Option Point) →
           SmallBest b →
-          (u : Bool) (r : Restart) →
+          (u : Bool) (r : Result Point Certificate) →
           SmallRestart r →
-          SmallWalk (suc k) (settled t f S n h cone b w.moves w.opened (w.restarts + one_if u) r)
-      settle cone sc b sb u (Moved s) sr =
+          SmallWalk (suc k) (settled t f S n h rays b w.moves w.opened (w.restarts + one_if u) r)
+      settle rays sc b sb u (Ok s) sr =
           record {
-            state_small = (sr, narrow-small sh cone sc, improved-small S ss sh (gain_order f t) f (narrow h cone) b sb);
+            state_small = (sr, narrow-small sh rays sc, improved-small S ss sh (gain_order f t) f (narrow h rays) b sb);
             moves-small = one_more (breaks h b) sw.moves-small;
-            opened-small = one_more (is_open (improved (gain_order f t) f S h (narrow h cone) b)) sw.opened-small;
+            opened-small = one_more (is_open (improved (gain_order f t) f S h (narrow h rays) b)) sw.opened-small;
             restarts-small = one_more u sw.restarts-small;
           }
-      settle cone sc b sb u (Failed c) sr = later (Ended _ c) sr b u
+      settle rays sc b sb u (Err c) sr = later (Ended _ c) sr b u
 
-      restarted : (s : Point) → SmallPoint s → (u : Bool) → SmallRestart (elim u [ true ↦ Moved s | false ↦ restart t S n h ])
+      restarted : (s : Point) → SmallPoint s → (u : Bool) → SmallRestart (elim u [ true ↦ Ok s | false ↦ restart t S n h ])
       restarted s sp true = sp
       restarted s sp false = restart-small S ss sh t n
 
@@ -343,8 +334,8 @@ module _ (t : Tie) (f : Functional) (S : List Constraint) (ss : SmallSystem S) (
             opened-small = omega (arith, sw.opened-small);
             restarts-small = omega (arith, sw.restarts-small);
           }
-      from (Going s cone b) sst =
-          settle cone sst.1 b sst.2 (not (keeps h s)) (elim (keeps h s) [ true ↦ Moved s | false ↦ restart t S n h ])
+      from (Going s rays b) sst =
+          settle rays sst.1 b sst.2 (not (keeps h s)) (elim (keeps h s) [ true ↦ Ok s | false ↦ restart t S n h ])
           (restarted s sst.0 (keeps h s))
 
 pub corner-small :
@@ -354,27 +345,27 @@ pub corner-small :
 corner-small h =
     record { x-small = weaken tt h.lx_small; y-small = weaken tt h.ly_small; d_small = within-numeral tt; d-proper = lt_z_yes tt }
 
-pub axes-small : SmallCone (Wedge (ray (pos 1) (pos 0)) (ray (pos 0) (pos 1)))
+pub axes-small : SmallCone (Some (ray (pos 1) (pos 0), ray (pos 0) (pos 1)))
 axes-small = (
   record { dx-small = within-numeral tt; dy-small = within-numeral tt },
   record { dx-small = within-numeral tt; dy-small = within-numeral tt },
 )
 
 pub begin-small : (floors : Floors) → SmallFloors floors → (f : Functional) → SmallWalk 0 (begin floors f)
-begin-small floors h f = go (gaining f (Wedge (ray (pos 1) (pos 0)) (ray (pos 0) (pos 1))))
+begin-small floors h f = go (gaining f (Some (ray (pos 1) (pos 0), ray (pos 0) (pos 1))))
   where
     go :
-        (g : Gain) →
-        SmallWalk 0 (going (point floors.lx floors.ly (pos 1)) (Wedge (ray (pos 1) (pos 0)) (ray (pos 0) (pos 1)))
-        (opening f (point floors.lx floors.ly (pos 1)) (Wedge (ray (pos 1) (pos 0)) (ray (pos 0) (pos 1))) g) 0 0 0)
-    go (gain.Along d) =
+        (g : Option Ray) →
+        SmallWalk 0 (going (point floors.lx floors.ly (pos 1)) (Some (ray (pos 1) (pos 0), ray (pos 0) (pos 1)))
+        (opening f (point floors.lx floors.ly (pos 1)) (Some (ray (pos 1) (pos 0), ray (pos 0) (pos 1))) g) 0 0 0)
+    go (Some d) =
         record {
           state_small = (corner-small h, axes-small, tt);
           moves-small = omega arith;
           opened-small = omega arith;
           restarts-small = omega arith;
         }
-    go gain.Nowhere =
+    go None =
         record {
           state_small = (corner-small h, axes-small, corner-small h);
           moves-small = omega arith;

@@ -20,7 +20,7 @@ use Rattle.model.specs.Step.{walk, said, place_of, start_held}
 
 abbrev witnessed : Example → State → Bool
 witnessed e (Ended p c) = certifies (system e.floors (take p e.rules)) (named c)
-witnessed e (Going s cone b) = true
+witnessed e (Going s rays b) = true
 
 abbrev walked : Example → Walk → Bool
 walked e w =

@@ -4,53 +4,21 @@
 
 use lp::{Certificate, Constraint, Point, Ray};
 
-// The tightest point found so far on a line: the entry that makes it, by index, and the point.
+// A point on a line, and the entry that makes it, with that entry's index.
 #[derive(Clone, Copy)]
-pub enum Found {
-    Nothing,
-    At(usize, Constraint, Point),
+pub struct Met {
+    pub index: usize,
+    pub entry: Constraint,
+    pub point: Point,
 }
 
-// The first entry that a point breaks.
-#[derive(Clone, Copy)]
-pub enum Broken {
-    Nowhere,
-    At(usize, Constraint),
-}
-
-// What becomes of the start point when a constraint breaks it.
-#[derive(Clone, Copy)]
-pub enum Restart {
-    Moved(Point),
-    Failed(Certificate),
-}
-
-// The rays of the constraints so far: none, or all between two.
-#[derive(Clone, Copy)]
-pub enum Cone {
-    Empty,
-    Wedge(Ray, Ray),
-}
-
-// A ray of the cone along which the objective gains, the one of smallest slope.
-#[derive(Clone, Copy)]
-pub enum Gain {
-    Nowhere,
-    Along(Ray),
-}
-
-// The optimum so far, or that there is none since gains have no top.
-#[derive(Clone, Copy)]
-pub enum Best {
-    Open,
-    At(Point),
-}
-
-// Where the walk stands: ended at a place with its certificate, or going on with start point, cone and optimum.
+// Where the walk stands: ended at a place with its certificate, or going on with the start point, the cone of rays (all between two, or
+// none) and the optimum (none where gains have no top). These are two states and no Result: a walk that has ended has not failed, since the
+// place and the certificate are its answer.
 #[derive(Clone, Copy)]
 pub enum State {
     Ended(usize, Certificate),
-    Going(Point, Cone, Best),
+    Going(Point, Option<(Ray, Ray)>, Option<Point>),
 }
 
 // The state with document 01's two counts, and how often the start point was worked out again.

@@ -17,8 +17,8 @@ fn append_two(n: usize, out: &mut [u8], at: usize) -> usize
     requires { HasRoomForTwo n out.old at }
     ensures { Appended out.old at (two_digits n) 2 out.new result }
 {
-    let last = append_byte(48 + (n / 10) as u8, out, at);
-    append_byte(48 + (n % 10) as u8, out, last)
+    let last = append_byte(b'0' + (n / 10) as u8, out, at);
+    append_byte(b'0' + (n % 10) as u8, out, last)
 }
 
 // A number in decimal: the digits before the last two come first.
@@ -27,7 +27,7 @@ pub fn put_decimal(n: usize, out: &mut [u8], at: usize) -> usize
     ensures { Appended out.old at (decimal n) (length (decimal n)) out.new result }
 {
     if n < 10 {
-        append_byte(48 + n as u8, out, at)
+        append_byte(b'0' + n as u8, out, at)
     } else if n < 100 {
         append_two(n, out, at)
     } else {

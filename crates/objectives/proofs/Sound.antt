@@ -39,15 +39,9 @@ module _ (s : List ℕ) (i n : ℕ) (h : i < n) where
       let more : n - i ≡ suc (n - (i + 1)) = omega arith in
       ap (objectives_from s i) more ∙ ap (λ (k : ℕ). objective_at s i ∷ objectives_from s k (n - (i + 1))) (sym (add-one i))
 
-  pub bad-here : is_bad (objective_at s i) ≡ true → some_bad (objectives_from s i (n - i)) ≡ true
-  bad-here e = ap some_bad next ∙ ap (λ (b : Bool). elim b [ true ↦ true | false ↦ some_bad (objectives_from s (i + 1) (n - (i + 1))) ]) e
-
   pub bad-later : is_bad (objective_at s i) ≡ false →
       some_bad (objectives_from s i (n - i)) ≡ some_bad (objectives_from s (i + 1) (n - (i + 1)))
   bad-later e = ap some_bad next ∙ ap (λ (b : Bool). elim b [ true ↦ true | false ↦ some_bad (objectives_from s (i + 1) (n - (i + 1))) ]) e
-
-pub none_left : (s : List ℕ) (i n : ℕ) → n ≤ i → some_bad (objectives_from s i (n - i)) ≡ false
-none_left s i n h = let none : n - i ≡ 0 = omega arith in ap (λ (k : ℕ). some_bad (objectives_from s i k)) none
 
 -- one that is there is read
 pub objective-there : (s : List ℕ) (i : ℕ) → i < length s / 4 → objective_in s i ≡ objective_at s i

@@ -1,5 +1,5 @@
 -- What turns objectives back, by its number: each cause where it applies, and what it means that none does.
-use native.Mathlib.Omega.{arith}
+use Rattle.std.specs.Prelude.{Option, Some, None}
 use Prim.Native.Nat.{ℕ, ◌*◌, ◌≤◌, ◌<◌}
 use mathlib.Core.Path.{◌≡◌, refl, sym, ◌∙◌, ap}
 use mathlib.Core.Bool.{Bool, true, false, cond}
@@ -9,31 +9,38 @@ use lib.ListN.{length}
 use borrow.Author.Tests.{lt-ltb, le-ltb, ltb-false}
 use Rattle.objectives.specs.Objectives.{bad_objectives, cause_of}
 
-module _ (objectives : List ℕ) (room : ℕ) where
-  pub cause-sixteen : bad_objectives objectives ≡ true → 16 ≡ cause_of objectives room
-  cause-sixteen e = sym (ap (λ b. cond b 16 (cond (ltb room (8 * length objectives)) 11 0)) e)
+some_apart : {n : ℕ} → ◌≡◌ {A = Option ℕ} (Some n) None → ⊥
+some_apart e = cc
 
-  cause-sound : bad_objectives objectives ≡ false → cause_of objectives room ≡ cond (ltb room (8 * length objectives)) 11 0
-  cause-sound e = ap (λ b. cond b 16 (cond (ltb room (8 * length objectives)) 11 0)) e
+module _ (objectives : List ℕ) (room : ℕ) where
+  pub cause-sixteen : bad_objectives objectives ≡ true → Some 16 ≡ cause_of objectives room
+  cause-sixteen e = sym (ap (λ b. cond b (Some 16) (cond (ltb room (8 * length objectives)) (Some 11) None)) e)
+
+  cause-sound : bad_objectives objectives ≡ false →
+      cause_of objectives room ≡ cond (ltb room (8 * length objectives)) (Some 11) None
+  cause-sound e = ap (λ b. cond b (Some 16) (cond (ltb room (8 * length objectives)) (Some 11) None)) e
 
   module _ (e : bad_objectives objectives ≡ false) where
-    pub cause-eleven : room < 8 * length objectives → 11 ≡ cause_of objectives room
-    cause-eleven h = sym (cause-sound e ∙ ap (λ b. cond b 11 0) (lt-ltb room (8 * length objectives) h))
+    pub cause-eleven : room < 8 * length objectives → Some 11 ≡ cause_of objectives room
+    cause-eleven h = sym (cause-sound e ∙ ap (λ b. cond b (Some 11) None) (lt-ltb room (8 * length objectives) h))
 
-    pub cause-none : 8 * length objectives ≤ room → 0 ≡ cause_of objectives room
-    cause-none h = sym (cause-sound e ∙ ap (λ b. cond b 11 0) (le-ltb room (8 * length objectives) h))
+    pub cause-none : 8 * length objectives ≤ room → None ≡ cause_of objectives room
+    cause-none h = sym (cause-sound e ∙ ap (λ b. cond b (Some 11) None) (le-ltb room (8 * length objectives) h))
 
   -- where there is none, the objectives are sound, and the answers have room
-  pub none-sound : cause_of objectives room ≡ 0 → bad_objectives objectives ≡ false
+  pub none-sound : cause_of objectives room ≡ None → bad_objectives objectives ≡ false
   none-sound = go (bad_objectives objectives)
     where
-      go : (b : Bool) → ◌≡◌ {A = ℕ} (cond b 16 (cond (ltb room (8 * length objectives)) 11 0)) 0 → b ≡ false
-      go true z = absurd (let y : ⊥ = omega (arith, z) in y)
+      go : (b : Bool) → ◌≡◌ {A = Option ℕ} (cond b (Some 16) (cond (ltb room (8 * length objectives)) (Some 11) None)) None → b ≡ false
+      go true z = absurd (some_apart z)
       go false z = refl
 
-  pub none-room : cause_of objectives room ≡ 0 → 8 * length objectives ≤ room
+  pub none-room : cause_of objectives room ≡ None → 8 * length objectives ≤ room
   none-room z = go (ltb room (8 * length objectives)) refl (sym (cause-sound (none-sound z)) ∙ z)
     where
-      go : (b : Bool) → ltb room (8 * length objectives) ≡ b → ◌≡◌ {A = ℕ} (cond b 11 0) 0 → 8 * length objectives ≤ room
-      go true t y = absurd (let x : ⊥ = omega (arith, y) in x)
+      go : (b : Bool) →
+          ltb room (8 * length objectives) ≡ b →
+          ◌≡◌ {A = Option ℕ} (cond b (Some 11) None) None →
+          8 * length objectives ≤ room
+      go true t y = absurd (some_apart y)
       go false t y = ltb-false room (8 * length objectives) t

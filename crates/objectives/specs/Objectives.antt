@@ -1,5 +1,5 @@
 -- The objectives of a batch (request 109): four bytes each, p and then q, signed and little-endian, and what turns them back.
-use Rattle.std.specs.Prelude.{ℕ, zero, suc, ◌+◌, ◌*◌, ◌/◌, ◌%◌, Bool, true, false, cond, not, ◌||◌, List, [], ◌∷◌, eqb, ltb, length, drop, pos}
+use Rattle.std.specs.Prelude.{ℕ, zero, suc, ◌+◌, ◌*◌, ◌/◌, ◌%◌, Bool, true, false, cond, not, ◌||◌, List, [], ◌∷◌, Option, Some, None, eqb, ltb, length, drop, pos}
 use Rattle.std.specs.Int.{w16}
 use Rattle.std.proofs.Common.{to_z}
 use Rattle.lp.specs.declared.Functional.{Functional}
@@ -42,6 +42,6 @@ some_bad (f ∷ fs) = elim (is_bad f) [ true ↦ true | false ↦ some_bad fs ]
 abbrev pub bad_objectives : List ℕ → Bool
 bad_objectives s = bad_length s || some_bad (objectives_of s)
 
--- 16, then 11 for an output with so many bytes, or 0. An answer has 32 bytes and an objective 4
-abbrev pub cause_of : List ℕ → ℕ → ℕ
-cause_of objectives room = cond (bad_objectives objectives) 16 (cond (ltb room (8 * length objectives)) 11 0)
+-- 16, then 11 for an output with so many bytes, if anything. An answer has 32 bytes and an objective 4
+abbrev pub cause_of : List ℕ → ℕ → Option ℕ
+cause_of objectives room = cond (bad_objectives objectives) (Some 16) (cond (ltb room (8 * length objectives)) (Some 11) None)

@@ -10,21 +10,12 @@ ghost use Rattle.objectives.specs.Objectives.{bad_length, is_bad, some_bad, bad_
 
 use lp::Functional;
 
-// Two bytes as a signed number in two's complement, the one that counts least first: half the range up and, round the end, half the range
-// down.
-fn signed(low: u8, high: u8) -> i64
-    ensures { result ≡ to_z w16 (low + 256 * high) }
-{
-    let up = (low as u64 + 256 * high as u64 + 32768) % 65536;
-    up as i64 - 32768
-}
-
 // The number of two bytes that are there.
 fn half(bytes: &[u8], at: usize) -> i64
     requires { at + 2 ≤ length bytes.now }
     ensures { result ≡ to_z w16 (half_at bytes.now at) }
 {
-    signed(bytes[at], bytes[at + 1])
+    i64::from(i16::from_le_bytes([bytes[at], bytes[at + 1]]))
 }
 
 // The objective of four bytes that are there.
@@ -53,10 +44,7 @@ pub fn objective(bytes: &[u8], i: usize) -> Functional
 fn is_bad(f: Functional) -> bool
     ensures { result ≡ is_bad f }
 {
-    if f.p < -32767 {
-        return true;
-    }
-    f.q < -32767
+    f.p < -32767 || f.q < -32767
 }
 
 // 1 to 32 objectives, and no byte more.
@@ -64,26 +52,17 @@ fn bad_length(bytes: &[u8]) -> bool
     ensures { result ≡ bad_length bytes.now }
 {
     let length = bytes.len();
-    if length < 4 {
-        return true;
-    }
-    if 128 < length {
-        return true;
-    }
-    length % 4 != 0
+    length < 4 || 128 < length || length % 4 != 0
 }
 
 // Whether one of them is out of its range.
 fn some_bad(bytes: &[u8]) -> bool
     ensures { result ≡ some_bad (objectives_of bytes.now) }
 {
-    let n = bytes.len() / 4;
-    let mut i = 0;
-    while i < n {
+    for i in 0..bytes.len() / 4 {
         if is_bad(whole(bytes, i)) {
             return true;
         }
-        i += 1;
     }
     false
 }
@@ -92,18 +71,19 @@ fn some_bad(bytes: &[u8]) -> bool
 fn bad_objectives(bytes: &[u8]) -> bool
     ensures { result ≡ bad_objectives bytes.now }
 {
-    if bad_length(bytes) {
-        return true;
-    }
-    some_bad(bytes)
+    bad_length(bytes) || some_bad(bytes)
 }
 
-// What turns objectives back, for an output with so many bytes: 16, then 11; 0 if nothing does.
-pub fn cause(objectives: &[u8], room: usize) -> u8
+// What turns objectives back, for an output with so many bytes: 16, then 11, if anything does.
+pub fn cause(objectives: &[u8], room: usize) -> Option<u8>
     ensures { result ≡ cause_of objectives.now room }
 {
     if bad_objectives(objectives) {
-        return 16;
+        return Some(16);
     }
-    if room < 8 * objectives.len() { 11 } else { 0 }
+    if room < 8 * objectives.len() {
+        Some(11)
+    } else {
+        None
+    }
 }

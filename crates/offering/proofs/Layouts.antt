@@ -1,4 +1,5 @@
 -- The corners that the boundary lists, as the first points of a run: they are the feasible vertices of the system, and within the bounds.
+use Rattle.std.specs.Prelude.{Option, Some}
 use mathlib.Core.Path.{◌≡◌, refl, sym, ◌∙◌, ap, subst}
 use mathlib.Core.List.{List, ◌∷◌, map, Memᴰ}
 use mathlib.Core.Logic.{◌↔◌}
@@ -16,8 +17,6 @@ use Rattle.model.specs.Bounds.{SmallPoint}
 use Rattle.theory.proofs.Enumeration.{allowed_vertices, vertex_of}
 use Rattle.engine.specs.Entries.{entries}
 use Rattle.amounts.proofs.Tests.{floors-small}
-use Rattle.region.specs.declared.Listed.{Listed}
-use Rattle.region.specs.declared.Listed.TheVariants as listed
 use Rattle.region.specs.Listing.{corners_of}
 use Rattle.region.proofs.Theorems.{places, listed-exactly}
 use Rattle.region.proofs.Frames.{framed-length}
@@ -58,10 +57,10 @@ module _ (l : List ℤ) where
 
 module _
     (f : Floors) (e : List ℤ) (order ring : List ℕ) (corners : List ℤ)
-    {r : Listed} {e' : List ℤ} {order' ring' : List ℕ} {corners' : List ℤ}
+    {r : Option ℕ} {e' : List ℤ} {order' ring' : List ℕ} {corners' : List ℤ}
     (h : Lays f e order ring corners r e' order' ring' corners')
     (as_long : length corners' ≡ length corners)
-    (k : ℕ) (q : r ≡ listed.Corners k) where
+    (k : ℕ) (q : r ≡ Some k) where
   abbrev n : ℕ
   n = length order
 

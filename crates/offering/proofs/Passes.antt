@@ -1,5 +1,6 @@
 -- The passes over the rules, for their rays, and over the corners, for the first of them: what is left of a pass gives, with what is held
 -- so far, the answer of the whole. One record says so for each loop, with its start, its step and its end.
+use Rattle.std.specs.Prelude.{Option}
 use mathlib.Core.Path.{◌≡◌, sym, ◌∙◌, ap, subst}
 use mathlib.Core.List.{List, ◌∷◌}
 use mathlib.Core.Bool.{Bool, true, false}
@@ -12,7 +13,7 @@ use Rattle.lp.specs.declared.Functional.{Functional}
 use Rattle.lp.specs.declared.Point.{Point}
 use Rattle.lp.specs.Outcome.{pick, better}
 use Rattle.lp.specs.Range.{SmallConstraint, SmallSystem}
-use Rattle.model.specs.declared.Cone.{Cone}
+use Rattle.lp.specs.declared.Ray.{Ray}
 use Rattle.model.specs.Step.{narrow}
 use Rattle.model.specs.Bounds.{SmallPoint, SmallCone}
 use Rattle.model.proofs.Bounds.{narrow-small, axes-small}
@@ -25,7 +26,7 @@ use Rattle.offering.specs.Asked.{Ruled, Points}
 
 -- ---- the rays
 
-pub record Narrowed (l : List ℤ) (n : ℕ) (cone : Cone) (i : ℕ) : Type 0 where
+pub record Narrowed (l : List ℤ) (n : ℕ) (cone : Option (Ray × Ray)) (i : ℕ) : Type 0 where
   pub inside : i ≤ n + 2
   pub rays : SmallCone cone
   pub left-small : SmallSystem (entries l i (n + 2 - i))
@@ -43,7 +44,7 @@ narrowed-start {l} {n} h =
     all : n + 2 - 2 ≡ n
     all = omega arith
 
-module _ {l : List ℤ} {n : ℕ} {cone : Cone} {i : ℕ} (t : Narrowed l n cone i) where
+module _ {l : List ℤ} {n : ℕ} {cone : Option (Ray × Ray)} {i : ℕ} (t : Narrowed l n cone i) where
   module _ (b : i < n + 2) where
     pub narrowed-room : Ruled n l → Room l i
     narrowed-room h = record { room = omega (arith, h.room) }
@@ -55,7 +56,7 @@ module _ {l : List ℤ} {n : ℕ} {cone : Cone} {i : ℕ} (t : Narrowed l n cone
       pub narrowing : Narrowing h cone
       narrowing = record { constraint = subst SmallConstraint (sym eh) both_small.0; rays = t.rays }
 
-      pub narrowed-step : {r : Cone} → r ≡ narrow h cone → Narrowed l n r (i + 1)
+      pub narrowed-step : {r : Option (Ray × Ray)} → r ≡ narrow h cone → Narrowed l n r (i + 1)
       narrowed-step {r} er =
           subst (λ (j : ℕ). Narrowed l n r j) (sym (add-one i))
           (record {

@@ -1,4 +1,5 @@
 -- What an objective is answered from the corners and rays of a region is what a plan would give.
+use Rattle.std.specs.Prelude.{Option, None, Some}
 use mathlib.Core.Path.{◌≡◌, refl, sym, ◌∙◌, ap, subst}
 use mathlib.Core.List.{List, [], ◌∷◌, Memᴰ}
 use mathlib.Core.Logic.{◌↔◌}
@@ -13,9 +14,6 @@ use Rattle.lp.specs.declared.Ray.{Ray}
 use Rattle.lp.specs.Program.{system}
 use Rattle.lp.specs.Outcome.{tie_order, gain_order}
 use Rattle.lp.specs.Document.{tie}
-use Rattle.model.specs.declared.Cone.{Cone}
-use Rattle.model.specs.declared.Gain.{Gain}
-use Rattle.model.specs.declared.Gain.TheVariants as gain
 use Rattle.model.specs.Step.{gaining}
 use Rattle.theory.proofs.Ties.{tie_good}
 use Rattle.theory.proofs.Enumeration.{allowed_vertices}
@@ -27,7 +25,7 @@ use Rattle.offering.proofs.Written.{answers-planned}
 
 -- ---- with corners in a run
 
-module _ (cone : Cone) (l : List ℤ) (f : Functional) where
+module _ (cone : Option (Ray × Ray)) (l : List ℤ) (f : Functional) where
   pub offer-none : {n : ℕ} → n ≡ 0 → offer 3 nowhere ≡ offer_in cone (points_from l 0 n) f
   offer-none e = sym (ap (λ (m : ℕ). offer_in cone (points_from l 0 m) f) e)
 
@@ -44,25 +42,27 @@ module _ (cone : Cone) (l : List ℤ) (f : Functional) where
       more : n ≡ suc (n - 1)
       more = omega arith
 
-  module _ (n : ℕ) (some : 0 < n) {g : Gain} (eg : g ≡ gaining f cone) where
+  module _ (n : ℕ) (some : 0 < n) {g : Option Ray} (eg : g ≡ gaining f cone) where
     pub offer-unlimited : {d : Ray} →
-        g ≡ gain.Along d →
+        g ≡ Some d →
         {start : Point} →
         start ≡ first_by (tie_order tie) (points_from l 0 n) →
         offer 2 start ≡ offer_in cone (points_from l 0 n) f
     offer-unlimited {d} e es =
         ap (offer 2) es
-        ∙ ap (λ (h : Gain). offer_along h (first_by (tie_order tie) (points_from l 0 n)) (first_by (gain_order f tie) (points_from l 0 n)))
+        ∙ ap
+        (λ (h : Option Ray). offer_along h (first_by (tie_order tie) (points_from l 0 n)) (first_by (gain_order f tie) (points_from l 0 n)))
         (sym e ∙ eg)
         ∙ offer-some some
 
-    pub offer-best : g ≡ gain.Nowhere →
+    pub offer-best : g ≡ None →
         {best : Point} →
         best ≡ first_by (gain_order f tie) (points_from l 0 n) →
         offer 1 best ≡ offer_in cone (points_from l 0 n) f
     offer-best e eb =
         ap (offer 1) eb
-        ∙ ap (λ (h : Gain). offer_along h (first_by (tie_order tie) (points_from l 0 n)) (first_by (gain_order f tie) (points_from l 0 n)))
+        ∙ ap
+        (λ (h : Option Ray). offer_along h (first_by (tie_order tie) (points_from l 0 n)) (first_by (gain_order f tie) (points_from l 0 n)))
         (sym e ∙ eg)
         ∙ offer-some some
 
@@ -76,14 +76,14 @@ module _ (floors : Floors) (rules : List Constraint) where
   offer-planned [] exactly f = sym (ap offer_of (none-impossible tie tie_good floors f rules [] exactly refl))
   offer-planned (v ∷ vs) exactly f = go (gaining f (rays_of rules)) refl
     where
-      go : (g : Gain) →
+      go : (g : Option Ray) →
           gaining f (rays_of rules) ≡ g →
           offer_along g (first_by (tie_order tie) (v ∷ vs)) (first_by (gain_order f tie) (v ∷ vs)) ≡ offer_for floors rules f
-      go (gain.Along d) e = sym (ap offer_of (gaining-unlimited tie tie_good floors f rules (v ∷ vs) exactly v vs refl d e).1)
-      go gain.Nowhere e = sym (ap offer_of (resting_best tie tie_good floors f rules (v ∷ vs) exactly v vs refl e))
+      go (Some d) e = sym (ap offer_of (gaining-unlimited tie tie_good floors f rules (v ∷ vs) exactly v vs refl d e).1)
+      go None e = sym (ap offer_of (resting_best tie tie_good floors f rules (v ∷ vs) exactly v vs refl e))
 
   -- all of them, from the corners that were laid out
-  pub answers-laid : {cone : Cone} →
+  pub answers-laid : {cone : Option (Ray × Ray)} →
       cone ≡ rays_of rules →
       (vs : List Point) →
       ((v : Point) → Memᴰ v vs ↔ Memᴰ v (allowed_vertices (system floors rules))) →
@@ -91,4 +91,4 @@ module _ (floors : Floors) (rules : List Constraint) where
       answers_by (offer_in cone vs) fs ≡ answers_for floors rules fs
   answers-laid {cone} e vs exactly =
       answers-planned (offer_in cone vs) floors rules
-      (λ f. ap (λ (c : Cone). offer_in c vs f) e ∙ offer-planned vs exactly f)
+      (λ f. ap (λ (c : Option (Ray × Ray)). offer_in c vs f) e ∙ offer-planned vs exactly f)

@@ -1,5 +1,6 @@
 -- Products and sums of what a corner earns, and of rules and objectives along rays, fit 64 bits; an i64 that a call took or handed back is
 -- read from its bits.
+use Rattle.std.specs.Prelude.{Option}
 use mathlib.Core.Path.{◌≡◌, sym, ◌∙◌, subst}
 use mathlib.Core.Bool.{Bool, true, ◌&&◌}
 use mathlib.Core.List.{List, [], ◌∷◌, Memᴰ}
@@ -18,7 +19,6 @@ use Rattle.lp.specs.declared.Ray.{Ray}
 use Rattle.lp.specs.Program.{gain, system}
 use Rattle.lp.specs.Corners.{less}
 use Rattle.lp.specs.Range.{SmallConstraint, SmallFloors, SmallSystem}
-use Rattle.model.specs.declared.Cone.{Cone}
 use Rattle.model.specs.Step.{narrow}
 use Rattle.model.specs.Bounds.{SmallPoint, SmallCone}
 use Rattle.model.proofs.Bounds.{floorX-small, floorY-small, meet-small, reduce-small, narrow-small, axes-small}
@@ -120,9 +120,10 @@ module _ {floors : Floors} (rules : List Constraint) (low : SmallFloors floors) 
       subst SmallPoint (sym x.lowest)
       (reduce-small (meet-small (entry-small x.one x.one-member) (entry-small x.other x.other-member) x.crosses))
 
-narrowed-small : (rules : List Constraint) → SmallSystem rules → (cone : Cone) → SmallCone cone → SmallCone (narrow_all rules cone)
-narrowed-small [] h cone c = c
-narrowed-small (r ∷ rules) h cone c = narrowed-small rules h.1 (narrow r cone) (narrow-small h.0 cone c)
+narrowed-small :
+    (rules : List Constraint) → SmallSystem rules → (rays : Option (Ray × Ray)) → SmallCone rays → SmallCone (narrow_all rules rays)
+narrowed-small [] h rays c = c
+narrowed-small (r ∷ rules) h rays c = narrowed-small rules h.1 (narrow r rays) (narrow-small h.0 rays c)
 
 pub rays-small : (rules : List Constraint) → SmallSystem rules → SmallCone (rays_of rules)
 rays-small rules h = narrowed-small rules h axes axes-small

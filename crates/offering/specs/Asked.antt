@@ -1,20 +1,18 @@
 -- What private functions ask of numbers and runs, one record for each, and what they hand back.
-use Rattle.std.specs.Prelude.{◌≡◌, false, List, ◌++◌, ℕ, ◌+◌, ◌*◌, ◌≤◌, ◌<◌, length, drop, ℤ}
+use Rattle.std.specs.Prelude.{◌≡◌, false, List, ◌++◌, ℕ, ◌+◌, ◌*◌, ◌≤◌, ◌<◌, length, drop, ℤ, Option, None, Some, Result, Ok, Err}
 use Rattle.ints.specs.Within.{Within}
 use Rattle.lp.specs.declared.Functional.{Functional}
 use Rattle.lp.specs.declared.Point.{Point}
 use Rattle.lp.specs.Outcome.{tie_order}
 use Rattle.lp.specs.Document.{tie}
 use Rattle.lp.specs.Range.{SmallFunctional, SmallSystem}
-use Rattle.model.specs.declared.Cone.{Cone}
+use Rattle.lp.specs.declared.Ray.{Ray}
 use Rattle.model.specs.Bounds.{SmallPoint, SmallCone}
 use Rattle.engine.specs.Entries.{entries}
-use Rattle.region.specs.declared.Listed.{Listed}
-use Rattle.region.specs.declared.Listed.TheVariants as listed
 use Rattle.batch_theory.specs.Rays.{rays_of}
 use Rattle.objectives.specs.Objectives.{objectives_of, bad_objectives}
-use Rattle.offering.specs.declared.Answered.{Answered}
-use Rattle.offering.specs.declared.Answered.TheVariants as answered
+use Rattle.offering.specs.declared.Unanswered.{Unanswered}
+use Rattle.offering.specs.declared.Unanswered.TheVariants as unanswered
 use Rattle.offering.specs.Listed.{point_at, points_from, first_by, offer_in, answers_by}
 
 -- ---- numbers
@@ -56,13 +54,13 @@ pub record Picking (f : Functional) (l : List ℤ) (n : ℕ) : Type 0 where
   pub points : Points l n
 
 -- the start pair is the first corner by the tie alone
-pub record Offering (f : Functional) (cone : Cone) (start : Point) (l : List ℤ) (n : ℕ) : Type 0 where
+pub record Offering (f : Functional) (cone : Option (Ray × Ray)) (start : Point) (l : List ℤ) (n : ℕ) : Type 0 where
   pub functional : SmallFunctional f
   pub rays : SmallCone cone
   pub points : Points l n
   pub first : start ≡ first_by (tie_order tie) (points_from l 0 n)
 
-pub record Filling (cone : Cone) (l : List ℤ) (n : ℕ) (objectives out : List ℕ) : Type 0 where
+pub record Filling (cone : Option (Ray × Ray)) (l : List ℤ) (n : ℕ) (objectives out : List ℕ) : Type 0 where
   pub rays : SmallCone cone
   pub points : Points l n
   pub sound : bad_objectives objectives ≡ false
@@ -75,21 +73,22 @@ pub record Listing (n k : ℕ) (run corners : List ℤ) : Type 0 where
   pub ruled : Ruled n run
   pub points : Points corners k
 
-pub record Filled (l : Listed) (n : ℕ) (run corners : List ℤ) (objectives out : List ℕ) : Type 0 where
-  pub inside : (k : ℕ) → l ≡ listed.Corners k → Listing n k run corners
+pub record Filled (l : Option ℕ) (n : ℕ) (run corners : List ℤ) (objectives out : List ℕ) : Type 0 where
+  pub inside : (k : ℕ) → l ≡ Some k → Listing n k run corners
   pub sound : bad_objectives objectives ≡ false
   pub room : 8 * length objectives ≤ length out
 
-abbrev pub answered_of : Listed → ℕ → Answered
-answered_of listed.Outside filled = answered.Outside
-answered_of (listed.Corners k) filled = answered.Filled filled
+abbrev pub answered_of : Option ℕ → ℕ → Result ℕ Unanswered
+answered_of None filled = Err unanswered.Outside
+answered_of (Some k) filled = Ok filled
 
 -- the answers by the corners and the rays, and then what was there
-abbrev pub filled_of : Listed → ℕ → List ℤ → List ℤ → List ℕ → List ℕ → List ℕ
-filled_of listed.Outside n run corners objectives out = out
-filled_of (listed.Corners k) n run corners objectives out =
+abbrev pub filled_of : Option ℕ → ℕ → List ℤ → List ℤ → List ℕ → List ℕ → List ℕ
+filled_of None n run corners objectives out = out
+filled_of (Some k) n run corners objectives out =
     answers_by (offer_in (rays_of (entries run 2 n)) (points_from corners 0 k)) (objectives_of objectives) ++ drop (8 * length objectives) out
 
-pub record Fills (l : Listed) (n : ℕ) (run corners : List ℤ) (objectives out : List ℕ) (r : Answered) (out' : List ℕ) : Type 0 where
+pub record Fills
+    (l : Option ℕ) (n : ℕ) (run corners : List ℤ) (objectives out : List ℕ) (r : Result ℕ Unanswered) (out' : List ℕ) : Type 0 where
   pub answer : r ≡ answered_of l (8 * length objectives)
   pub output : out' ≡ filled_of l n run corners objectives out

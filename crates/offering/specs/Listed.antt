@@ -1,14 +1,12 @@
 -- Corners as points in a run of numbers, three to a point; the first of them in an order; and what an objective is answered by a list of
 -- corners and the rays of the region. That this is what a plan would give is a theorem (proofs/Planned.antt).
-use Rattle.std.specs.Prelude.{ℕ, zero, suc, ◌+◌, ◌*◌, true, false, List, [], ◌∷◌, ◌++◌, get_or, ℤ, pos}
+use Rattle.std.specs.Prelude.{ℕ, zero, suc, ◌+◌, ◌*◌, true, false, List, [], ◌∷◌, ◌++◌, get_or, ℤ, pos, Option, None, Some}
 use Rattle.lp.specs.declared.Functional.{Functional}
 use Rattle.lp.specs.declared.Point.{Point}
 use Rattle.lp.specs.Program.{point}
 use Rattle.lp.specs.Outcome.{pick, better, tie_order, gain_order}
 use Rattle.lp.specs.Document.{tie}
-use Rattle.model.specs.declared.Cone.{Cone}
-use Rattle.model.specs.declared.Gain.{Gain}
-use Rattle.model.specs.declared.Gain.TheVariants as gain
+use Rattle.lp.specs.declared.Ray.{Ray}
 use Rattle.model.specs.Step.{gaining}
 use Rattle.offering.specs.declared.offers.Offer.{Offer}
 use Rattle.offering.specs.Offers.{offer, offer_bytes}
@@ -34,13 +32,13 @@ first_by fs [] = nowhere
 first_by fs (v ∷ vs) = pick (better fs) v vs
 
 -- with the start pair and the best pair at hand
-abbrev pub offer_along : Gain → Point → Point → Offer
-offer_along (gain.Along d) start best = offer 2 start
-offer_along gain.Nowhere start best = offer 1 best
+abbrev pub offer_along : Option Ray → Point → Point → Offer
+offer_along (Some d) start best = offer 2 start
+offer_along None start best = offer 1 best
 
-abbrev pub offer_in : Cone → List Point → Functional → Offer
-offer_in cone [] f = offer 3 nowhere
-offer_in cone (v ∷ vs) f = offer_along (gaining f cone) (first_by (tie_order tie) (v ∷ vs)) (first_by (gain_order f tie) (v ∷ vs))
+abbrev pub offer_in : Option (Ray × Ray) → List Point → Functional → Offer
+offer_in rays [] f = offer 3 nowhere
+offer_in rays (v ∷ vs) f = offer_along (gaining f rays) (first_by (tie_order tie) (v ∷ vs)) (first_by (gain_order f tie) (v ∷ vs))
 
 -- the answers' bytes, where each objective is answered so
 unfoldable pub answers_by : (Functional → Offer) → List Functional → List ℕ

@@ -14,16 +14,15 @@ use lp::Floors;
 use objectives::cause;
 use offers::offer_all;
 
-// Outside: some number is out of its range, or a run has no room. Declined: the number of the cause. Filled: so many bytes of the output.
+// Why objectives get no answers. Outside: some number is out of its range, or a run has no room. Declined: the number of the cause.
 #[derive(Clone, Copy)]
-pub enum Answered {
+pub enum Unanswered {
     Outside,
     Declined(u8),
-    Filled(usize),
 }
 
 // The answers to up to 32 objectives, 32 bytes each, at the start of the output, for the rules that stand in the run from its seventh
-// number on, as many as the order is long. What is turned back leaves the output as it was.
+// number on, as many as the order is long; and how many bytes they are. What is turned back leaves the output as it was.
 pub fn answer(
     floors: Floors,
     run: &mut [i64],
@@ -32,14 +31,13 @@ pub fn answer(
     corners: &mut [i64],
     objectives: &[u8],
     out: &mut [u8],
-) -> Answered
+) -> Result<usize, Unanswered>
     ensures { Answers floors run.old order.old ring.old corners.old
         objectives.now out.old result run.new order.new ring.new corners.new
         out.new }
 {
-    let number = cause(objectives, out.len());
-    if number != 0 {
-        return Answered::Declined(number);
+    if let Some(number) = cause(objectives, out.len()) {
+        return Err(Unanswered::Declined(number));
     }
     let n = order.len();
     let listed = laying::lay(floors, &mut *run, order, ring, &mut *corners, true);

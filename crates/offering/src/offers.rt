@@ -4,13 +4,11 @@ ghost use Rattle.objectives.specs.Objectives.{objectives_of};
 ghost use Rattle.offering.specs.Listed.{points_from, offer_in, answers_by};
 ghost use Rattle.offering.specs.Asked.{Offering, Filling, Filled, Fills};
 
-use crate::Answered;
+use crate::Unanswered;
 use crate::picks::best;
 use crate::rays::{gaining, rays};
-use lp::{Functional, Point};
-use model::{Cone, Gain};
+use lp::{Functional, Point, Ray};
 use objectives::objective;
-use region::Listed;
 
 // What an objective is answered: 1 best, 2 unlimited, 3 impossible, and the pair.
 #[derive(Clone, Copy)]
@@ -20,7 +18,13 @@ pub struct Offer {
 }
 
 // Of one objective. Without a corner nothing is allowed. Along a ray that gains there is no best, and the start pair is answered.
-fn offered(f: Functional, cone: Cone, start: Point, corners: &[i64], count: usize) -> Offer
+fn offered(
+    f: Functional,
+    cone: Option<(Ray, Ray)>,
+    start: Point,
+    corners: &[i64],
+    count: usize,
+) -> Offer
     requires { Offering f cone start corners.now count }
     ensures { result ≡ offer_in cone (points_from corners.now 0 count) f }
 {
@@ -31,11 +35,11 @@ fn offered(f: Functional, cone: Cone, start: Point, corners: &[i64], count: usiz
         };
     }
     match gaining(f, cone) {
-        Gain::Along(_) => Offer {
+        Some(_) => Offer {
             outcome: 2,
             point: start,
         },
-        Gain::Nowhere => Offer {
+        None => Offer {
             outcome: 1,
             point: best(f, corners, count),
         },
@@ -43,39 +47,37 @@ fn offered(f: Functional, cone: Cone, start: Point, corners: &[i64], count: usiz
 }
 
 // Of all objectives, one after the other. The start pair is the first corner for an objective that earns nothing anywhere.
-fn fill(cone: Cone, corners: &[i64], count: usize, objectives: &[u8], out: &mut [u8])
+fn fill(cone: Option<(Ray, Ray)>, corners: &[i64], count: usize, objectives: &[u8], out: &mut [u8])
     requires { Filling cone corners.now count objectives.now out.old }
     ensures { out.new ≡ answers_by (offer_in cone (points_from corners.now 0 count))
         (objectives_of objectives.now) ++ drop (8 * length objectives.now) out.old }
 {
     let start = best(Functional { p: 0, q: 0 }, corners, count);
     let total = objectives.len() / 4;
-    let mut i = 0;
-    while i < total {
+    for i in 0..total {
         let o = offered(objective(objectives, i), cone, start, corners, count);
         cells::put_answer(&mut *out, 32 * i, o.outcome, o.point);
-        i += 1;
     }
 }
 
 // With what was listed: the rays of the rules, and the answers.
 pub fn offer_all(
-    listed: Listed,
+    listed: Option<usize>,
     run: &[i64],
     n: usize,
     corners: &[i64],
     objectives: &[u8],
     out: &mut [u8],
-) -> Answered
+) -> Result<usize, Unanswered>
     requires { Filled listed n run.now corners.now objectives.now out.old }
     ensures { Fills listed n run.now corners.now objectives.now out.old
         result out.new }
 {
     match listed {
-        Listed::Outside => Answered::Outside,
-        Listed::Corners(count) => {
+        None => Err(Unanswered::Outside),
+        Some(count) => {
             fill(rays(run, n), corners, count, objectives, out);
-            Answered::Filled(8 * objectives.len())
+            Ok(8 * objectives.len())
         }
     }
 }

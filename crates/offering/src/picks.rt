@@ -80,10 +80,8 @@ pub fn best(f: Functional, corners: &[i64], count: usize) -> Point
         return Point { x: 0, y: 0, d: 0 };
     }
     let mut v = corner(corners, 0);
-    let mut i = 1;
-    while i < count {
+    for i in 1..count {
         v = chosen(f, corner(corners, i), v);
-        i += 1;
     }
     v
 }

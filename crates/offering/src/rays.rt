@@ -8,7 +8,6 @@ ghost use Rattle.offering.specs.Asked.{Ruled};
 
 use crate::exact::{backward, direction, gains, stays};
 use lp::{Constraint, Functional, Ray};
-use model::{Cone, Gain};
 
 // The rule at an index.
 fn entry(run: &[i64], k: usize) -> Constraint
@@ -24,54 +23,48 @@ fn entry(run: &[i64], k: usize) -> Constraint
 }
 
 // A rule takes away one side of the rays.
-fn narrow(h: Constraint, cone: Cone) -> Cone
+fn narrow(h: Constraint, cone: Option<(Ray, Ray)>) -> Option<(Ray, Ray)>
     requires { Narrowing h cone }
     ensures { result ≡ narrow_of h cone }
 {
-    let Cone::Wedge(lo, hi) = cone else {
-        return Cone::Empty;
-    };
+    let (lo, hi) = cone?;
     if stays(h, lo) {
         if stays(h, hi) {
-            Cone::Wedge(lo, hi)
+            Some((lo, hi))
         } else {
-            Cone::Wedge(lo, direction(h))
+            Some((lo, direction(h)))
         }
     } else if stays(h, hi) {
-        Cone::Wedge(backward(h), hi)
+        Some((backward(h), hi))
     } else {
-        Cone::Empty
+        None
     }
 }
 
 // The rays of n rules, which stand after the floors: all of the quadrant at first.
-pub fn rays(run: &[i64], n: usize) -> Cone
+pub fn rays(run: &[i64], n: usize) -> Option<(Ray, Ray)>
     requires { Ruled n run.now }
     ensures { result ≡ rays_of (entries run.now 2 n) }
 {
     let end = n + 2;
-    let mut cone = Cone::Wedge(Ray { dx: 1, dy: 0 }, Ray { dx: 0, dy: 1 });
-    let mut i = 2;
-    while i < end {
+    let mut cone = Some((Ray { dx: 1, dy: 0 }, Ray { dx: 0, dy: 1 }));
+    for i in 2..end {
         cone = narrow(entry(run, i), cone);
-        i += 1;
     }
     cone
 }
 
 // A ray along which the objective gains, if there is one.
-pub fn gaining(f: Functional, cone: Cone) -> Gain
+pub fn gaining(f: Functional, cone: Option<(Ray, Ray)>) -> Option<Ray>
     requires { Gaining f cone }
     ensures { result ≡ gaining_of f cone }
 {
-    let Cone::Wedge(lo, hi) = cone else {
-        return Gain::Nowhere;
-    };
+    let (lo, hi) = cone?;
     if gains(f, lo) {
-        Gain::Along(lo)
+        Some(lo)
     } else if gains(f, hi) {
-        Gain::Along(hi)
+        Some(hi)
     } else {
-        Gain::Nowhere
+        None
     }
 }

@@ -1,27 +1,22 @@
 -- What the view leaves in a lent buffer and hands back, from what the planner answers.
-use mathlib.Core.Path.{◌≡◌, sym, ◌∙◌, ap}
+use mathlib.Core.Path.{◌∙◌, ap}
 use mathlib.Core.List.{List}
 use Prim.Native.Nat.{ℕ}
 use lib.IntN.{ℤ}
 use Rattle.records.specs.Layout.{Layout}
-use Rattle.book.specs.Reading.{read_of}
+use Rattle.std.proofs.Common.{Result}
+use Rattle.answers.specs.declared.Refusal.{Refusal}
 use Rattle.planner.specs.declared.StartView.{StartView}
-use Rattle.planner.specs.View.{view_of, Views}
-use Rattle.handed.specs.Told.{told_of}
-use Rattle.handed.specs.Start.{put_point, StartPut}
+use Rattle.planner.specs.View.{Views}
+use Rattle.handed.specs.Start.{view_told, StartPut}
 use Rattle.one_book.specs.Loaded.{StartWritten}
 
-module _ (L : Layout) (s : List ℕ) (k : ℕ) (v : StartView) (h : Views L s k v) where
-  number_same : v.refusal.number ≡ (view_of (read_of L s) k).refusal.number
-  number_same = ap (λ (x : StartView). x.refusal.number) h.answer
-
-  pub start_seen : (before after : List ℤ) (n : ℕ) →
-      StartPut v.refusal v.restarts v.point before after n →
-      StartWritten L s k before after n
+module _ (L : Layout) (s : List ℕ) (k : ℕ) (v : Result StartView Refusal) (h : Views L s k v) where
+  pub start_seen : (before after : List ℤ) (n : ℕ) → StartPut v before after n → StartWritten L s k before after n
   start_seen before after n p =
       record {
-        written = λ clear room. p.written (number_same ∙ clear) room ∙ ap (λ (x : StartView). put_point before x.point) h.answer;
-        refused-untouched = λ z. p.refused-untouched (λ e. z (sym number_same ∙ e));
+        written = λ w e room. p.written w (h.answer ∙ e) room;
+        refused-untouched = λ r e. p.refused-untouched r (h.answer ∙ e);
         short-untouched = p.short-untouched;
-        told = p.told ∙ ap (λ (x : StartView). told_of x.refusal x.restarts) h.answer;
+        told = p.told ∙ ap view_told h.answer;
       }

@@ -8,7 +8,7 @@ use native.Mathlib.Omega.{arith}
 use lib.ListN.{length, take, drop, length-append}
 use lib.IntN.{ℤ}
 use Rattle.lp.specs.declared.Terms.{Terms}
-use Rattle.lp.specs.Start.{Start, none, at, start_of, restarts}
+use Rattle.lp.specs.Start.{restarts}
 use Rattle.lp.specs.Document.{tie}
 use Rattle.records.specs.Layout.{Layout, v2}
 use Rattle.book.specs.Reading.{Reading, refused, accepted, Entry, read_of, rules_of}
@@ -17,37 +17,39 @@ use Rattle.repacker.specs.Promises.{repacked_of, output_of}
 use Rattle.book.proofs.Causes.{refusal-number}
 use Rattle.book.proofs.Bounds.{chain-count, count_room}
 use Rattle.repacker.proofs.RepackLaws.{declined-number, repacked-length}
-use Rattle.planner.specs.View.{unseen, viewed, view_of}
+use Rattle.std.proofs.Common.{Ok}
+use Rattle.answers.specs.Refusal.{refusal}
+use Rattle.planner.specs.declared.StartView.{StartView}
+use Rattle.planner.specs.View.{start_view, view_of}
 use Rattle.planner.proofs.Seen.{restarts-seen, restarts-within}
 use Rattle.one_book.specs.Loaded.{StartWritten, RepackWritten}
 use Rattle.handed.specs.Told.{told_of}
-use Rattle.handed.proofs.Buffers.{told-refused}
-
-told-viewed : (x : Start) (n : ℕ) → told_of (viewed x n).refusal (viewed x n).restarts ≡ (viewed x n).restarts
-told-viewed none n = refl
-told-viewed (at s) n = refl
+use Rattle.handed.specs.Start.{view_told}
 
 module _ (L : Layout) (s : List ℕ) (k : ℕ) (before after : List ℤ) (n : ℕ) (h : StartWritten L s k before after n) where
   module _ (t : Terms) (es : List Entry) (e : read_of L s ≡ accepted t es) where
-    told-count : n ≡ (view_of (read_of L s) k).restarts
-    told-count =
-        h.told
-        ∙ ap (λ (r : Reading). told_of (view_of r k).refusal (view_of r k).restarts) e
-        ∙ told-viewed (start_of tie t.floors (take k (rules_of es))) (restarts tie t.floors (take k (rules_of es)))
-        ∙ sym (ap (λ (r : Reading). (view_of r k).restarts) e)
+    abbrev view : StartView
+    view = start_view t.floors (take k (rules_of es))
+
+    told-count : n ≡ view.restarts
+    told-count = h.told ∙ ap (λ (r : Reading). view_told (view_of r k)) e
 
     pub count-told : n ≡ restarts tie t.floors (take k (rules_of es))
-    count-told = told-count ∙ restarts-seen L s k (view_of (read_of L s) k) (record { answer = refl }) t es e
+    count-told = told-count ∙ restarts-seen L s k (Ok view) (record { answer = sym (ap (λ (r : Reading). view_of r k) e) }) t es e view refl
 
     pub count_small : n < L.records
-    count_small = omega (arith, told-count, restarts-within L s k (view_of (read_of L s) k) (record { answer = refl }) t es e)
+    count_small =
+        omega (
+          arith,
+          told-count,
+          restarts-within L s k (Ok view) (record { answer = sym (ap (λ (r : Reading). view_of r k) e) }) t es e view refl,
+        )
 
   module _ (m r : ℕ) (e : read_of L s ≡ refused m r) where
     pub refusal-told : n ≡ 65536 * m + r
     refusal-told =
         h.told
-        ∙ ap (λ (r : Reading). told_of (view_of r k).refusal (view_of r k).restarts) e
-        ∙ sym (told-refused (unseen m r).refusal 0 (refusal-number L s e))
+        ∙ ap (λ (y : Reading). view_told (view_of y k)) e
 
     pub refusal_large : 65536 ≤ n
     refusal_large = omega (arith, refusal-told, some m (refusal-number L s e))
@@ -58,8 +60,8 @@ module _ (L : Layout) (s : List ℕ) (k : ℕ) (before after : List ℤ) (n : �
 -- ---- the repacker
 
 module _ (L : Layout) (s before after : List ℕ) (n : ℕ) (h : RepackWritten L s before after n) where
-  told_packing : {x : Packing} → repack_of L s (length before) ≡ x → n ≡ told_of (repacked_of x).refusal (repacked_of x).filled
-  told_packing e = h.told ∙ ap (λ (x : Packing). told_of (repacked_of x).refusal (repacked_of x).filled) e
+  told_packing : {x : Packing} → repack_of L s (length before) ≡ x → n ≡ told_of (repacked_of x)
+  told_packing e = h.told ∙ ap (λ (x : Packing). told_of (repacked_of x)) e
 
   -- a count is that of the repacked form's bytes, and they stand at the start of the buffer
   module _ (bs : List ℕ) (e : repack_of L s (length before) ≡ packed bs) where
@@ -96,13 +98,8 @@ module _ (L : Layout) (s before after : List ℕ) (n : ℕ) (h : RepackWritten L
 
   -- a refusal is its number and record, and the buffer is as it was
   module _ (k i : ℕ) (e : repack_of L s (length before) ≡ declined k i) where
-    some_number : (k : ℕ) → 1 ≤ k → k ≡ 0 → ⊥
-    some_number k p z = omega arith
-
     pub declined-told : n ≡ 65536 * k + i
-    declined-told =
-        told_packing e
-        ∙ sym (told-refused (repacked_of (declined k i)).refusal 0 (some_number k (declined-number L s (length before) e)))
+    declined-told = told_packing e
 
     pub declined_large : 65536 ≤ n
     declined_large = omega (arith, declined-told, declined-number L s (length before) e)

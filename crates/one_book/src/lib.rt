@@ -25,7 +25,7 @@ pub fn start_numbers(version: Version, book: &[u8], prefix: usize, out: &mut [i6
     ensures { StartWritten (layout_of version) book.now prefix out.old out.new result }
 {
     let seen = planner::start_after(version, book, prefix);
-    put_start(seen.refusal, seen.restarts, seen.point, out)
+    put_start(seen, out)
 }
 
 // The repacked form of a book, always version 2, at the start of a buffer, and how many bytes it has. A book that is refused, and one whose
@@ -34,5 +34,5 @@ pub fn repacked(version: Version, book: &[u8], out: &mut [u8]) -> usize
     ensures { RepackWritten (layout_of version) book.now out.old out.new result }
 {
     let answer = repacker::repack(version, book, out);
-    told(answer.refusal, answer.filled)
+    told(answer)
 }

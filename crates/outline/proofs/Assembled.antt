@@ -1,5 +1,6 @@
 -- How code comes to the list: the ring's corners are laid out as points, their indices arranged, and the points of the kept indices
 -- written. What it then hands back and leaves is what the book's outline says.
+use Rattle.std.specs.Prelude.{Ok, Err}
 use mathlib.Core.Path.{◌≡◌, sym, ◌∙◌, ap, subst}
 use mathlib.Core.List.{List, ◌++◌, map, Memᴰ}
 use Prim.Native.Nat.{ℕ, ◌+◌, ◌*◌, ◌≤◌, ◌<◌}
@@ -15,7 +16,7 @@ use Rattle.lp.specs.declared.Terms.{Terms}
 use Rattle.lp.specs.Range.{SmallConstraint, SmallFloors}
 use Rattle.lp.specs.Corners.{corners_of}
 use Rattle.boundary.specs.Ring.{grown, corners}
-use Rattle.answers.specs.Refusal.{refusal, not_refused}
+use Rattle.answers.specs.Refusal.{refusal}
 use Rattle.records.specs.Layout.{v2}
 use Rattle.book.specs.Reading.{accepted, Entry, read_of, rules_of}
 use Rattle.sorting.specs.Keys.{point_at, comes_at}
@@ -58,11 +59,14 @@ module _ (s out : List ℕ) (t : Terms) (es : List Entry) (e : read_of v2 s ≡ 
   list = corners_of t.floors (rules_of es)
 
   -- the list does not fit
-  pub outlines-crowded : {k : ℕ} → k ≡ length list → length out < 24 * k → Outlines s out (record { refusal = refusal 11 0; count = k }) out
+  pub outlines-crowded : {k : ℕ} →
+      k ≡ length list →
+      length out < 24 * k →
+      Outlines s out (Err (record { refusal = refusal 11 0; count = k })) out
   outlines-crowded {k} ek h =
       let o = crowded s (length out) e (subst (λ (m : ℕ). length out < 24 * m) ek h) in
       record {
-        answer = ap (λ (m : ℕ). record { refusal = refusal 11 0; count = m }) ek ∙ sym (ap outlined_of o);
+        answer = ap (λ (m : ℕ). Err (record { refusal = refusal 11 0; count = m })) ek ∙ sym (ap outlined_of o);
         output = sym (ap (λ x. output_of x out) o);
       }
 
@@ -72,13 +76,13 @@ module _ (s out : List ℕ) (t : Terms) (es : List Entry) (e : read_of v2 s ≡ 
       points_of keys run k ≡ list →
       24 * k ≤ length out →
       after ≡ written keys run k out →
-      Outlines s out (record { refusal = not_refused; count = k }) after
+      Outlines s out (Ok k) after
   outlines-listed keys run {k} {after} ek ep h ea =
       let o = fitting s (length out) e (subst (λ (m : ℕ). 24 * m ≤ length out) ek h) in
       let all : take (24 * k) (points_bytes list) ≡ points_bytes list =
       take_all (24 * k) (points_bytes list) (let m = length-points list in omega arith) in
       record {
-        answer = ap (λ (m : ℕ). record { refusal = not_refused; count = m }) ek ∙ sym (ap outlined_of o);
+        answer = ap (λ (m : ℕ). Ok m) ek ∙ sym (ap outlined_of o);
         output =
             ea
             ∙ ap (λ l. take (24 * k) (points_bytes l) ++ drop (0 + 24 * k) out) ep

@@ -1,12 +1,13 @@
-// What listing the corners of a book answers. The definitions that say what it is for every book stand in specs/, their laws in proofs/.
+// What listing the corners of a book answers where there is no list. The definitions that say what is answered for every book stand in
+// specs/, their laws in proofs/.
 
 #![tactic(auto)]
 
 use answers::Refusal;
 
-// A refusal, or none, and how many corners there are: those listed, or with 11 those that did not fit; with any other refusal 0.
+// Why the corners are not listed, and how many did not fit: with 11 that many, with any other refusal 0.
 #[derive(Clone, Copy)]
-pub struct Outlined {
+pub struct Unlisted {
     pub refusal: Refusal,
     pub count: usize,
 }

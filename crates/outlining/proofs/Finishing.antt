@@ -1,8 +1,9 @@
 -- The points that are left of a run of them, written if they fit.
+use Rattle.std.specs.Prelude.{Result}
 use mathlib.Core.Path.{◌≡◌, sym, ◌∙◌, ap, subst}
 use mathlib.Core.List.{List, ◌++◌}
 use mathlib.Core.Bool.{Bool, true, false, cond, ◌&&◌}
-use Prim.Native.Nat.{ℕ, ◌+◌, ◌*◌, ◌≤◌}
+use Prim.Native.Nat.{ℕ, ◌*◌, ◌≤◌}
 use native.Mathlib.Omega.{arith}
 use borrow.Author.Tests.{le-leb, le-ltb}
 use lib.Dec.{leb}
@@ -11,7 +12,7 @@ use lib.IntN.{ℤ}
 use Rattle.sorting.specs.Keys.{comes_at}
 use Rattle.arranging.specs.Arranging.{kept, kept_run, order_of, Arranged}
 use Rattle.listing.specs.Listing.{Lists, fits, written}
-use Rattle.outline.specs.declared.Outlined.{Outlined}
+use Rattle.outline.specs.declared.Unlisted.{Unlisted}
 use Rattle.outlining.specs.Finishing.{distinct, arranged, fit, full, crowded, answer_of, output_of, Finished, sortable, Finishes}
 
 module _
@@ -67,7 +68,7 @@ module _ (keys : List ℤ) (n : ℕ) (run out : List ℕ) {t : Bool} (told : t �
   pub finishes-front : t ≡ true →
       {m : ℕ} →
       m ≡ n →
-      {r : Outlined} {front all after : List ℕ} →
+      {r : Result ℕ Unlisted} {front all after : List ℕ} →
       all ≡ front ++ drop n run →
       Finished keys m out r front after →
       Finishes keys n run out r all after

@@ -9,34 +9,36 @@ ghost use Rattle.outlining.specs.Finishing.{Finishes, Finished};
 use answers::Refusal;
 use arranging::arrange;
 use listing::list_points;
-use outline::Outlined;
+use outline::Unlisted;
 
 // Writes the first points of the keys, as many as the run is long, if they fit; else it says 11, and how many they are.
-fn finish(keys: &[i64], run: &mut [u16], out: &mut [u8]) -> Outlined
+fn finish(keys: &[i64], run: &mut [u16], out: &mut [u8]) -> Result<usize, Unlisted>
     requires { length run.old ≤ 4098 }
     ensures { Finished keys.now (length run.old) out.old result run.new out.new }
 {
     let count = arrange(keys, &mut *run);
     if list_points(keys, &*run, count, out) {
-        let refusal = Refusal { number: 0, at: 0 };
-        Outlined { refusal, count }
+        Ok(count)
     } else {
         let refusal = Refusal { number: 11, at: 0 };
-        Outlined { refusal, count }
+        Err(Unlisted { refusal, count })
     }
 }
 
 // Writes the first n points of the keys, each once and in order, if they fit; else it says 11, and how many they are. Their indices stand
 // in the first n places of the run. More points than 4,098 or than the run has places are not put in order: 11, and no count.
-pub fn list_corners(keys: &[i64], n: usize, run: &mut [u16], out: &mut [u8]) -> Outlined
+pub fn list_corners(
+    keys: &[i64],
+    n: usize,
+    run: &mut [u16],
+    out: &mut [u8],
+) -> Result<usize, Unlisted>
     ensures { Finishes keys.now n run.old out.old result run.new out.new }
 {
     if (n <= 4098) & (n <= run.len()) {
         finish(keys, &mut run[0..n], out)
     } else {
-        Outlined {
-            refusal: Refusal { number: 11, at: 0 },
-            count: 0,
-        }
+        let refusal = Refusal { number: 11, at: 0 };
+        Err(Unlisted { refusal, count: 0 })
     }
 }

@@ -1,44 +1,45 @@
 -- Records as bytes: what the code writes is what the definitions say.
-use Prim.Native.Nat.{ℕ, ◌+◌, ◌*◌, ◌/◌, ◌%◌, ◌<◌}
+use Prim.Native.Nat.{ℕ, ◌+◌, ◌*◌, ◌%◌, ◌<◌}
 use mathlib.Core.Path.{◌≡◌, refl, sym, ap, ◌∙◌}
 use mathlib.Core.Bool.{Bool, true, false, cond}
 use mathlib.Core.List.{List, [], ◌∷◌}
 use native.Mathlib.Omega.{arith}
 use lib.IntN.{pos}
-use lib.ListN.{drop}
+use lib.ListN.{drop, get_or}
 use mir.Syntax.{Width, w16, w32}
 use mir.Val.{to_z, of_z, Fits}
 use mir.ValLaws.{of_z-to_z}
+use Rattle.std.specs.Int.{to_le_bytes}
 use Rattle.records.specs.declared.fields.Fields.{Fields}
 use Rattle.records.specs.Layout.{Layout, v2, at_c}
 use Rattle.records.specs.Number.{number, bytes_of, Bytes}
 use Rattle.records.specs.Record.{record_at, c_of, rule_of, fields_of}
 use Rattle.records.specs.Header.{terms_of}
+use Rattle.records.proofs.Numbers.{written}
 use Rattle.records.proofs.Small.{two-bytes-small, bytes-record, joined}
 use Rattle.packing.specs.Bytes.{record_bytes, tail_with, tail_of, header_bytes, rule_bytes}
 
 -- ---- version 2, byte by byte
 
-pub fourteen : (l k a b m c : ℕ) →
-    l < 65536 →
+pub fourteen : (l k a b m c : ℕ) {l' a' b' m' c' : List ℕ} →
     k < 256 →
-    a < 65536 →
-    b < 65536 →
-    m < 65536 →
-    c < 4294967296 →
-    (l % 256) ∷ (l / 256) ∷ k ∷ 0 ∷ (a % 256) ∷ (a / 256) ∷ (b % 256) ∷ (b / 256) ∷ (m % 256) ∷ (m / 256) ∷ (c % 256) ∷ (c / 256 % 256) ∷
-    (c / 65536 % 256) ∷ (c / 16777216) ∷ [] ≡ record_bytes v2 l k a b m c
+    l' ≡ to_le_bytes w16 l →
+    a' ≡ to_le_bytes w16 a →
+    b' ≡ to_le_bytes w16 b →
+    m' ≡ to_le_bytes w16 m →
+    c' ≡ to_le_bytes w32 c →
+    get_or l' 0 0 ∷ get_or l' 1 0 ∷ k ∷ 0 ∷ get_or a' 0 0 ∷ get_or a' 1 0 ∷ get_or b' 0 0 ∷ get_or b' 1 0 ∷ get_or m' 0 0 ∷ get_or m' 1 0 ∷
+    get_or c' 0 0 ∷ get_or c' 1 0 ∷ get_or c' 2 0 ∷ get_or c' 3 0 ∷ [] ≡ record_bytes v2 l k a b m c
 unfolding record_bytes bytes_of
-fourteen l k a b m c hl hk ha hb hm hc =
-    let pl : l / 256 ≡ l / 256 % 256 = omega arith in
+fourteen l k a b m c hk el ea eb em ec =
     let pk : k ≡ k % 256 = omega arith in
-    let pa : a / 256 ≡ a / 256 % 256 = omega arith in
-    let pb : b / 256 ≡ b / 256 % 256 = omega arith in
-    let pm : m / 256 ≡ m / 256 % 256 = omega arith in
-    let pc : c / 65536 % 256 ≡ c / 256 / 256 % 256 = omega arith in
-    let pd : c / 16777216 ≡ c / 256 / 256 / 256 % 256 = omega arith in
-    λ i. (l % 256) ∷ pl i ∷ pk i ∷ 0 ∷ (a % 256) ∷ pa i ∷ (b % 256) ∷ pb i ∷ (m % 256) ∷ pm i ∷ (c % 256) ∷ (c / 256 % 256) ∷ pc i ∷ pd i ∷
-    []
+    let fl = el ∙ written w16 l in
+    let fa = ea ∙ written w16 a in
+    let fb = eb ∙ written w16 b in
+    let fm = em ∙ written w16 m in
+    let fc = ec ∙ written w32 c in
+    λ i. get_or (fl i) 0 0 ∷ get_or (fl i) 1 0 ∷ pk i ∷ 0 ∷ get_or (fa i) 0 0 ∷ get_or (fa i) 1 0 ∷ get_or (fb i) 0 0 ∷ get_or (fb i) 1 0 ∷
+    get_or (fm i) 0 0 ∷ get_or (fm i) 1 0 ∷ get_or (fc i) 0 0 ∷ get_or (fc i) 1 0 ∷ get_or (fc i) 2 0 ∷ get_or (fc i) 3 0 ∷ []
 
 -- sixteen and thirty-two bits, read as signed and written again, are as they were
 kept : (w : Width) (x y : ℕ) → Fits w x → x ≡ y → x ≡ of_z w (to_z w y)

@@ -16,21 +16,14 @@ use records::fields::fields_at;
 fn record_bytes(link: u16, kind: u8, a: u16, b: u16, label: u16, c: u32) -> [u8; 14]
     ensures { result ≡ record_bytes v2 link kind a b label c }
 {
+    let link = link.to_le_bytes();
+    let a = a.to_le_bytes();
+    let b = b.to_le_bytes();
+    let label = label.to_le_bytes();
+    let c = c.to_le_bytes();
     [
-        (link % 256) as u8,
-        (link / 256) as u8,
-        kind,
-        0,
-        (a % 256) as u8,
-        (a / 256) as u8,
-        (b % 256) as u8,
-        (b / 256) as u8,
-        (label % 256) as u8,
-        (label / 256) as u8,
-        (c % 256) as u8,
-        (c / 256 % 256) as u8,
-        (c / 65536 % 256) as u8,
-        (c / 16777216) as u8,
+        link[0], link[1], kind, 0, a[0], a[1], b[0], b[1], label[0], label[1], c[0], c[1], c[2],
+        c[3],
     ]
 }
 

@@ -12,8 +12,8 @@ use Rattle.records.specs.Planned.{planned_rule}
 use Rattle.book.specs.Reading.{Entry, read_of, rules_of, records_of}
 use Rattle.repacker.specs.Repacking.{rule_in, packed, repack_of, ReadAlike}
 use Rattle.repacker.proofs.RepackLaws.{carried, repacked_alike}
-use Rattle.answers.specs.declared.Answer.{Answer}
-use Rattle.answers.specs.declared.Answer.TheVariants.{Planned}
+use Rattle.std.proofs.Common.{Ok}
+use Rattle.answers.specs.Answer.{Answer}
 use Rattle.answers.specs.declared.Plan.{Plan}
 use Rattle.plans.specs.Planning.{PlannedAs}
 use Rattle.planner.specs.Planning.{Answers}
@@ -30,8 +30,8 @@ pub record SamePlan (p p' : Plan) : Type 0 where
 pub record PlannedAlike (a a' : Answer) : Type 0 where
   pub plan : Plan
   pub plan' : Plan
-  pub one : a ≡ Planned plan
-  pub two : a' ≡ Planned plan'
+  pub one : a ≡ Ok plan
+  pub two : a' ≡ Ok plan'
   pub same : SamePlan plan plan'
 
 -- the rules as they are planned follow from the rules as they stand

@@ -2,7 +2,7 @@
 -- hands back for them. Of the code each theorem takes the promise of that call, `Answers L s a`, and nothing else; of the bytes, what
 -- they read as. Those of demand 3 speak of the plan p in the answer to an accepted book, and are those of lists of rules (`plans`
 -- Demands) for the chain.
-use mathlib.Core.Path.{◌≡◌, refl, sym, ◌∙◌, ap, subst}
+use mathlib.Core.Path.{◌≡◌, refl, sym, ◌∙◌, subst}
 use mathlib.Core.List.{List}
 use mathlib.Core.Logic.{◌↔◌}
 use Prim.Native.Nat.{ℕ, ◌+◌, ◌≤◌}
@@ -23,8 +23,8 @@ use Rattle.book.specs.Reading.{Reading, refused, accepted, Entry, read_of, rules
 use Rattle.book.specs.Causes.{Applies}
 use Rattle.book.proofs.Bounds.{rules-small, terms-small}
 use Rattle.book.proofs.Causes.{refusal_applies, applies_refused}
-use Rattle.answers.specs.declared.Answer.{Answer}
-use Rattle.answers.specs.declared.Answer.TheVariants.{Refused, Planned}
+use Rattle.std.proofs.Common.{Ok, Err}
+use Rattle.answers.specs.Answer.{Answer}
 use Rattle.answers.specs.declared.Plan.{Plan}
 use Rattle.answers.specs.declared.Refusal.{Refusal}
 use Rattle.answers.specs.Refusal.{refusal}
@@ -42,55 +42,55 @@ use Rattle.planner.proofs.Chains.{length-rules, chain-named, looked}
 
 module _ (L : Layout) (s : List ℕ) (a : Answer) (promise : Answers L s a) where
   -- a refused book is answered with its number and record
-  pub refused-answered : (n r : ℕ) → read_of L s ≡ refused n r → a ≡ Refused (refusal n r)
+  pub refused-answered : (n r : ℕ) → read_of L s ≡ refused n r → a ≡ Err (refusal n r)
   refused-answered n r e = subst (λ x. AnsweredBy x a) e promise.answered
 
   -- an accepted book is planned, never refused
   pub accepted-planned : (t : Terms) (es : List Entry) →
       read_of L s ≡ accepted t es →
-      (p : Plan) × (a ≡ Planned p) × PlannedAs t (records_of es) (rules_of es) p
+      (p : Plan) × (a ≡ Ok p) × PlannedAs t (records_of es) (rules_of es) p
   accepted-planned t es e = go a refl (subst (λ x. AnsweredBy x a) e promise.answered)
     where
-      go : (b : Answer) → a ≡ b → AnsweredBy (accepted t es) b → (p : Plan) × (a ≡ Planned p) × PlannedAs t (records_of es) (rules_of es) p
-      go (Refused x) q h = absurd h
-      go (Planned p) q h = (p, q, h)
+      go : (b : Answer) → a ≡ b → AnsweredBy (accepted t es) b → (p : Plan) × (a ≡ Ok p) × PlannedAs t (records_of es) (rules_of es) p
+      go (Err x) q h = absurd h
+      go (Ok p) q h = (p, q, h)
 
   -- a cause of the table applies first exactly if that refusal is answered
-  pub refused-exactly : (k i : ℕ) → (a ≡ Refused (refusal k i)) ↔ Applies L s k i
+  pub refused-exactly : (k i : ℕ) → (a ≡ Err (refusal k i)) ↔ Applies L s k i
   refused-exactly k i = (
     (λ q. go (read_of L s) refl q),
     (λ c. refused-answered k i (applies_refused L s c)),
   )
     where
-      go : (x : Reading) → read_of L s ≡ x → a ≡ Refused (refusal k i) → Applies L s k i
+      go : (x : Reading) → read_of L s ≡ x → a ≡ Err (refusal k i) → Applies L s k i
       go (refused n r) e q =
-          let same : Refused (refusal n r) ≡ Refused (refusal k i) = sym (refused-answered n r e) ∙ q in
+          let same : Err (refusal n r) ≡ Err (refusal k i) = sym (refused-answered n r e) ∙ q in
           let inner : refusal n r ≡ refusal k i = cc in
           subst (λ (x : Refusal). Applies L s x.number x.at) inner (refusal_applies L s e)
       go (accepted t es) e q = absurd (subst (AnsweredBy (accepted t es)) q (subst (λ x. AnsweredBy x a) e promise.answered))
 
   -- none applies exactly if the book is planned
-  pub planned-exactly : ((p : Plan) × (a ≡ Planned p)) ↔ ((k i : ℕ) → Applies L s k i → ⊥)
+  pub planned-exactly : ((p : Plan) × (a ≡ Ok p)) ↔ ((k i : ℕ) → Applies L s k i → ⊥)
   planned-exactly = (
     (λ x k i c. go x.0 x.1 k i c),
     (λ none. by (read_of L s) refl none),
   )
     where
-      go : (p : Plan) → a ≡ Planned p → (k i : ℕ) → Applies L s k i → ⊥
+      go : (p : Plan) → a ≡ Ok p → (k i : ℕ) → Applies L s k i → ⊥
       go p q k i c =
-          let clash : Planned p ≡ Refused (refusal k i) = sym q ∙ (refused-exactly k i).1 c in
+          let clash : Ok p ≡ Err (refusal k i) = sym q ∙ (refused-exactly k i).1 c in
           let z : ◌≡◌ {A = ℕ} 0 1 = cc in
           let b : ⊥ = omega arith in
           b
 
-      by : (x : Reading) → read_of L s ≡ x → ((k i : ℕ) → Applies L s k i → ⊥) → (p : Plan) × (a ≡ Planned p)
+      by : (x : Reading) → read_of L s ≡ x → ((k i : ℕ) → Applies L s k i → ⊥) → (p : Plan) × (a ≡ Ok p)
       by (refused n r) e none = absurd (none n r (refusal_applies L s e))
       by (accepted t es) e none = let x = accepted-planned t es e in (x.0, x.1)
 
 -- ---- demand 3: an accepted book s, its answer a and the plan p in it
 
 module _ (L : Layout) (s : List ℕ) (a : Answer) (promise : Answers L s a)
-    (t : Terms) (es : List Entry) (e : read_of L s ≡ accepted t es) (p : Plan) (q : a ≡ Planned p) where
+    (t : Terms) (es : List Entry) (e : read_of L s ≡ accepted t es) (p : Plan) (q : a ≡ Ok p) where
   -- p is document 01's answer to the chain that the bytes read as
   pub planned : PlannedAs t (records_of es) (rules_of es) p
   planned = subst (AnsweredBy (accepted t es)) q (subst (λ r. AnsweredBy r a) e promise.answered)
@@ -211,8 +211,8 @@ pub order-free : (L L' : Layout) (s s' : List ℕ) (a a' : Answer) →
     read_of L s ≡ accepted t es →
     read_of L' s' ≡ accepted t fs →
     (p p' : Plan) →
-    a ≡ Planned p →
-    a' ≡ Planned p' →
+    a ≡ Ok p →
+    a' ≡ Ok p' →
     AlikeInRules (rules_of es) (rules_of fs) →
     p.outcome ≡ p'.outcome
 order-free L L' s s' a a' promise promise' t es fs e e' p p' q q' alike =

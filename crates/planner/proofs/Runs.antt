@@ -1,5 +1,6 @@
 -- A run over a book whose runs have room, by what the book reads as: a refused book has its refusal, and an accepted one is planned, since
 -- its numbers are all in range.
+use Rattle.std.specs.Prelude.{Some}
 use mathlib.Core.Path.{◌≡◌, refl, sym, ◌∙◌, ap, subst}
 use mathlib.Core.List.{List, [], ◌++◌, append-nil}
 use Prim.Native.Nat.{ℕ, min, ◌+◌, ◌-◌, ◌*◌, ◌≤◌}
@@ -19,8 +20,8 @@ use Rattle.book.specs.Promises.{head_of}
 use Rattle.book.proofs.Bounds.{chain-count, rules-small, terms-small}
 use Rattle.book.proofs.Causes.{accepted-clear, refusal-number, accepted-passed}
 use Rattle.book.proofs.Runs.{record-placed, records-length, rules-length}
-use Rattle.answers.specs.Refusal.{refusal}
-use Rattle.engine.specs.declared.Solved.TheVariants.{Walked}
+use Rattle.std.proofs.Common.{Result}
+use Rattle.answers.specs.declared.Refusal.{Refusal}
 use Rattle.engine.specs.Entries.{entries}
 use Rattle.engine.specs.Solving.{solution_of, solved_of}
 use Rattle.engine.proofs.Tests.{solved}
@@ -38,7 +39,7 @@ part_room l n h = simp (length-take, length-drop) (omega arith)
 -- what a run found and left, where the runs that it was lent had room
 module _
     (L : Layout) (s : List ℕ) (k : ℕ) (records : List ℕ) (l : List ℤ) (roomy : Roomy L s records l)
-    (r : Findings) (records' : List ℕ) (l' : List ℤ) (ran : Ran L s k records l r records' l') where
+    (r : Result Findings Refusal) (records' : List ℕ) (l' : List ℤ) (ran : Ran L s k records l r records' l') where
   abbrev laid : List ℤ
   laid = read_into L s l
 
@@ -65,22 +66,24 @@ module _
 
     -- the engine walks along the chain's first k rules
     planned :
-        solved_of t laid (min k (length es)) ≡ Walked (solution_of t.objective (walk tie t.floors t.objective (take k (rules_of es))))
+        solved_of t laid (min k (length es)) ≡ Some (solution_of t.objective (walk tie t.floors t.objective (take k (rules_of es))))
     planned =
         solved t laid (min k (length es)) (terms-small L s e) fits
         (subst SmallSystem (sym prefix) (small-take k (rules_of es) (rules-small L s e)))
-        ∙ ap (λ (S : List Constraint). Walked (solution_of t.objective (walk tie t.floors t.objective S))) prefix
+        ∙ ap (λ (S : List Constraint). Some (solution_of t.objective (walk tie t.floors t.objective S))) prefix
 
     noted : records' ≡ put_records records 0 es
     noted = ran.recorded ∙ ap (put_records records 0) (accepted-passed L s e)
 
-    found : Found t es k r records'
+    -- what an accepted book's run finds
+    abbrev findings : Findings
+    findings = record { n = length es; solution = solution_in (solved_of t laid (min k (length es))) }
+
+    found : Found t es k findings records'
     found =
-        let same = by-reading (accepted t es) e in
         record {
-          refusal = ap (λ (y : Findings). y.refusal) same;
-          count = ap (λ (y : Findings). y.n) same;
-          solution = ap (λ (y : Findings). y.solution) same ∙ ap solution_in planned;
+          count = refl;
+          solution = ap solution_in planned;
           enough = omega (arith, chain-count L s e, roomy.names (accepted-clear L s e), ap length noted, records-length records 0 es);
           recorded =
               λ i less. ap (λ (m : List ℕ). get_or m i 0) noted ∙ record-placed records es i
@@ -92,4 +95,5 @@ module _
     where
       go : (x : Reading) → read_of L s ≡ x → RunsBy x k r records'
       go (refused n i) e = by-reading (refused n i) e ∙ rw (ne_eqb n 0 (refusal-number L s e))
-      go (accepted t es) e = found t es e
+      go (accepted t es) e =
+          subst (λ (y : Result Findings Refusal). RunsBy (accepted t es) k y records') (sym (by-reading (accepted t es) e)) (found t es e)

@@ -1,8 +1,7 @@
 -- What the promise of `start_after` says of a book, in the textbook's words, whatever its layout. Each theorem takes that promise and
 -- nothing else of the code; the last one, which compares two calls, that of `plan` too.
-use mathlib.Core.Path.{◌≡◌, refl, sym, ◌∙◌, ap, subst}
+use mathlib.Core.Path.{◌≡◌, refl, sym, ◌∙◌, ap}
 use mathlib.Core.List.{List}
-use mathlib.Core.Bool.{true, false, true≢false}
 use mathlib.Core.Logic.{◌↔◌}
 use Prim.Native.Nat.{ℕ, ◌≤◌, ◌<◌}
 use native.Mathlib.Omega.{arith}
@@ -20,8 +19,9 @@ use Rattle.lp.specs.Document.{tie}
 use Rattle.records.specs.Layout.{Layout}
 use Rattle.book.specs.Reading.{Reading, refused, accepted, Entry, read_of, rules_of}
 use Rattle.book.proofs.Bounds.{chain-count, count_room}
-use Rattle.answers.specs.declared.Answer.{Answer}
-use Rattle.answers.specs.declared.Answer.TheVariants.{Planned}
+use Rattle.std.proofs.Common.{Some, None, Result, Ok}
+use Rattle.answers.specs.Answer.{Answer}
+use Rattle.answers.specs.declared.Refusal.{Refusal}
 use Rattle.answers.specs.declared.Plan.{Plan}
 use Rattle.theory.proofs.Ties.{tie_good}
 use Rattle.theory.proofs.Theorems.{FirstPoint}
@@ -34,14 +34,14 @@ use Rattle.planner.specs.Planning.{Answers}
 use Rattle.planner.specs.View.{viewed, start_view, unseen, view_of, Views}
 
 -- a refused book: its refusal, and nothing else
-pub refused-seen : (L : Layout) (s : List ℕ) (k : ℕ) (v : StartView) →
+pub refused-seen : (L : Layout) (s : List ℕ) (k : ℕ) (v : Result StartView Refusal) →
     Views L s k v →
     (n r : ℕ) →
     read_of L s ≡ refused n r →
     v ≡ unseen n r
 refused-seen L s k v h n r e = h.answer ∙ ap (λ (x : Reading). view_of x k) e
 
-module _ (L : Layout) (s : List ℕ) (k : ℕ) (v : StartView) (h : Views L s k v)
+module _ (L : Layout) (s : List ℕ) (k : ℕ) (v : Result StartView Refusal) (h : Views L s k v)
     (t : Terms) (es : List Entry) (e : read_of L s ≡ accepted t es) where
   -- the first k rules, or all where there are fewer
   abbrev rules : List Constraint
@@ -50,71 +50,80 @@ module _ (L : Layout) (s : List ℕ) (k : ℕ) (v : StartView) (h : Views L s k 
   abbrev start : Start
   start = start_of tie t.floors rules
 
-  pub accepted-seen : v ≡ start_view t.floors rules
+  pub accepted-seen : v ≡ Ok (start_view t.floors rules)
   accepted-seen = h.answer ∙ ap (λ (x : Reading). view_of x k) e
-
-  -- the count is the definition's, and never above the prefix's length
-  count-of : (x : Start) (n : ℕ) → (viewed x n).restarts ≡ n
-  count-of none n = refl
-  count-of (at u) n = refl
-
-  pub restarts-seen : v.restarts ≡ restarts tie t.floors rules
-  restarts-seen = ap (λ (x : StartView). x.restarts) accepted-seen ∙ count-of start (restarts tie t.floors rules)
 
   at_most : restarts tie t.floors rules ≤ length rules
   at_most = restarts-at-most tie tie_good t.floors t.objective rules
 
-  pub restarts-few : v.restarts ≤ k
-  restarts-few = omega (arith, restarts-seen, at_most, length-take k (rules_of es))
+  -- an accepted book has a view x
+  module _ (x : StartView) (q : v ≡ Ok x) where
+    view-is : x ≡ start_view t.floors rules
+    view-is = let both : ◌≡◌ {A = Result StartView Refusal} (Ok x) (Ok (start_view t.floors rules)) = sym q ∙ accepted-seen in cc
 
-  -- nor above a book's greatest number of rules
-  pub restarts-within : v.restarts < L.records
-  restarts-within =
-      omega (arith, restarts-seen, at_most, length-take k (rules_of es), length-rules es, chain-count L s e, count_room L s e)
+    -- the count is the definition's, and never above the prefix's length
+    count-of : (y : Start) (n : ℕ) → (viewed y n).restarts ≡ n
+    count-of none n = refl
+    count-of (at u) n = refl
 
-  -- no pair is held exactly where the prefix allows none
-  not-held : (x : Start) (n : ℕ) → (viewed x n).held ≡ false → x ≡ none
-  not-held none n q = refl
-  not-held (at u) n q = absurd (true≢false q)
+    pub restarts-seen : x.restarts ≡ restarts tie t.floors rules
+    restarts-seen = ap (λ (y : StartView). y.restarts) view-is ∙ count-of start (restarts tie t.floors rules)
 
-  held-is : v.held ≡ (viewed start (restarts tie t.floors rules)).held
-  held-is = ap (λ (x : StartView). x.held) accepted-seen
+    pub restarts-few : x.restarts ≤ k
+    restarts-few = omega (arith, restarts-seen, at_most, length-take k (rules_of es))
 
-  pub none-held-exactly : (v.held ≡ false) ↔ Infeasible (system t.floors rules)
-  none-held-exactly = (
-    (λ q. (none-exactly tie tie_good t.floors t.objective rules).0 (not-held start (restarts tie t.floors rules) (sym held-is ∙ q))),
-    (λ no_pair. held-is ∙ ap (λ (x : Start). (viewed x (restarts tie t.floors rules)).held) ((none-exactly tie tie_good t.floors t.objective rules).1 no_pair)),
-  )
+    -- nor above a book's greatest number of rules
+    pub restarts-within : x.restarts < L.records
+    restarts-within =
+        omega (arith, restarts-seen, at_most, length-take k (rules_of es), length-rules es, chain-count L s e, count_room L s e)
 
-  -- and a pair that is held is the first allowed one by the tie, reduced
-  held_at : (x : Start) (n : ℕ) → (viewed x n).held ≡ true → x ≡ at (viewed x n).point
-  held_at none n q = absurd (true≢false (sym q))
-  held_at (at u) n q = refl
+    start-is : x.start ≡ (viewed start (restarts tie t.floors rules)).start
+    start-is = ap (λ (y : StartView). y.start) view-is
 
-  pub held_first : v.held ≡ true → FirstPoint tie tie_good t.floors t.objective rules v.point
-  held_first q =
-      subst (FirstPoint tie tie_good t.floors t.objective rules) (sym (ap (λ (x : StartView). x.point) accepted-seen))
-      (at_first tie tie_good t.floors t.objective rules (start_view t.floors rules).point
-      (held_at start (restarts tie t.floors rules) (sym held-is ∙ q)))
+    -- no pair is held exactly where the prefix allows none
+    not-held : (y : Start) (n : ℕ) → (viewed y n).start ≡ None → y ≡ none
+    not-held none n p = refl
+    not-held (at u) n p = cc
 
-  -- of the allowed pairs the one to take, in document 01's words
-  pub held-least : v.held ≡ true → (w : Point) → Feasible (system t.floors rules) w → NoLater v.point w
-  held-least q w f = first_in_words v.point w ((held_first q).first w f)
+    pub none-held-exactly : (x.start ≡ None) ↔ Infeasible (system t.floors rules)
+    none-held-exactly = (
+      (λ p. (none-exactly tie tie_good t.floors t.objective rules).0 (not-held start (restarts tie t.floors rules) (sym start-is ∙ p))),
+      (λ no_pair. start-is
+          ∙ ap (λ (y : Start). (viewed y (restarts tie t.floors rules)).start)
+          ((none-exactly tie tie_good t.floors t.objective rules).1 no_pair)),
+    )
+
+    -- and a pair that is held is the first allowed one by the tie, reduced
+    held_at : (y : Start) (n : ℕ) (u : Point) → (viewed y n).start ≡ Some u → y ≡ at u
+    held_at none n u p = cc
+    held_at (at w) n u p = let inner : w ≡ u = cc in ap at inner
+
+    pub held_first : (u : Point) → x.start ≡ Some u → FirstPoint tie tie_good t.floors t.objective rules u
+    held_first u p =
+        at_first tie tie_good t.floors t.objective rules u (held_at start (restarts tie t.floors rules) u (sym start-is ∙ p))
+
+    -- of the allowed pairs the one to take, in document 01's words
+    pub held-least : (u : Point) → x.start ≡ Some u → (w : Point) → Feasible (system t.floors rules) w → NoLater u w
+    held-least u p w f = first_in_words u w ((held_first u p).first w f)
 
   -- beyond the chain: the whole chain, where an unlimited plan prints the same pair
   module _ (beyond : length (rules_of es) ≤ k) where
-    pub whole-seen : v ≡ start_view t.floors (rules_of es)
-    whole-seen = accepted-seen ∙ ap (start_view t.floors) (take_all k (rules_of es) beyond)
+    pub whole-seen : v ≡ Ok (start_view t.floors (rules_of es))
+    whole-seen = accepted-seen ∙ ap (λ (l : List Constraint). Ok (start_view t.floors l)) (take_all k (rules_of es) beyond)
 
     pub unlimited-seen : (a : Answer) →
         Answers L s a →
         (p : Plan) →
-        a ≡ Planned p →
+        a ≡ Ok p →
         (u : Point) (d : Ray) →
         p.outcome ≡ outcome.Unbounded u d →
-        v.point ≡ u
-    unlimited-seen a promise p f u d q =
-        ap (λ (x : StartView). x.point) whole-seen
-        ∙ ap (λ (x : Start). (viewed x (restarts tie t.floors (rules_of es))).point)
+        (x : StartView) →
+        v ≡ Ok x →
+        x.start ≡ Some u
+    unlimited-seen a promise p f u d q x r =
+        let both : ◌≡◌ {A = Result StartView Refusal} (Ok x) (Ok (start_view t.floors (rules_of es))) = sym r ∙ whole-seen in
+        let same : x ≡ start_view t.floors (rules_of es) = cc in
+        ap (λ (y : StartView). y.start) same
+        ∙ ap (λ (y : Start). (viewed y (restarts tie t.floors (rules_of es))).start)
         (unbounded_start tie tie_good t.floors t.objective (rules_of es) u d
         (sym (planned L s a promise t es e p f).outcome_defined ∙ q))

@@ -22,7 +22,7 @@ use Rattle.records.specs.Layout.{Layout}
 use Rattle.records.specs.Planned.{planned_rule}
 use Rattle.book.specs.Reading.{refused, accepted, Entry, read_of, rules_of}
 use Rattle.book.proofs.Bounds.{rules-small, terms-small}
-use Rattle.answers.specs.declared.Answer.TheVariants.{Refused}
+use Rattle.std.proofs.Common.{Err}
 use Rattle.answers.specs.Refusal.{refusal}
 use Rattle.theory.proofs.Ties.{tie_good}
 use Rattle.theory.proofs.Slack.{best-slacks}
@@ -40,7 +40,7 @@ planned-member e (x ∷ es) i =
 
 module _ (L : Layout) (s : List ℕ) where
   -- a refused book: the line of its refusal
-  pub refusal-shown : (n r : ℕ) → read_of L s ≡ refused n r → panel_text (read_of L s) ≡ line_of (Refused (refusal n r))
+  pub refusal-shown : (n r : ℕ) → read_of L s ≡ refused n r → panel_text (read_of L s) ≡ line_of (Err (refusal n r))
   unfolding panel_text
   refusal-shown n r e = ap panel_text e
 

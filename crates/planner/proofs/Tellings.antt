@@ -1,19 +1,20 @@
 -- From what a run found to what is told of a book: its answer, its view and its panel are those of its reading.
 use mathlib.Core.Path.{◌≡◌, refl, sym, ◌∙◌, ap, ap₂, subst}
-use mathlib.Core.Bool.{Bool, true, false, cond, true≢false}
+use mathlib.Core.Bool.{Bool, false, cond, true≢false}
 use mathlib.Core.List.{List, [], ◌∷◌, map}
 use Prim.Native.Nat.{ℕ, zero, suc, ◌≤◌, ◌<◌}
 use native.Mathlib.Omega.{arith}
-use borrow.Author.Tests.{ne_eqb, le-leb}
+use borrow.Author.Tests.{le-leb}
 use lib.ListN.{length, get_or, take}
 use lib.Seq.{take_all}
 use Rattle.lp.specs.declared.Constraint.{Constraint}
+use Rattle.lp.specs.declared.Terms.{Terms}
 use Rattle.lp.specs.declared.Point.{Point}
 use Rattle.lp.specs.declared.Amount.{Amount}
 use Rattle.lp.specs.declared.Outcome.{Outcome}
 use Rattle.lp.specs.declared.Outcome.TheVariants as outcome
 use Rattle.lp.specs.Outcome as defined
-use Rattle.lp.specs.Start.{Start, none, at, restarts}
+use Rattle.lp.specs.Start.{Start, none, at}
 use Rattle.lp.specs.Range.{SmallSystem}
 use Rattle.lp.specs.Document.{tie}
 use Rattle.records.specs.Layout.{Layout}
@@ -21,13 +22,11 @@ use Rattle.records.specs.Record.{record_at, rule_of}
 use Rattle.records.specs.Planned.{planned_rule}
 use Rattle.book.specs.Reading.{Reading, refused, accepted, Entry, read_of, entry_at, rules_of, records_of}
 use Rattle.book.proofs.Bounds.{accepted-entries, chain-count, count_room, rules-small, terms-small}
-use Rattle.book.proofs.Causes.{refusal-number}
-use Rattle.answers.specs.declared.Answer.{Answer}
-use Rattle.answers.specs.declared.Answer.TheVariants.{Refused, Planned}
+use Rattle.std.proofs.Common.{Some, None, Result, Ok, Err}
+use Rattle.answers.specs.Answer.{Answer}
 use Rattle.answers.specs.declared.Refusal.{Refusal}
-use Rattle.answers.specs.Refusal.{refusal, not_refused}
 use Rattle.engine.specs.declared.Solution.{Solution}
-use Rattle.engine.specs.Solving.{is_held, held_point, solution_of}
+use Rattle.engine.specs.Solving.{start_pair, is_held, held_point, solution_of}
 use Rattle.amounts.proofs.Tests.{measured}
 use Rattle.model.specs.Bounds.{SmallOutcome, SmallPoint}
 use Rattle.model.specs.declared.Walk.{Walk}
@@ -47,7 +46,7 @@ use Rattle.planner.specs.declared.StartView.{StartView}
 use Rattle.planner.specs.Planning.{AnsweredBy, Answers}
 use Rattle.planner.specs.Panel.{row_of, rows_for, panel_text}
 use Rattle.planner.specs.View.{viewed, view_of, Views}
-use Rattle.planner.specs.Running.{Found, RunsBy, Runs, Whole, answer_of, view_from, Tells}
+use Rattle.planner.specs.Running.{Found, RunsBy, Runs, Whole, answer_of, view_from, outcome_in, count_in, Tells}
 use Rattle.planner.proofs.Chains.{length-rules, length-records}
 
 -- ---- of lists
@@ -68,7 +67,7 @@ taken (y ∷ run) (x ∷ l) (suc n) e h same =
 
 -- a start pair, as a walk's solution and as a view have it
 shown-start : (x : Start) (n : ℕ) →
-    ◌≡◌ {A = StartView} (record { refusal = not_refused; held = is_held x; point = held_point x; restarts = n }) (viewed x n)
+    ◌≡◌ {A = StartView} (record { start = start_pair x; restarts = n }) (viewed x n)
 shown-start none n = refl
 shown-start (at u) n = refl
 
@@ -83,9 +82,22 @@ measured-rows L s v small (i ∷ is) rules =
     ap₂ (λ (a : Amount) (rows : List Row). record { label = (rule_of L (record_at L s i)).label; slack = a } ∷ rows)
     (measured (planned_rule (rule_of L (record_at L s i))) v rules.0 small) (measured-rows L s v small is rules.1)
 
-module _ (L : Layout) (s : List ℕ) (k : ℕ) (r : Findings) (records : List ℕ) (runs : Runs L s k r records) where
+-- what a run found of an accepted book
+pub record FoundIn (t : Terms) (es : List Entry) (k : ℕ) (r : Result Findings Refusal) (records : List ℕ) : Type 0 where
+  pub findings : Findings
+  pub same : r ≡ Ok findings
+  pub found : Found t es k findings records
+
+module _ (L : Layout) (s : List ℕ) (k : ℕ) (r : Result Findings Refusal) (records : List ℕ) (runs : Runs L s k r records) where
   by-reading : (x : Reading) → read_of L s ≡ x → RunsBy x k r records
   by-reading x e = subst (λ y. RunsBy y k r records) e runs.found
+
+  found_in : (t : Terms) (es : List Entry) → read_of L s ≡ accepted t es → FoundIn t es k r records
+  found_in t es e = go r refl (by-reading (accepted t es) e)
+    where
+      go : (x : Result Findings Refusal) → r ≡ x → RunsBy (accepted t es) k x records → FoundIn t es k r records
+      go (Err f) q h = absurd h
+      go (Ok f) q h = record { findings = f; same = q; found = h }
 
   -- ---- the answer
 
@@ -93,27 +105,24 @@ module _ (L : Layout) (s : List ℕ) (k : ℕ) (r : Findings) (records : List �
   run-answers whole = record { answered = go (read_of L s) refl }
     where
       go : (x : Reading) → read_of L s ≡ x → AnsweredBy x (answer_of r records)
-      go (refused n i) e =
-          ap (λ (y : Findings). answer_of y records) (by-reading (refused n i) e)
-          ∙ rw (ne_eqb n 0 (refusal-number L s e))
+      go (refused n i) e = ap (λ (y : Result Findings Refusal). answer_of y records) (by-reading (refused n i) e)
       go (accepted t es) e =
           subst (AnsweredBy (accepted t es)) (sym planned)
           (finished t (records_of es) (rules_of es) (terms-small L s e).floors-small (rules-small L s e) records
-          (λ i h. found.recorded i (omega (arith, length-rules es))))
+          (λ i h. told.found.recorded i (omega (arith, length-rules es))))
         where
-          found : Found t es k r records
-          found = by-reading (accepted t es) e
+          told : FoundIn t es k r records
+          told = found_in t es e
 
           all : take k (rules_of es) ≡ rules_of es
           all = take_all k (rules_of es) (omega (arith, whole t es e, length-rules es))
 
           planned :
-              answer_of r records ≡ Planned (plan_of records (solution_of t.objective (walk tie t.floors t.objective (rules_of es))))
+              answer_of r records ≡ Ok (plan_of records (solution_of t.objective (walk tie t.floors t.objective (rules_of es))))
           planned =
-              ap₂ (λ (x : Refusal) (y : Solution). answer_of (record { refusal = x; n = r.n; solution = y }) records) found.refusal
-              found.solution
-              ∙ ap (λ (l : List Constraint). Planned (plan_of records (solution_of t.objective (walk tie t.floors t.objective l))))
-              all
+              ap (λ (y : Result Findings Refusal). answer_of y records) told.same
+              ∙ ap (λ (y : Solution). Ok (plan_of records y)) told.found.solution
+              ∙ ap (λ (l : List Constraint). Ok (plan_of records (solution_of t.objective (walk tie t.floors t.objective l)))) all
 
   -- ---- the view
 
@@ -123,12 +132,13 @@ module _ (L : Layout) (s : List ℕ) (k : ℕ) (r : Findings) (records : List �
       go : (x : Reading) → read_of L s ≡ x → view_from r ≡ view_of x k
       go (refused n i) e = ap view_from (by-reading (refused n i) e)
       go (accepted t es) e =
-          ap₂ (λ (x : Refusal) (y : Solution). view_from (record { refusal = x; n = r.n; solution = y })) found.refusal found.solution
-          ∙ shown-start (start_held w.state) w.restarts
-          ∙ ap₂ (λ (x : Start) (n : ℕ). viewed x n) starts.start_defined starts.restarts_defined
+          ap view_from told.same
+          ∙ ap (λ (y : Solution). view_from (Ok (record { n = told.findings.n; solution = y }))) told.found.solution
+          ∙ ap (λ (y : StartView). Ok y)
+          (shown-start (start_held w.state) w.restarts ∙ ap₂ (λ (x : Start) (n : ℕ). viewed x n) starts.start_defined starts.restarts_defined)
         where
-          found : Found t es k r records
-          found = by-reading (accepted t es) e
+          told : FoundIn t es k r records
+          told = found_in t es e
 
           w : Walk
           w = walk tie t.floors t.objective (take k (rules_of es))
@@ -139,35 +149,37 @@ module _ (L : Layout) (s : List ℕ) (k : ℕ) (r : Findings) (records : List �
   -- ---- the panel
 
   -- the chain's records are all there
-  pub run-noted : r.n ≤ length records
+  pub run-noted : count_in r ≤ length records
   run-noted = go (read_of L s) refl
     where
-      go : (x : Reading) → read_of L s ≡ x → r.n ≤ length records
+      go : (x : Reading) → read_of L s ≡ x → count_in r ≤ length records
       go (refused n i) e =
-          let none : r.n ≡ 0 = ap (λ (y : Findings). y.n) (by-reading (refused n i) e) in
+          let none : count_in r ≡ 0 = ap count_in (by-reading (refused n i) e) in
           omega (arith, none)
       go (accepted t es) e =
-          let found : Found t es k r records = by-reading (accepted t es) e in
-          omega (arith, found.count, found.enough)
+          let told : FoundIn t es k r records = found_in t es e in
+          let many : count_in r ≡ told.findings.n = ap count_in told.same in
+          omega (arith, many, told.found.count, told.found.enough)
 
-  pub run-shows : Whole L s k → panel_from L s r.refusal r.solution.outcome (take r.n records) ≡ panel_text (read_of L s)
+  pub run-shows : Whole L s k → panel_from L s (outcome_in r) (take (count_in r) records) ≡ panel_text (read_of L s)
   unfolding panel_text
   run-shows whole = go (read_of L s) refl
     where
       go : (x : Reading) →
           read_of L s ≡ x →
-          panel_from L s r.refusal r.solution.outcome (take r.n records) ≡ panel_text (read_of L s)
+          panel_from L s (outcome_in r) (take (count_in r) records) ≡ panel_text (read_of L s)
       go (refused n i) e =
-          ap (λ (y : Findings). panel_from L s y.refusal y.solution.outcome (take y.n records)) (by-reading (refused n i) e)
-          ∙ rw (ne_eqb n 0 (refusal-number L s e)) (ap panel_text (sym e))
+          ap (λ (y : Result Findings Refusal). panel_from L s (outcome_in y) (take (count_in y) records)) (by-reading (refused n i) e)
+          ∙ ap panel_text (sym e)
       go (accepted t es) e =
-          ap₂ (λ (x : Refusal) (y : Solution). panel_from L s x y.outcome (take r.n records)) found.refusal found.solution
+          ap (λ (y : Result Findings Refusal). panel_from L s (outcome_in y) (take (count_in y) records)) told.same
+          ∙ ap (λ (y : Solution). panel_from L s (Ok y.outcome) (take told.findings.n records)) told.found.solution
           ∙ ap₂ (λ (l : List ℕ) (q : Outcome). row_lines (rows_from L s l q)) (ap (within L) noted ∙ all-within) walked
           ∙ ap row_lines (rows_same (defined.outcome tie t.floors t.objective (rules_of es)) refl)
           ∙ ap panel_text (sym e)
         where
-          found : Found t es k r records
-          found = by-reading (accepted t es) e
+          told : FoundIn t es k r records
+          told = found_in t es e
 
           all-within : within L (records_of es) ≡ records_of es
           all-within =
@@ -183,10 +195,10 @@ module _ (L : Layout) (s : List ℕ) (k : ℕ) (r : Findings) (records : List �
               ap (λ (l : List Constraint). said t.objective (walk tie t.floors t.objective l).state) all
               ∙ (walk-is_defined tie tie_good t.floors t.objective (rules_of es)).outcome_defined
 
-          noted : take r.n records ≡ records_of es
+          noted : take told.findings.n records ≡ records_of es
           noted =
-              ap (λ n. take n records) found.count ∙ taken records (records_of es) (length es) (length-records es) found.enough
-              found.recorded
+              ap (λ n. take n records) told.found.count
+              ∙ taken records (records_of es) (length es) (length-records es) told.found.enough told.found.recorded
 
           rows_same : (q : Outcome) →
               defined.outcome tie t.floors t.objective (rules_of es) ≡ q →
@@ -203,10 +215,10 @@ module _ (L : Layout) (s : List ℕ) (k : ℕ) (r : Findings) (records : List �
 
   pub told-shown : {a : Answer} →
       a ≡ answer_of r records →
-      {v : StartView} →
+      {v : Result StartView Refusal} →
       v ≡ view_from r →
       {panel : Bool} {before after : List ℕ} {count : ℕ} →
-      Shows L s r.refusal r.solution.outcome (take r.n records) before after count →
+      Shows L s (outcome_in r) (take (count_in r) records) before after count →
       Tells L s k panel before (record { answer = a; count = count; view = v }) after
   told-shown ea ev {panel} {before} {after} {count} f =
       record {
@@ -217,7 +229,7 @@ module _ (L : Layout) (s : List ℕ) (k : ℕ) (r : Findings) (records : List �
 
   pub told_unshown : {a : Answer} →
       a ≡ answer_of r records →
-      {v : StartView} →
+      {v : Result StartView Refusal} →
       v ≡ view_from r →
       {panel : Bool} {before after : List ℕ} {count : ℕ} →
       panel ≡ false →

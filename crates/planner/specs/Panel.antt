@@ -1,6 +1,6 @@
 -- The panel of a book, as the bytes of its lines: for a best outcome a line for each rule, its label and its slack, in chain order; for
 -- any other outcome none; for a refused book the line of the refusal.
-use Rattle.std.specs.Prelude.{List, [], map, ℕ}
+use Rattle.std.specs.Prelude.{List, [], map, ℕ, Err}
 use Rattle.lp.specs.declared.Point.{Point}
 use Rattle.lp.specs.declared.Outcome.{Outcome}
 use Rattle.lp.specs.declared.Outcome.TheVariants as outcome
@@ -10,7 +10,6 @@ use Rattle.lp.specs.Document.{tie}
 use Rattle.records.specs.Layout.{Layout}
 use Rattle.records.specs.Planned.{planned_rule}
 use Rattle.book.specs.Reading.{Reading, refused, accepted, Entry, read_of, rules_of}
-use Rattle.answers.specs.declared.Answer.TheVariants.{Refused}
 use Rattle.answers.specs.Refusal.{refusal}
 use Rattle.text.specs.Append.{Fills}
 use Rattle.panel_row.specs.declared.Row.{Row}
@@ -29,7 +28,7 @@ rows_for es (outcome.Optimal v) = map (row_of v) es
 
 -- what is shown of what a book reads as
 unfoldable pub panel_text : Reading → List ℕ
-panel_text (refused n r) = line_of (Refused (refusal n r))
+panel_text (refused n r) = line_of (Err (refusal n r))
 panel_text (accepted t es) = row_lines (rows_for es (outcome tie t.floors t.objective (rules_of es)))
 
 -- the promise of the panel's lines

@@ -1,22 +1,23 @@
 -- One run of the planner over a book, as its private functions go about it: when the runs of numbers that a run is lent have room for the
 -- book, what it then finds by the book's reading, and what the answer and the view make of that. Nothing here stands in a promise of a
 -- function that can be called from outside.
-use Rattle.std.specs.Prelude.{◌≡◌, Bool, true, cond, List, ℕ, ◌+◌, ◌*◌, ◌≤◌, ◌<◌, eqb, length, take, get_or, ℤ}
+use Rattle.std.specs.Prelude.{◌≡◌, Bool, true, cond, Option, Some, None, Result, Ok, Err}
+use Rattle.std.specs.Prelude.{List, ℕ, ◌+◌, ◌*◌, ◌≤◌, ◌<◌, length, take, get_or, ℤ}
+use Rattle.lp.specs.declared.Outcome.{Outcome}
+use Rattle.lp.specs.declared.Point.{Point}
 use Rattle.lp.specs.declared.Terms.{Terms}
-use Rattle.lp.specs.Program.{point}
 use Rattle.lp.specs.Document.{tie}
 use Rattle.records.specs.Layout.{Layout}
 use Rattle.records.specs.Header.{header_fault, count_of}
 use Rattle.book.specs.Reading.{Reading, refused, accepted, Entry, read_of, rules_of, records_of}
-use Rattle.answers.specs.declared.Answer.{Answer}
-use Rattle.answers.specs.declared.Answer.TheVariants.{Refused, Planned}
-use Rattle.answers.specs.Refusal.{refusal, not_refused}
+use Rattle.answers.specs.declared.Refusal.{Refusal}
+use Rattle.answers.specs.Answer.{Answer}
+use Rattle.answers.specs.Refusal.{refusal}
 use Rattle.engine.specs.declared.Solution.{Solution}
-use Rattle.engine.specs.Solving.{solution_of}
+use Rattle.engine.specs.Solving.{is_held, held_point, solution_of}
 use Rattle.model.specs.Step.{walk}
 use Rattle.plans.specs.Planning.{plan_of}
 use Rattle.running.specs.declared.Findings.{Findings}
-use Rattle.running.specs.Running.{no_solution}
 use Rattle.planner.specs.declared.StartView.{StartView}
 use Rattle.planner.specs.declared.told.Told.{Told}
 use Rattle.planner.specs.Planning.{Answers}
@@ -33,27 +34,38 @@ pub record Roomy (L : Layout) (s records : List ℕ) (l : List ℤ) : Type 0 whe
 
 -- of an accepted book: what the walk along its first k rules comes to, and the chain's records
 pub record Found (t : Terms) (es : List Entry) (k : ℕ) (r : Findings) (records : List ℕ) : Type 0 where
-  pub refusal : r.refusal ≡ not_refused
   pub count : r.n ≡ length es
   pub solution : r.solution ≡ solution_of t.objective (walk tie t.floors t.objective (take k (rules_of es)))
   pub enough : length es ≤ length records
   pub recorded : (i : ℕ) → i < length es → get_or records i 0 ≡ get_or (records_of es) i 0
 
-abbrev pub RunsBy : Reading → ℕ → Findings → List ℕ → Type 0
-RunsBy (refused n i) k r records = r ≡ record { refusal = refusal n i; n = 0; solution = no_solution }
-RunsBy (accepted t es) k r records = Found t es k r records
+abbrev pub RunsBy : Reading → ℕ → Result Findings Refusal → List ℕ → Type 0
+RunsBy (refused n i) k r records = r ≡ Err (refusal n i)
+RunsBy (accepted t es) k (Err x) records = ⊥
+RunsBy (accepted t es) k (Ok r) records = Found t es k r records
 
-pub record Runs (L : Layout) (s : List ℕ) (k : ℕ) (r : Findings) (records : List ℕ) : Type 0 where
+pub record Runs (L : Layout) (s : List ℕ) (k : ℕ) (r : Result Findings Refusal) (records : List ℕ) : Type 0 where
   pub found : RunsBy (read_of L s) k r records
 
 -- ---- what is made of it
 
-abbrev pub answer_of : Findings → List ℕ → Answer
-answer_of r records = cond (eqb r.refusal.number 0) (Planned (plan_of records r.solution)) (Refused r.refusal)
+abbrev pub answer_of : Result Findings Refusal → List ℕ → Answer
+answer_of (Ok r) records = Ok (plan_of records r.solution)
+answer_of (Err x) records = Err x
 
-abbrev pub view_from : Findings → StartView
-view_from r =
-    record { refusal = r.refusal; held = r.solution.held; point = r.solution.start; restarts = r.solution.restarts }
+abbrev pub view_from : Result Findings Refusal → Result StartView Refusal
+view_from (Ok r) = Ok (record { start = r.solution.start; restarts = r.solution.restarts })
+view_from (Err x) = Err x
+
+-- what a panel shows of it
+abbrev pub outcome_in : Result Findings Refusal → Result Outcome Refusal
+outcome_in (Ok r) = Ok r.solution.outcome
+outcome_in (Err x) = Err x
+
+-- how many records of the chain that takes
+abbrev pub count_in : Result Findings Refusal → ℕ
+count_in (Ok r) = r.n
+count_in (Err x) = 0
 
 -- ---- what is told
 

@@ -16,13 +16,10 @@ use lp::Point;
 use records::Version;
 use told::{tell, tell_few, width};
 
-// The start pair after a prefix of the chain, if a pair is allowed, and how many rules so far the start pair before them did not keep. A
-// refused book has its refusal instead. What is not used is zero.
+// The start pair after a prefix of the chain, if a pair is allowed, and how many rules so far the start pair before them did not keep.
 #[derive(Clone, Copy)]
 pub struct StartView {
-    pub refusal: Refusal,
-    pub held: bool,
-    pub point: Point,
+    pub start: Option<Point>,
     pub restarts: usize,
 }
 
@@ -50,8 +47,8 @@ pub fn panel_lines(version: Version, book: &[u8], out: &mut [u8]) -> usize
     }
 }
 
-// The view of a book's first `prefix` rules, along its chain. A prefix longer than the chain is the whole chain.
-pub fn start_after(version: Version, book: &[u8], prefix: usize) -> StartView
+// The view of a book's first `prefix` rules, along its chain, or its refusal. A prefix longer than the chain is the whole chain.
+pub fn start_after(version: Version, book: &[u8], prefix: usize) -> Result<StartView, Refusal>
     ensures { Views (layout_of version) book.now prefix result }
 {
     let mut none = [0u8; 0];

@@ -1,12 +1,13 @@
 // What is told of a book: its answer, its panel and its view, all from one run. Runs of numbers are local to a function for each size of
 // book, since clearing the longest takes several times what a short book takes, and so that a short book takes little of the stack.
-ghost use Rattle.std.specs.Prelude.{◌≡◌};
+ghost use Rattle.std.specs.Prelude.{◌≡◌, ◌+◌, ◌*◌, ◌≤◌, length, take};
 ghost use Rattle.records.specs.Layout.{layout_of, width as width_of};
-ghost use Rattle.planner.specs.Running.{answer_of, view_from, Roomy, Tells};
+ghost use Rattle.showing.specs.Showing.{Shows};
+ghost use Rattle.planner.specs.Running.{answer_of, view_from, count_in, outcome_in, Roomy, Tells};
 ghost use Rattle.book.specs.Runs.{Few};
 
 use crate::StartView;
-use answers::Answer;
+use answers::{Answer, Refusal};
 use records::Version;
 use running::{Findings, run};
 use showing::show;
@@ -16,34 +17,49 @@ use showing::show;
 pub struct Told {
     pub answer: Answer,
     pub count: usize,
-    pub view: StartView,
+    pub view: Result<StartView, Refusal>,
 }
 
 // The answer of what a run found.
-fn answered(found: Findings, records: &[u16]) -> Answer
+fn answered(found: Result<Findings, Refusal>, records: &[u16]) -> Answer
     ensures { result ≡ answer_of found records.now }
 {
-    let refusal = found.refusal;
-    let number = refusal.number;
-    if number == 0 {
-        Answer::Planned(plans::plan_of(found.solution, records))
-    } else {
-        Answer::Refused(refusal)
-    }
+    let found = found?;
+    Ok(plans::plan_of(found.solution, records))
 }
 
 // The view of what a run found.
-fn viewed(found: Findings) -> StartView
+fn viewed(found: Result<Findings, Refusal>) -> Result<StartView, Refusal>
     ensures { result ≡ view_from found }
 {
-    let refusal = found.refusal;
+    let found = found?;
     let solution = found.solution;
-    let start = solution.start;
-    StartView {
-        refusal,
-        held: solution.held,
-        point: start,
+    Ok(StartView {
+        start: solution.start,
         restarts: solution.restarts,
+    })
+}
+
+// The panel of what a run found, with at least as many records as the chain has, and how many bytes it has.
+fn panelled(
+    version: Version,
+    book: &[u8],
+    found: Result<Findings, Refusal>,
+    records: &[u16],
+    out: &mut [u8],
+) -> usize
+    requires { count_in found ≤ length records.now }
+    ensures { Shows (layout_of version) book.now (outcome_in found) (take (count_in found) records.now) out.old out.new result }
+{
+    match found {
+        Err(refusal) => show(version, book, Err(refusal), &records[..0], out),
+        Ok(found) => show(
+            version,
+            book,
+            Ok(found.solution.outcome),
+            &records[..found.n],
+            out,
+        ),
     }
 }
 
@@ -65,10 +81,7 @@ fn tell_in(
     let view = viewed(found);
     let mut count = 0;
     if panel {
-        let refusal = found.refusal;
-        let solution = found.solution;
-        let outcome = solution.outcome;
-        count = show(version, book, refusal, outcome, &records[..found.n], out);
+        count = panelled(version, book, found, &*records, out);
     }
     Told {
         answer,
@@ -77,48 +90,21 @@ fn tell_in(
     }
 }
 
-// Of a book with 30 rules at most.
-fn tell_short(version: Version, book: &[u8], prefix: usize, panel: bool, out: &mut [u8]) -> Told
-    requires { Few (layout_of version) book.now 30 }
+// Of a book with at most RULES rules. Each size is an instance of its own.
+fn tell_sized<const RULES: usize, const NUMBERS: usize>(
+    version: Version,
+    book: &[u8],
+    prefix: usize,
+    panel: bool,
+    out: &mut [u8],
+) -> Told
+    requires few { Few (layout_of version) book.now RULES }
+    requires most { RULES ≤ 4095 }
+    requires numbers { NUMBERS ≡ 3 * (RULES + 2) }
     ensures { Tells (layout_of version) book.now prefix panel out.old result out.new }
 {
-    let mut records = [0u16; 30];
-    let mut entries = [0i64; 96];
-    tell_in(
-        version,
-        book,
-        prefix,
-        panel,
-        out,
-        &mut records,
-        &mut entries,
-    )
-}
-
-// Of one with 255.
-fn tell_middle(version: Version, book: &[u8], prefix: usize, panel: bool, out: &mut [u8]) -> Told
-    requires { Few (layout_of version) book.now 255 }
-    ensures { Tells (layout_of version) book.now prefix panel out.old result out.new }
-{
-    let mut records = [0u16; 255];
-    let mut entries = [0i64; 771];
-    tell_in(
-        version,
-        book,
-        prefix,
-        panel,
-        out,
-        &mut records,
-        &mut entries,
-    )
-}
-
-// Of one with as many as a book can have.
-fn tell_long(version: Version, book: &[u8], prefix: usize, panel: bool, out: &mut [u8]) -> Told
-    ensures { Tells (layout_of version) book.now prefix panel out.old result out.new }
-{
-    let mut records = [0u16; 4095];
-    let mut entries = [0i64; 12291];
+    let mut records = [0u16; RULES];
+    let mut entries = [0i64; NUMBERS];
     tell_in(
         version,
         book,
@@ -146,9 +132,9 @@ pub fn tell_few(version: Version, book: &[u8], prefix: usize, panel: bool, out: 
     ensures { Tells (layout_of version) book.now prefix panel out.old result out.new }
 {
     if book.len() <= 31 * width(version) {
-        tell_short(version, book, prefix, panel, out)
+        tell_sized::<30, 96>(version, book, prefix, panel, out)
     } else {
-        tell_middle(version, book, prefix, panel, out)
+        tell_sized::<255, 771>(version, book, prefix, panel, out)
     }
 }
 
@@ -160,6 +146,6 @@ pub fn tell(version: Version, book: &[u8], prefix: usize, panel: bool, out: &mut
     if book.len() <= 256 * width(version) {
         tell_few(version, book, prefix, panel, out)
     } else {
-        tell_long(version, book, prefix, panel, out)
+        tell_sized::<4095, 12291>(version, book, prefix, panel, out)
     }
 }

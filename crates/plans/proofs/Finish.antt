@@ -1,5 +1,6 @@
 -- The last step of a plan: what the walk along a list of rules comes to, with its certificate's entries named, is document 01's answer.
 -- The names are read off a run that may go on after them, so that they need only agree as far as there are rules.
+use Rattle.std.specs.Prelude.{Option, None, Some}
 use mathlib.Core.Path.{◌≡◌, refl, sym, ap, subst}
 use mathlib.Core.List.Memᴰ
 use mathlib.Core.List.{List, [], ◌∷◌, Memᴰ}
@@ -18,10 +19,8 @@ use Rattle.lp.specs.Program.{floor_x, floor_y, system}
 use Rattle.lp.specs.Certificate.{named, certifies, is_zero}
 use Rattle.lp.specs.Range.{SmallConstraint, SmallFloors, SmallSystem}
 use Rattle.lp.specs.Document.{tie}
+use Rattle.lp.specs.declared.Ray.{Ray}
 use Rattle.engine.specs.Solving.{solution_of, certificate_of}
-use Rattle.model.specs.declared.Best.TheVariants as best
-use Rattle.model.specs.declared.Gain.{Gain}
-use Rattle.model.specs.declared.Gain.TheVariants as gain
 use Rattle.model.specs.declared.State.{State}
 use Rattle.model.specs.declared.State.TheVariants.{Ended, Going}
 use Rattle.model.specs.Step.{walk, said, said_ray, gaining, place_of}
@@ -108,12 +107,12 @@ module _ (t : Terms) (names : List ℕ) (rules : List Constraint) (low : SmallFl
               ap rising
               (coded-same names run (length rules) agree (system t.floors (take p rules)) (omega (arith, length-take p rules)) c valid);
         }
-    state_witnessed (Going u cone best.Open) standing = go (gaining t.objective cone)
+    state_witnessed (Going u rays None) standing = go (gaining t.objective rays)
       where
-        go : (g : Gain) → Witnessed t names rules 0 (rising (coded run (certificate_of (Going u cone best.Open)))) (said_ray u g)
-        go (gain.Along d) = refl
-        go gain.Nowhere = refl
-    state_witnessed (Going u cone (best.At v)) standing = refl
+        go : (g : Option Ray) → Witnessed t names rules 0 (rising (coded run (certificate_of (Going u rays None)))) (said_ray u g)
+        go (Some d) = refl
+        go None = refl
+    state_witnessed (Going u rays (Some v)) standing = refl
 
     pub finished : PlannedAs t names rules (plan_of run (solution_of t.objective (walk tie t.floors t.objective rules)))
     finished =

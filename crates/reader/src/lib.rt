@@ -8,7 +8,7 @@ ghost use Rattle.records.specs.Layout.{layout_of};
 ghost use Rattle.records.specs.Record.{record_at, decoded_of};
 
 use decoding::inspect;
-use records::{Decoded, Version};
+use records::{Fault, Sound, Version};
 
 // A book that is held on to while it is walked from record to record, and the record that the walk has come to. What is found there is
 // worked out by a function of the slice and the index.
@@ -33,14 +33,14 @@ pub fn moved<'a>(r: Reader<'a>, at: u16) -> Reader<'a>
 }
 
 // What the record holds that a reader stands at.
-pub fn current<'a>(version: Version, r: Reader<'a>) -> Decoded
+pub fn current<'a>(version: Version, r: Reader<'a>) -> Result<Sound, Fault>
     ensures { result ≡ decoded_of (layout_of version) (record_at (layout_of version) r.entry.book.now r.entry.at) }
 {
     inspect(version, r.book, r.at)
 }
 
 // The record at an index, through a reader: for callers that hold none.
-pub fn visit(version: Version, book: &[u8], at: u16) -> Decoded
+pub fn visit(version: Version, book: &[u8], at: u16) -> Result<Sound, Fault>
     ensures { result ≡ decoded_of (layout_of version) (record_at (layout_of version) book.now at) }
 {
     current(version, stand(book, at))

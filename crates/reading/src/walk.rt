@@ -6,12 +6,13 @@ ghost use Rattle.book.specs.Judging.{Headed};
 use crate::put::{put_entry, put_record};
 use crate::refused;
 use answers::Refusal;
-use book::{Head, Judged};
+use book::Head;
 use judging::judge;
 use records::{Heading, Version};
 use rules::constraint;
 
-// The chain from the header's link on. A record that is turned back stops the walk there.
+// The chain from the header's link on. A record that is turned back stops the walk there. Each turn goes to where the last rule's link
+// leads, so that this loop counts nothing and no `for` could go over it.
 pub fn walk(
     version: Version,
     book: &[u8],
@@ -30,13 +31,13 @@ pub fn walk(
     let mut link = heading.link;
     while link != 0 {
         match judge(version, book, &mut labels, count, n, at, link) {
-            Judged::Refused(number, record) => return refused(number, record),
-            Judged::Sound(rule, next) => {
+            Err(refusal) => return refused(refusal.number, refusal.at),
+            Ok(sound) => {
                 put_record(&mut *indices, n, link);
-                put_entry(&mut *rules, n, constraint(rule));
+                put_entry(&mut *rules, n, constraint(sound.rule));
                 n += 1;
                 at = link;
-                link = next;
+                link = sound.next;
             }
         }
     }

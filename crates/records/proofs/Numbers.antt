@@ -1,13 +1,15 @@
 -- Numbers as bytes: what stands at an offset, the number that two and four bytes make, and a field of a record.
-use Prim.Native.Nat.{ℕ, zero, suc, ◌+◌, ◌-◌, ◌*◌, ◌≤◌, suc-le-suc}
-use mathlib.Core.Path.{◌≡◌, refl, ap, ◌∙◌}
+use Prim.Native.Nat.{ℕ, zero, suc, ◌+◌, ◌-◌, ◌*◌, ◌/◌, ◌%◌, ◌^◌, ◌≤◌}
+use mathlib.Core.Path.{◌≡◌, refl, sym, ap, ◌∙◌}
 use mathlib.Core.List.{List, [], ◌∷◌}
 use native.Mathlib.Omega.{arith}
 use native.Mathlib.Numerals.{add-one, add-two, add-three}
 use lib.ListN.{get_or, drop, take}
 use lib.Seq.{drop-drop}
-use native.Mathlib.Nat.{le-suc, not-suc-le-zero, le_of_suc-le-suc}
-use Rattle.records.specs.Number.{number}
+use native.Mathlib.Nat.{not-suc-le-zero, le_of_suc-le-suc, pow-suc, div-div-eq-div-mul}
+use mir.Syntax.{Width, w64}
+use Rattle.std.specs.Int.{byte_at, byte_len, bytes_low_first, to_le_bytes, from_le_bytes}
+use Rattle.records.specs.Number.{number, bytes_of}
 
 -- ---- reading
 
@@ -46,6 +48,44 @@ four_bytes s at =
       number_step 0 (suc (suc (suc at))) s,
       number-none (drop (suc (suc (suc (suc at)))) s),
     ))
+
+-- and eight, from a list's start
+pub eight_bytes : (s : List ℕ) → from_le_bytes w64 s ≡ number 8 s
+eight_bytes s =
+    omega (
+      arith,
+      number_step 7 0 s,
+      number_step 6 1 s,
+      number_step 5 2 s,
+      number_step 4 3 s,
+      number_step 3 4 s,
+      number_step 2 5 s,
+      number_step 1 6 s,
+      number_step 0 7 s,
+      number-none (drop 8 s),
+    )
+
+-- ---- writing
+
+-- the library's bytes of a number
+bytes_from : (n i v : ℕ) → bytes_low_first i n v ≡ bytes_of n (v / 256 ^ i)
+unfolding bytes_of
+bytes_from zero i v = refl
+bytes_from (suc n) i v =
+    λ j. byte i v j ∷ (bytes_from n (suc i) v ∙ ap (bytes_of n) (next i v)) j
+  where
+    byte : (i v : ℕ) → byte_at i v ≡ v / 256 ^ i % 256
+    byte zero v = omega arith
+    byte (suc i) v = refl
+
+    next : (i v : ℕ) → v / 256 ^ suc i ≡ v / 256 ^ i / 256
+    next i v = ap (λ (m : ℕ). v / m) (pow-suc 256 i) ∙ sym (div-div-eq-div-mul v (256 ^ i) 256)
+
+pub written : (w : Width) (v : ℕ) → to_le_bytes w v ≡ bytes_of (byte_len w) v
+written w v = bytes_from (byte_len w) 0 v ∙ ap (bytes_of (byte_len w)) (whole v)
+  where
+    whole : (v : ℕ) → v / 1 ≡ v
+    whole v = omega arith
 
 -- ---- a field of a record: the first bytes of a part are the whole's
 

@@ -1,13 +1,11 @@
 -- The fields of a record of any layout, at their offsets in the book: what the code reads is what the definitions say. A record that is
 -- not there in full is read from a copy with zeros after it.
-use Prim.Native.Nat.{ℕ, zero, suc, ◌+◌, ◌*◌, ◌≤◌, ◌<◌}
+use Prim.Native.Nat.{ℕ, zero, suc, ◌+◌, ◌*◌, ◌≤◌}
 use mathlib.Core.Path.{◌≡◌, refl, sym, ap, ◌∙◌}
 use mathlib.Core.List.{List}
 use native.Mathlib.Omega.{arith}
 use native.Mathlib.Nat.{add-zero}
-use native.Mathlib.Decide.{ℕ_discrete}
-use lib.ListN.{length, get_or, set, take, drop}
-use lib.Seq.{get_or-set_same, get_or-set_other}
+use lib.ListN.{get_or, take, drop}
 use Rattle.records.specs.declared.fields.Fields.{Fields}
 use Rattle.records.specs.Layout.{Layout, width, at_kind, at_pad, at_a, at_b, at_label, at_c}
 use Rattle.records.specs.Number.{number, Copied}
@@ -41,20 +39,8 @@ module _ (L : Layout) (s : List ℕ) (at : ℕ) where
         c = (c ∙ field 4 (at_c L) (omega arith)) j;
       }
 
--- one byte more of a copy
-pub copied_more : (s w : List ℕ) (at i v : ℕ) →
-    ((j : ℕ) → j < i → get_or w j 0 ≡ get_or s (at + j) 0) →
-    i < length w →
-    v ≡ get_or s (at + i) 0 →
-    (j : ℕ) → j < i + 1 → get_or (set w i v) j 0 ≡ get_or s (at + j) 0
-copied_more s w at i v f r e j h = go (ℕ_discrete j i)
-  where
-    go : Dec (j ≡ i) → get_or (set w i v) j 0 ≡ get_or s (at + j) 0
-    go (yes p) = rw p (get_or-set_same w i v 0 r ∙ e)
-    go (no n) = get_or-set_other w i j v 0 n ∙ f j (omega arith)
-
 -- a number of a copy
-copied-number : {s w : List ℕ} {at m : ℕ} →
+pub copied-number : {s w : List ℕ} {at m : ℕ} →
     Copied s at m w →
     (n off : ℕ) →
     off + n ≤ m →

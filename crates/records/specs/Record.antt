@@ -1,13 +1,14 @@
 -- A record of the book, from its bytes to its fields, and the causes 8, 9 and 10 by which a rule record is refused.
 -- Signed numbers are in two's complement: `to_z w16` and `to_z w32` are the machine's own readings of 16 and of 32 bits.
-use Rattle.std.specs.Prelude.{ℕ, ◌+◌, ◌*◌, Bool, cond, not, ◌||◌, ◌&&◌, List, length, take, drop, eqb, leb, ℤ, pos, negsuc}
+use Rattle.std.specs.Prelude.{ℕ, ◌+◌, ◌*◌, Bool, cond, not, ◌||◌, ◌&&◌, List, length, take, drop, eqb, leb, ℤ, pos, negsuc, Result, Ok, Err}
 use Rattle.std.specs.Int.Signed.{lt_z}
 use Rattle.std.specs.Int.{w16, w32}
 use Rattle.std.proofs.Common.{to_z}
 use Rattle.records.specs.declared.fields.Fields.{Fields}
 use Rattle.records.specs.declared.Rule.{Rule}
-use Rattle.records.specs.declared.Decoded.{Decoded}
-use Rattle.records.specs.declared.Decoded.TheVariants.{Sound, Kind, Slope, Bound}
+use Rattle.records.specs.declared.Sound.{Sound}
+use Rattle.records.specs.declared.Fault.{Fault}
+use Rattle.records.specs.declared.Fault.TheVariants.{Kind, Slope, Bound}
 use Rattle.records.specs.Layout.{Layout, width, at_kind, at_pad, at_a, at_b, at_label, at_c}
 use Rattle.records.specs.Number.{number}
 
@@ -79,21 +80,25 @@ bad_slope r = is_least r.a || is_least r.b
 abbrev pub bad_bound : Rule → Bool
 bad_bound r = is_beyond r.c
 
+-- a sound rule, with its link
+abbrev pub sound_with : Rule → ℕ → Result Sound Fault
+sound_with r next = Ok (record { rule = r; next = next })
+
 -- a rule with its link: sound, or what refuses it first
-unfoldable pub decoded_with : Bool → Rule → ℕ → Decoded
+unfoldable pub decoded_with : Bool → Rule → ℕ → Result Sound Fault
 decoded_with clear r next =
-    cond (bad_kind clear r) Kind (cond (bad_slope r) Slope (cond (bad_bound r) Bound (Sound r next)))
+    cond (bad_kind clear r) (Err Kind) (cond (bad_slope r) (Err Slope) (cond (bad_bound r) (Err Bound) (sound_with r next)))
 
 -- of a record's fields
-abbrev pub decoded_from : Fields → Decoded
+abbrev pub decoded_from : Fields → Result Sound Fault
 decoded_from f = decoded_with (eqb f.pad 0) (rule_with f.kind f.a f.b f.label f.c) f.link
 
-unfoldable pub decoded_of : Layout → List ℕ → Decoded
+unfoldable pub decoded_of : Layout → List ℕ → Result Sound Fault
 decoded_of L r = decoded_with (eqb (pad_of L r) 0) (rule_of L r) (link_of L r)
 
 -- document 01's number for each; 0 where nothing refuses the record
-abbrev pub number_of : Decoded → ℕ
-number_of (Sound r i) = 0
-number_of Kind = 8
-number_of Slope = 9
-number_of Bound = 10
+abbrev pub number_of : Result Sound Fault → ℕ
+number_of (Ok s) = 0
+number_of (Err Kind) = 8
+number_of (Err Slope) = 9
+number_of (Err Bound) = 10

@@ -27,10 +27,16 @@ pub struct Rule {
     pub label: u16,
 }
 
-// What a rule record comes to: its rule and its link, or what turns it back.
+// What a sound rule record comes to: its rule, and its link to the next record.
 #[derive(Clone, Copy)]
-pub enum Decoded {
-    Sound(Rule, u16),
+pub struct Sound {
+    pub rule: Rule,
+    pub next: u16,
+}
+
+// What turns a rule record back.
+#[derive(Clone, Copy)]
+pub enum Fault {
     Kind,
     Slope,
     Bound,

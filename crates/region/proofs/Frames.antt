@@ -1,4 +1,5 @@
 -- The run with the floors before the rules and the horizon after them; and the promise of `corners` on each of its two ways.
+use Rattle.std.specs.Prelude.{None, Some}
 use mathlib.Core.Path.{◌≡◌, refl, sym, ◌∙◌, ap, ap₂, subst}
 use mathlib.Core.List.{List, [], ◌∷◌}
 use mathlib.Core.Bool.{Bool, true, false, cond, ◌&&◌}
@@ -23,7 +24,6 @@ use Rattle.boundary.specs.Size.{horizon}
 use Rattle.boundary.specs.Ring.{grown, corners}
 use Rattle.boundary.proofs.Count.{edges-at-most}
 use Rattle.region.specs.declared.Arc.{Arc}
-use Rattle.region.specs.declared.Listed.TheVariants as listed
 use Rattle.region.specs.Row.{edge, edges, Named}
 use Rattle.region.specs.Listing.{put_points, chosen, is_rule, roomy, taken, framed, corners_of, Lists}
 use Rattle.region.specs.Asked.{Framing, Growing, Grown, Listing, CornersPut}
@@ -163,10 +163,10 @@ fit-taken f e n order ring out h =
 
 module _ (f : Floors) (e : List ℤ) (n : ℕ) (order ring : List ℕ) (out : List ℤ) {t : Bool}
     (told : t ≡ taken f e n order (length ring) (length out)) where
-  pub outside : t ≡ false → Lists f e n order ring out listed.Outside e ring out
+  pub outside : t ≡ false → Lists f e n order ring out None e ring out
   outside not =
       record {
-        answer = ap (λ b. cond b (listed.Corners (length (corners_of f e order))) listed.Outside) (sym not ∙ told);
+        answer = ap (λ b. cond b (Some (length (corners_of f e order))) None) (sym not ∙ told);
         listed = ap (λ b. cond b (put_points out 0 (corners_of f e order)) out) (sym not ∙ told);
         run = ap (λ b. cond b (framed f e n) e) (sym not ∙ told);
         scratch = refl;
@@ -269,12 +269,12 @@ module _ (f : Floors) (e : List ℤ) (n : ℕ) (order ring : List ℕ) (out : Li
         pub lists :
             {k : ℕ} {out' : List ℤ} →
             CornersPut e' ring' a out k out' →
-            Lists f e n order ring out (listed.Corners k) e' ring' out'
+            Lists f e n order ring out (Some k) e' ring' out'
         lists l =
             record {
               answer =
-                  ap listed.Corners (l.count ∙ ap (λ r. length (corners r)) the_ring)
-                  ∙ ap (λ b. cond b (listed.Corners (length (corners_of f e order))) listed.Outside) (sym so ∙ told);
+                  ap Some (l.count ∙ ap (λ r. length (corners r)) the_ring)
+                  ∙ ap (λ b. cond b (Some (length (corners_of f e order))) None) (sym so ∙ told);
               listed =
                   l.put
                   ∙ ap (λ r. put_points out 0 (corners r)) the_ring

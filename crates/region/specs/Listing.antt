@@ -1,5 +1,5 @@
 -- The promise of `corners`: which runs and numbers it takes, and what it lists for them.
-use Rattle.std.specs.Prelude.{◌≡◌, List, [], ◌∷◌, Bool, cond, ◌&&◌, ℕ, suc, ◌+◌, ◌*◌, ◌-◌, leb, ltb, length, set, ℤ}
+use Rattle.std.specs.Prelude.{◌≡◌, List, [], ◌∷◌, Bool, cond, ◌&&◌, ℕ, suc, ◌+◌, ◌*◌, ◌-◌, leb, ltb, length, set, ℤ, Option, None, Some}
 use Rattle.lp.specs.declared.Constraint.{Constraint}
 use Rattle.lp.specs.declared.Floors.{Floors}
 use Rattle.lp.specs.declared.Point.{Point}
@@ -9,8 +9,6 @@ use Rattle.engine.specs.Entries.{entry, entries, put_entry}
 use Rattle.amounts.specs.Tests.{rule_in_range, floors_in_range}
 use Rattle.boundary.specs.Size.{horizon}
 use Rattle.boundary.specs.Ring.{grown, corners}
-use Rattle.region.specs.declared.Listed.{Listed}
-use Rattle.region.specs.declared.Listed.TheVariants as listed
 
 -- ---- points in a run of numbers, three to a point: X, Y, D, X, Y, D, ..
 
@@ -52,10 +50,10 @@ framed f e n = put_entry (put_entry (put_entry e 0 (floor_x f)) 1 (floor_y f)) (
 abbrev pub corners_of : Floors → List ℤ → List ℕ → List Point
 corners_of f e order = corners (grown f (chosen e order))
 
-pub record Lists (f : Floors) (e : List ℤ) (n : ℕ) (order ring : List ℕ) (out : List ℤ) (r : Listed) (e' : List ℤ) (ring' : List ℕ)
+pub record Lists (f : Floors) (e : List ℤ) (n : ℕ) (order ring : List ℕ) (out : List ℤ) (r : Option ℕ) (e' : List ℤ) (ring' : List ℕ)
     (out' : List ℤ) : Type 0 where
   pub answer :
-      r ≡ cond (taken f e n order (length ring) (length out)) (listed.Corners (length (corners_of f e order))) listed.Outside
+      r ≡ cond (taken f e n order (length ring) (length out)) (Some (length (corners_of f e order))) None
   pub listed : out' ≡ cond (taken f e n order (length ring) (length out)) (put_points out 0 (corners_of f e order)) out
   pub run : e' ≡ cond (taken f e n order (length ring) (length out)) (framed f e n) e
   pub scratch : length ring' ≡ length ring

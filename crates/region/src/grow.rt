@@ -26,10 +26,8 @@ fn enter(size: Constraint, run: &[i64], order: &[u16], ring: &mut [u16], arc: Ar
     ensures { Entered run.now order.now ring.old size arc result ring.new }
 {
     let mut next = arc;
-    let mut i = 0;
-    while i < order.len() {
-        next = insert(size, run, &mut *ring, order[i], next);
-        i += 1;
+    for &h in order {
+        next = insert(size, run, &mut *ring, h, next);
     }
     next
 }

@@ -8,7 +8,8 @@ use crate::edges::{at_place, corner_keeps, entry};
 use crate::turning::turn;
 use lp::Constraint;
 
-// Turns a ring of two edges or more until h's place is behind its first edge, and says where the ring stands then.
+// Turns a ring of two edges or more until h's place is behind its first edge, and says where the ring stands then. The turns that are left
+// are counted and name no edge, so that a `for` over them would be no plainer.
 fn seek(
     size: Constraint,
     run: &[i64],
@@ -38,18 +39,18 @@ fn front(run: &[i64], ring: &[u16], h: Constraint, lo: usize, n: usize) -> usize
     requires { Cutting run.now ring.now h lo n }
     ensures { Dropped run.now ring.now lo n h result }
 {
-    let mut i = 0;
-    while i + 1 < n {
+    let last = n - 1;
+    for i in 0..last {
         let at = lo + i;
         if corner_keeps(run, ring, h, at, at + 1) {
             return i;
         }
-        i += 1;
     }
-    i
+    last
 }
 
-// How many edges are left when those at the back go whose earlier corner h breaks; the first edge stays.
+// How many edges are left when those at the back go whose earlier corner h breaks; the first edge stays. The count goes down as edges go
+// and is what is handed back: a range turned round would be no plainer.
 fn back(run: &[i64], ring: &[u16], h: Constraint, lo: usize, n: usize) -> usize
     requires { Cutting run.now ring.now h lo n }
     ensures { Left run.now ring.now lo n h result }

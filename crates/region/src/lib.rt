@@ -23,17 +23,12 @@ pub struct Arc {
     pub n: usize,
 }
 
-// Outside: some number is out of its range, a run has no room, or the order names what is no rule.
-#[derive(Clone, Copy)]
-pub enum Listed {
-    Outside,
-    Corners(usize),
-}
-
 // Lists the corners of a region, in lowest terms, three numbers each, in the order of its boundary; a corner may be listed more than once.
 // The n rules stand in a run of numbers from its seventh on (a, b, c each), with room for one more entry after them: the floors are laid
 // out before them, and the line at infinity after them. `order` names the rules that enter, by their entries: rule i is entry i + 2. In the
 // order of their angles they enter quickest. `ring` is the boundary's own; twice as long as there are rules, it is seldom laid out again.
+// The answer is how many corners are listed, or None where some number is out of its range, a run has no room, or the order names what is
+// no rule.
 pub fn corners(
     floors: Floors,
     run: &mut [i64],
@@ -41,7 +36,7 @@ pub fn corners(
     order: &[u16],
     ring: &mut [u16],
     out: &mut [i64],
-) -> Listed
+) -> Option<usize>
     ensures { Lists floors run.old n order.now ring.old out.old
         result run.new ring.new out.new }
 {
@@ -49,7 +44,7 @@ pub fn corners(
         frame::frame(floors, &mut *run, n);
         let arc = grow::grow(floors, &*run, n + 3, order, &mut *ring);
         let count = list::list(&*run, &*ring, arc, out);
-        return Listed::Corners(count);
+        return Some(count);
     }
-    Listed::Outside
+    None
 }

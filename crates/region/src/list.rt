@@ -46,12 +46,10 @@ pub fn list(run: &[i64], ring: &[u16], arc: Arc, out: &mut [i64]) -> usize
         return 0;
     }
     let mut k = 0;
-    let mut i = 1;
-    while i < n {
+    for i in 1..n {
         let at = lo + i;
         let p = edge(run, ring, at - 1);
         k = note(p, edge(run, ring, at), &mut *out, k);
-        i += 1;
     }
     let p = edge(run, ring, lo + n - 1);
     note(p, edge(run, ring, lo), out, k)

@@ -1,20 +1,14 @@
 // Whether runs have room and numbers are within their ranges, asked before anything is computed of them.
 ghost use Rattle.std.specs.Prelude.{◌≡◌};
 ghost use Rattle.lp.specs.Outcome.{every};
-ghost use Rattle.amounts.specs.Tests.{rule_in_range, floors_in_range};
+ghost use Rattle.amounts.specs.Tests.{rule_in_range};
 ghost use Rattle.engine.specs.Entries.{entries};
 ghost use Rattle.region.specs.Listing.{is_rule, roomy, taken};
 ghost use Rattle.region.specs.Asked.{Testing};
 
 use crate::edges::entry;
-use amounts::range::{rule_in_range, up_to};
+use amounts::range::{floors_in_range, rule_in_range};
 use lp::Floors;
-
-fn floors_in_range(f: Floors) -> bool
-    ensures { result ≡ floors_in_range f }
-{
-    up_to(32768, f.lx) & up_to(32768, f.ly)
-}
 
 // Every one of n rules, which stand from entry 2 on.
 fn rules_in_range(run: &[i64], n: usize) -> bool
@@ -22,11 +16,8 @@ fn rules_in_range(run: &[i64], n: usize) -> bool
     ensures { result ≡ every rule_in_range (entries run.now 2 n) }
 {
     let end = n + 2;
-    let mut i = 2;
-    while i < end {
-        if rule_in_range(entry(run, i)) {
-            i += 1;
-        } else {
+    for i in 2..end {
+        if !rule_in_range(entry(run, i)) {
             return false;
         }
     }
@@ -44,11 +35,8 @@ fn is_rule(n: usize, k: usize) -> bool
 fn names_rules(order: &[u16], n: usize) -> bool
     ensures { result ≡ every (is_rule n) order.now }
 {
-    let mut i = 0;
-    while i < order.len() {
-        if is_rule(n, order[i] as usize) {
-            i += 1;
-        } else {
+    for &k in order {
+        if !is_rule(n, k as usize) {
             return false;
         }
     }

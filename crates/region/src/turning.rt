@@ -7,11 +7,9 @@ fn slide(ring: &mut [u16], lo: usize, n: usize)
     requires { Sliding ring.old lo n }
     ensures { Slides ring.old lo n ring.new }
 {
-    let mut i = 0;
-    while i < n {
+    for i in 0..n {
         let k = ring[lo + i];
         ring[i] = k;
-        i += 1;
     }
 }
 

@@ -4,7 +4,6 @@
 
 #![tactic(auto)]
 
-use answers::Answer;
 use records::Version;
 use std::io;
 
@@ -12,13 +11,12 @@ fn main(rt: HostRuntime) -> io::Result<()> {
     let mut input = [0u8; 57345];
     let n = streams::read_full(&mut rt.stdin(), &mut input)?;
     let mut out = [0u8; 57344];
-    let answer = repacker::repack(Version::Two, &input[..n], &mut out);
-    let refusal = answer.refusal;
-    if refusal.number == 0 {
-        rt.write_all(&out[..answer.filled])
-    } else {
-        let mut line = [0u8; 256];
-        let end = answer_line::write_line(Answer::Refused(refusal), &mut line);
-        rt.stderr().write_all(&line[..end])
+    match repacker::repack(Version::Two, &input[..n], &mut out) {
+        Ok(filled) => rt.write_all(&out[..filled]),
+        Err(refusal) => {
+            let mut line = [0u8; 256];
+            let end = answer_line::write_line(Err(refusal), &mut line);
+            rt.stderr().write_all(&line[..end])
+        }
     }
 }

@@ -1,4 +1,5 @@
 -- What repacking hands back and leaves in the output, from what the book reads as.
+use Rattle.std.specs.Prelude.{Ok, Err}
 use Prim.Native.Nat.{ℕ, ◌+◌, ◌*◌, ◌≤◌, ◌<◌}
 use mathlib.Core.Path.{◌≡◌, refl, sym, ap, ◌∙◌}
 use mathlib.Core.Bool.{true, false, cond}
@@ -98,13 +99,13 @@ two_pastes out H T m h t r =
 module _ (L : Layout) (s out : List ℕ) where
   pub packs-refused : (k i : ℕ) →
       read_of L s ≡ refused k i →
-      Repacks L s out (record { refusal = record { number = k; at = i }; filled = 0 }) out
+      Repacks L s out (Err (record { number = k; at = i })) out
   unfolding pack_of
   packs-refused k i e = record { answer = rw e; output = rw e }
 
   module _ {ch : Head} {run : List ℕ} (c : ChainRead L s ch run) where
     pub packs-declined : length out < 14 * (ch.n + 1) →
-        Repacks L s out (record { refusal = record { number = 11; at = 0 }; filled = 0 }) out
+        Repacks L s out (Err (record { number = 11; at = 0 })) out
     unfolding pack_of
     packs-declined l =
         record {
@@ -138,7 +139,7 @@ module _ (L : Layout) (s out : List ℕ) where
         H ≡ header_bytes v2 first (terms_of L s) ch.n →
         out₁ ≡ paste out 0 H 14 →
         out₂ ≡ paste out₁ 14 (chain_bytes v2 1 (rules_at L s (take ch.n run))) (14 * ch.n) →
-        Repacks L s out (record { refusal = ch.refusal; filled = 14 * (ch.n + 1) }) out₂
+        Repacks L s out (Ok (14 * (ch.n + 1))) out₂
     unfolding book_of
     packs-packed h first H out₁ out₂ ef eh e₁ e₂ =
         let link : first ≡ next_of 0 (rules_at L s c.done) = ef ∙ ap (λ n. cond (ltb 0 n) 1 0) (sym rules-long) ∙ sym (next-is 0 0 (rules_at L s c.done)) in
@@ -147,7 +148,7 @@ module _ (L : Layout) (s out : List ℕ) where
         let T = chain_bytes v2 1 (rules_at L s c.done) in
         let long : length T ≡ 14 * ch.n = length-chain_bytes v2 1 (rules_at L s c.done) ∙ rw rules-long (omega arith) in
         record {
-          answer = (λ j. record { refusal = c.clear j; filled = sym book-long j }) ∙ ap repacked_of (sym (fits h));
+          answer = ap (λ (n : ℕ). Ok n) (sym book-long) ∙ ap repacked_of (sym (fits h));
           output =
               e₂
               ∙ (λ j. paste (e₁ j) 14 (chain_bytes v2 1 (rules_at L s (c.kept j))) (14 * ch.n))

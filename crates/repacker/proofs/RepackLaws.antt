@@ -1,6 +1,7 @@
 -- The laws of repacking: the repacked form of an accepted book, of whichever version, is accepted by version 2 and reads as the same terms
 -- and rules; it is its own repacked form; and books that read alike have one repacked form. They ask of a book's layout only that version 2
 -- can hold what it holds, which is so of both versions.
+use Rattle.std.specs.Prelude.{Result, Ok, Err}
 use Prim.Native.Nat.{ℕ, zero, suc, ◌+◌, ◌*◌, ◌≤◌, ◌<◌}
 use mathlib.Core.Path.{◌≡◌, refl, sym, ap, ◌∙◌, subst⁻¹}
 use mathlib.Core.Bool.{Bool, true, false, cond}
@@ -23,7 +24,7 @@ use Rattle.records.specs.Number.{number, Bytes}
 use Rattle.records.specs.Record.{record_at, rule_of}
 use Rattle.book.specs.Reading.{Reading, refused, accepted, Entry, records_of, read_of}
 use Rattle.repacker.specs.Repacking.{Packing, book_of, declined, packed, rule_in, numbered, pack_of, repack_of, Carried, ReadAlike}
-use Rattle.repacker.specs.declared.Repacked.{Repacked}
+use Rattle.answers.specs.declared.Refusal.{Refusal}
 use Rattle.repacker.specs.Promises.{Repacks, repacked_of, output_of}
 use Rattle.book.proofs.Causes.{cause-number, refusal_applies, acceptance_means}
 use Rattle.records.proofs.Small.{label_small, two-bytes-small}
@@ -229,57 +230,52 @@ alike_repacked L L' s t room a =
 
 -- ---- what the repacker promises, read by its caller
 
-module _ {L : Layout} {s out after : List ℕ} {r : Repacked} (p : Repacks L s out r after) where
+ok_apart : {x : Refusal} {n : ℕ} → ◌≡◌ {A = Result ℕ Refusal} (Err x) (Ok n) → ⊥
+ok_apart e = cc
+
+same_count : {n m : ℕ} → ◌≡◌ {A = Result ℕ Refusal} (Ok n) (Ok m) → n ≡ m
+same_count e = cc
+
+module _ {L : Layout} {s out after : List ℕ} {r : Result ℕ Refusal} (p : Repacks L s out r after) where
   -- nothing is turned back: the filled bytes are the repacked form, and what follows them is as it was
-  pub record Filled : Type 0 where
+  pub record Filled (n : ℕ) : Type 0 where
     pub bytes : List ℕ
     pub packs : repack_of L s (length out) ≡ packed bytes
-    pub filled : r.filled ≡ length bytes
+    pub filled : n ≡ length bytes
     pub output : after ≡ bytes ++ drop (length bytes) out
 
-  pub packed-filled : r.refusal.number ≡ 0 → Filled
-  packed-filled z = go (repack_of L s (length out)) refl
-    where
-      go : (x : Packing) → repack_of L s (length out) ≡ x → Filled
-      go (declined k i) e =
-          absurd
-          (let n : k ≡ 0 = sym (ap (λ (x : Repacked). x.refusal.number) (p.answer ∙ ap repacked_of e)) ∙ z in
-          let y : ⊥ = omega (arith, declined-number L s (length out) e) in
-          y)
-      go (packed bs) e =
-          record {
-            bytes = bs;
-            packs = e;
-            filled = ap (λ (x : Repacked). x.filled) (p.answer ∙ ap repacked_of e);
-            output = p.output ∙ ap (λ (x : Packing). output_of x out) e;
-          }
+  module _ {n : ℕ} (z : r ≡ Ok n) where
+    pub packed-filled : Filled n
+    packed-filled = go (repack_of L s (length out)) refl
+      where
+        go : (x : Packing) → repack_of L s (length out) ≡ x → Filled n
+        go (declined k i) e = absurd (ok_apart (sym (p.answer ∙ ap repacked_of e) ∙ z))
+        go (packed bs) e =
+            record {
+              bytes = bs;
+              packs = e;
+              filled = same_count (sym z ∙ p.answer ∙ ap repacked_of e);
+              output = p.output ∙ ap (λ (x : Packing). output_of x out) e;
+            }
 
-  -- the first `filled` bytes of the output read as the same terms and rules
-  pub filled_alike : Carried L v2 → Bytes s → r.refusal.number ≡ 0 → ReadAlike (read_of L s) (read_of v2 (take r.filled after))
-  filled_alike c b z =
-      let f = packed-filled z in
-      let front : take r.filled after ≡ f.bytes =
-      (λ j. take (f.filled j) (f.output j)) ∙ take_at f.bytes (drop (length f.bytes) out) (length f.bytes) refl in
-      rw front (repacked_alike L c s b (length out) f.bytes f.packs)
+    -- the filled bytes of the output read as the same terms and rules
+    pub filled_alike : Carried L v2 → Bytes s → ReadAlike (read_of L s) (read_of v2 (take n after))
+    filled_alike c b =
+        let f = packed-filled in
+        let front : take n after ≡ f.bytes =
+        (λ j. take (f.filled j) (f.output j)) ∙ take_at f.bytes (drop (length f.bytes) out) (length f.bytes) refl in
+        rw front (repacked_alike L c s b (length out) f.bytes f.packs)
+
+    -- they are the output's
+    pub filled_within : n ≤ length after
+    filled_within =
+        let f = packed-filled in
+        omega (arith, f.filled, ap (λ (l : List ℕ). length l) f.output, length-append f.bytes (drop (length f.bytes) out))
 
   -- a refusal leaves the output as it was
-  pub declined-kept : (r.refusal.number ≡ 0 → ⊥) → after ≡ out
-  declined-kept n = go (repack_of L s (length out)) refl
+  pub declined-kept : {x : Refusal} → r ≡ Err x → after ≡ out
+  declined-kept {x} z = go (repack_of L s (length out)) refl
     where
-      go : (x : Packing) → repack_of L s (length out) ≡ x → after ≡ out
-      go (declined k i) e = p.output ∙ ap (λ (x : Packing). output_of x out) e
-      go (packed bs) e = absurd (n (ap (λ (x : Repacked). x.refusal.number) (p.answer ∙ ap repacked_of e)))
-
-  -- the filled bytes are the output's
-  pub filled_within : r.filled ≤ length after
-  filled_within = go (repack_of L s (length out)) refl
-    where
-      go : (x : Packing) → repack_of L s (length out) ≡ x → r.filled ≤ length after
-      go (declined k i) e = omega (arith, ap (λ (x : Repacked). x.filled) (p.answer ∙ ap repacked_of e))
-      go (packed bs) e =
-          omega (
-            arith,
-            ap (λ (x : Repacked). x.filled) (p.answer ∙ ap repacked_of e),
-            ap (λ (l : List ℕ). length l) (p.output ∙ ap (λ (x : Packing). output_of x out) e),
-            length-append bs (drop (length bs) out),
-          )
+      go : (y : Packing) → repack_of L s (length out) ≡ y → after ≡ out
+      go (declined k i) e = p.output ∙ ap (λ (y : Packing). output_of y out) e
+      go (packed bs) e = absurd (ok_apart (sym z ∙ p.answer ∙ ap repacked_of e))

@@ -5,7 +5,7 @@
 
 mod pack;
 
-ghost use Rattle.std.specs.Prelude.{◌≡◌, length};
+ghost use Rattle.std.specs.Prelude.{◌≡◌, ◌≤◌, length};
 ghost use Rattle.records.specs.Layout.{layout_of};
 ghost use Rattle.book.specs.Reading as reading;
 ghost use Rattle.book.specs.Runs.{Few};
@@ -18,15 +18,13 @@ use packing::header_bytes;
 use reading::read;
 use records::Version;
 
-// What repacking answers: a refusal, or how many bytes of the output were filled.
-#[derive(Clone, Copy)]
-pub struct Repacked {
-    pub refusal: Refusal,
-    pub filled: usize,
-}
-
-// The repacked form of a book, into the output, with a run for its records lent.
-fn repack_in(version: Version, book: &[u8], out: &mut [u8], indices: &mut [u16]) -> Repacked
+// The repacked form of a book, into the output, with a run for its records lent: how many bytes it has, or the refusal.
+fn repack_in(
+    version: Version,
+    book: &[u8],
+    out: &mut [u8],
+    indices: &mut [u16],
+) -> Result<usize, Refusal>
     requires { Few (layout_of version) book.now (length indices.old) }
     ensures { Repacks (layout_of version) book.now out.old result out.new }
 {
@@ -34,46 +32,44 @@ fn repack_in(version: Version, book: &[u8], out: &mut [u8], indices: &mut [u16])
     let head = read(version, book, &mut *indices, &mut none);
     let refusal = head.refusal;
     if refusal.number != 0 {
-        return Repacked { refusal, filled: 0 };
+        return Err(refusal);
     }
     let n = head.n;
     let filled = 14 * (n + 1);
     if out.len() < filled {
-        let refusal = Refusal { number: 11, at: 0 };
-        return Repacked { refusal, filled: 0 };
+        return Err(Refusal { number: 11, at: 0 });
     }
     let rules = n as u16;
     let header = header_bytes(version, book, next_of(0, rules), rules);
     store(&mut *out, 0, header);
     put_rules(version, book, &mut *out, &*indices, rules);
-    Repacked { refusal, filled }
+    Ok(filled)
 }
 
-// Of a book with 255 rules at most. Clearing the longest run takes several times what a short book takes.
-fn repack_short(version: Version, book: &[u8], out: &mut [u8]) -> Repacked
-    requires { Few (layout_of version) book.now 255 }
+// Of a book with at most RULES rules. Each size is an instance of its own: clearing the longest run takes several times what a short
+// book takes.
+fn repack_sized<const RULES: usize>(
+    version: Version,
+    book: &[u8],
+    out: &mut [u8],
+) -> Result<usize, Refusal>
+    requires few { Few (layout_of version) book.now RULES }
+    requires most { RULES ≤ 4095 }
     ensures { Repacks (layout_of version) book.now out.old result out.new }
 {
-    let mut indices = [0u16; 255];
+    let mut indices = [0u16; RULES];
     repack_in(version, book, out, &mut indices)
 }
 
-// Of one with as many as a book can have.
-fn repack_long(version: Version, book: &[u8], out: &mut [u8]) -> Repacked
-    ensures { Repacks (layout_of version) book.now out.old result out.new }
-{
-    let mut indices = [0u16; 4095];
-    repack_in(version, book, out, &mut indices)
-}
-
-// The repacked form of a book of either version, always version 2, into the output. A book that is turned back, or an output without room,
-// leaves the output as it was. No book of 3,584 bytes, 256 records of 14, has more than 255 rules, whichever its version.
-pub fn repack(version: Version, book: &[u8], out: &mut [u8]) -> Repacked
+// The repacked form of a book of either version, always version 2, into the output, and how many bytes it has. A book that is turned back,
+// or an output without room, leaves the output as it was. No book of 3,584 bytes, 256 records of 14, has more than 255 rules, whichever its
+// version.
+pub fn repack(version: Version, book: &[u8], out: &mut [u8]) -> Result<usize, Refusal>
     ensures { Repacks (layout_of version) book.now out.old result out.new }
 {
     if book.len() <= 3584 {
-        repack_short(version, book, out)
+        repack_sized::<255>(version, book, out)
     } else {
-        repack_long(version, book, out)
+        repack_sized::<4095>(version, book, out)
     }
 }

@@ -19,11 +19,7 @@ pub fn store(out: &mut [u8], at: usize, bytes: [u8; 14])
     requires { at + 14 ≤ length out.old }
     ensures { out.new ≡ paste out.old at bytes 14 }
 {
-    let mut i: usize = 0;
-    while i < 14 {
-        out[at + i] = bytes[i];
-        i += 1;
-    }
+    out[at..at + 14].copy_from_slice(&bytes);
 }
 
 // The rules of the chain, whose records are listed, into the records 1 to n of the output.
@@ -32,12 +28,10 @@ pub fn put_rules(version: Version, book: &[u8], out: &mut [u8], indices: &[u16],
     ensures { out.new ≡ paste out.old 14
         (chain_bytes v2 1 (rules_at (layout_of version) book.now (take n indices.now))) (14 * n) }
 {
-    let mut k: u16 = 0;
-    while k < n {
+    for k in 0..n {
         let index = indices[k as usize];
         let place = k + 1;
         let bytes = rule_bytes(version, book, index, next_of(place, n));
         store(&mut *out, 14 * (place as usize), bytes);
-        k = place;
     }
 }

@@ -1,14 +1,13 @@
 -- Answers with their lines, spelt out. In a witness 0 is floor x, 1 is floor y, and r + 1 is the rule
 -- in record r; of two books joined, 4,097 + r is the rule in the tenant's record r.
-use Rattle.std.specs.Prelude.{List, [], ◌∷◌, ℕ, ℤ, pos, negsuc}
+use Rattle.std.specs.Prelude.{List, [], ◌∷◌, ℕ, ℤ, pos, negsuc, Ok, Err}
 use Prim.Native.String.{String}
 use Rattle.lp.specs.declared.Outcome.{Outcome}
 use Rattle.lp.specs.declared.Outcome.TheVariants.{Infeasible, Unbounded, Optimal}
 use Rattle.lp.specs.declared.Certificate.{Certificate}
 use Rattle.lp.specs.Program.{point, ray}
 use Rattle.answers.specs.Refusal.{refusal}
-use Rattle.answers.specs.declared.Answer.{Answer}
-use Rattle.answers.specs.declared.Answer.TheVariants.{Refused, Planned}
+use Rattle.answers.specs.Answer.{Answer}
 use Rattle.report.specs.declared.Naming.{Naming}
 use Rattle.report.specs.declared.Naming.TheVariants.{OneBook, TwoBooks}
 
@@ -36,7 +35,7 @@ weights e u f v g w =
 
 abbrev planned : Outcome → ℕ → ℕ → Answer
 planned outcome moves opened =
-    Planned
+    Ok
     (record {
       outcome = outcome;
       moves = moves;
@@ -47,7 +46,7 @@ planned outcome moves opened =
 
 abbrev none : ℕ → ℕ → ℕ → Certificate → Answer
 none place moves opened witness =
-    Planned (record { outcome = Infeasible; moves = moves; opened = opened; place = place; witness = witness })
+    Ok (record { outcome = Infeasible; moves = moves; opened = opened; place = place; witness = witness })
 
 abbrev pub examples : List Example
 examples =
@@ -61,7 +60,7 @@ examples =
     ∷ joint (none 2 1 1 (weights 2 (pos 1) 4098 (pos 1) 0 (pos 0))) "impossible 2 1 1 2 S1 1 T1 1\n"
     ∷ joint (none 4097 3 1 (weights 1 (pos 7) 4096 (pos 8) 8192 (pos 9))) "impossible 4097 3 1 3 Y 7 S4095 8 T4095 9\n"
     ∷ joint (planned (Optimal (point (pos 2) (pos 3) (pos 1))) 1 1) "best 2 3 1 1 1\n"
-    ∷ row (Refused (refusal 7 0)) "refused 7 0\n"
-    ∷ row (Refused (refusal 10 255)) "refused 10 255\n"
-    ∷ row (Refused (refusal 255 65535)) "refused 255 65535\n"
+    ∷ row (Err (refusal 7 0)) "refused 7 0\n"
+    ∷ row (Err (refusal 10 255)) "refused 10 255\n"
+    ∷ row (Err (refusal 255 65535)) "refused 255 65535\n"
     ∷ []

@@ -1,6 +1,6 @@
 -- The printed line of an answer as a list of bytes: words and decimal numbers, one space between fields, one line feed at the end. It
 -- rests on the parts of a line (`text`).
-use Rattle.std.specs.Prelude.{cond, List, [], ◌∷◌, ◌++◌, ℕ, zero, suc, ◌-◌, ltb, length}
+use Rattle.std.specs.Prelude.{cond, List, [], ◌∷◌, ◌++◌, ℕ, zero, suc, ◌-◌, ltb, length, Ok, Err}
 use Rattle.lp.specs.declared.Point.{Point}
 use Rattle.lp.specs.declared.Ray.{Ray}
 use Rattle.lp.specs.declared.Outcome.{Outcome}
@@ -10,8 +10,7 @@ use Rattle.lp.specs.Certificate.{Weighted, named}
 use Rattle.text.specs.Text.{text}
 use Rattle.text.specs.Number.{field, decimal, number, integer, refused}
 use Rattle.answers.specs.declared.Plan.{Plan}
-use Rattle.answers.specs.declared.Answer.{Answer}
-use Rattle.answers.specs.declared.Answer.TheVariants.{Refused, Planned}
+use Rattle.answers.specs.Answer.{Answer}
 use Rattle.report.specs.declared.Naming.{Naming}
 use Rattle.report.specs.declared.Naming.TheVariants.{OneBook, TwoBooks}
 
@@ -71,8 +70,8 @@ fields m p (Unbounded v d) = unlimited p v d
 fields m p Infeasible = impossible m p
 
 unfoldable pub answer_fields : Naming → Answer → List ℕ
-answer_fields m (Planned p) = fields m p p.outcome
-answer_fields m (Refused r) = refused r.number r.at
+answer_fields m (Ok p) = fields m p p.outcome
+answer_fields m (Err r) = refused r.number r.at
 
 unfoldable pub line_named : Naming → Answer → List ℕ
 line_named m a = answer_fields m a ++ text "\n"

@@ -1,7 +1,7 @@
 -- What writing an answer's line into a lent buffer promises. It rests on the line (Line), and on what it means to fill a buffer (`text`).
 use Rattle.std.specs.Prelude.{List, ℕ}
 use Rattle.text.specs.Append.{Fills}
-use Rattle.answers.specs.declared.Answer.{Answer}
+use Rattle.answers.specs.Answer.{Answer}
 use Rattle.report.specs.declared.Naming.{Naming}
 use Rattle.report.specs.Line.{line_named, line_of}
 

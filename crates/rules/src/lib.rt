@@ -7,21 +7,21 @@ ghost use Rattle.records.specs.Record.{number_of};
 ghost use Rattle.records.specs.Planned.{planned_rule};
 
 use lp::Constraint;
-use records::{Decoded, Rule};
+use records::{Fault, Rule, Sound};
 
 // A rule as it is planned: at most, so that kind 2 is turned round. Its numbers are wider then, so that each has its opposite.
 pub fn constraint(rule: Rule) -> Constraint
     ensures { result ≡ planned_rule rule }
 {
-    let a = rule.a as i64;
-    let b = rule.b as i64;
-    let c = rule.c as i64;
+    let a = i64::from(rule.a);
+    let b = i64::from(rule.b);
+    let c = i64::from(rule.c);
     let kind = rule.kind;
     if kind == 2 {
         Constraint {
-            a: 0 - a,
-            b: 0 - b,
-            c: 0 - c,
+            a: -a,
+            b: -b,
+            c: -c,
         }
     } else {
         Constraint { a, b, c }
@@ -29,13 +29,13 @@ pub fn constraint(rule: Rule) -> Constraint
 }
 
 // The cause's number; 0 for a sound record.
-pub fn number_of(decoded: Decoded) -> u8
+pub fn number_of(decoded: Result<Sound, Fault>) -> u8
     ensures { result ≡ number_of decoded }
 {
     match decoded {
-        Decoded::Sound(_, _) => 0,
-        Decoded::Kind => 8,
-        Decoded::Slope => 9,
-        Decoded::Bound => 10,
+        Ok(_) => 0,
+        Err(Fault::Kind) => 8,
+        Err(Fault::Slope) => 9,
+        Err(Fault::Bound) => 10,
     }
 }

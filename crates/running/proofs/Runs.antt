@@ -1,5 +1,6 @@
 -- A run over a book on each of its ways, from what reading it left in the lent runs and what the engine made of them. The run of entries
 -- is split after six numbers, or at its end, if it has fewer.
+use Rattle.std.specs.Prelude.{Option}
 use mathlib.Core.Path.{◌≡◌, refl, sym, ◌∙◌, ap, ap₂}
 use mathlib.Core.Bool.{Bool, cond}
 use mathlib.Core.List.{List, [], ◌∷◌, ◌++◌, append-nil}
@@ -9,6 +10,8 @@ use borrow.Author.Tests.{eq-eqb, ne_eqb}
 use lib.ListN.{length, take, drop, length-drop}
 use lib.Seq.{take_all}
 use lib.IntN.{ℤ}
+use Rattle.std.proofs.Common.{Result, Ok, Err}
+use Rattle.answers.specs.declared.Refusal.{Refusal}
 use Rattle.records.specs.Layout.{Layout}
 use Rattle.book.specs.declared.Head.{Head}
 use Rattle.book.specs.Reading.{read_of, passed_of}
@@ -16,10 +19,9 @@ use Rattle.book.specs.Runs.{put_rules}
 use Rattle.book.specs.Promises.{head_of, ReadInto}
 use Rattle.flooring.specs.Floors.{with_floors}
 use Rattle.engine.specs.declared.Solution.{Solution}
-use Rattle.engine.specs.declared.Solved.{Solved}
 use Rattle.engine.specs.Solving.{solved_of, Solves}
 use Rattle.running.specs.declared.Findings.{Findings}
-use Rattle.running.specs.Running.{no_solution, solution_in, read_into, found_by, left_by, Ran}
+use Rattle.running.specs.Running.{solution_in, read_into, found_by, left_by, Ran}
 
 -- ---- the run of entries, split
 
@@ -76,27 +78,24 @@ module _
       ∙ ap (λ (r : List ℤ). take 6 l ++ r)
       (append-nil rules' ∙ read.ruled ∙ ap (λ (r : List ℤ). put_rules r 0 (passed_of L s)) (second-part l m em))
 
-  found-by : {x : Solution} →
-      x ≡ (found_by h k (read_into L s l)).solution →
-      ◌≡◌ {A = Findings} (record { refusal = h.refusal; n = h.n; solution = x }) (found_by (head_of (read_of L s)) k (read_into L s l))
-  found-by e =
-      (λ i. record { refusal = h.refusal; n = h.n; solution = e i })
-      ∙ ap (λ (y : Head). found_by y k (read_into L s l)) read.answer
+  -- what is found of a book that is not refused
+  abbrev planned : Result Findings Refusal
+  planned = Ok (record { n = h.n; solution = solution_in (solved_of h.terms (read_into L s l) (min k h.n)) })
+
+  found-by : {x : Result Findings Refusal} →
+      x ≡ found_by h k (read_into L s l) →
+      x ≡ found_by (head_of (read_of L s)) k (read_into L s l)
+  found-by e = e ∙ ap (λ (y : Head). found_by y k (read_into L s l)) read.answer
 
   by_left : {l' : List ℤ} → l' ≡ left_by h (read_into L s l) → l' ≡ left_by (head_of (read_of L s)) (read_into L s l)
   by_left e = e ∙ ap (λ (y : Head). left_by y (read_into L s l)) read.answer
 
   -- a refused book is not planned
-  pub refused-ran : (h.refusal.number ≡ 0 → ⊥) →
-      {x : Solution} →
-      x ≡ no_solution →
-      Ran L s k records l (record { refusal = h.refusal; n = h.n; solution = x }) records' lent
-  refused-ran some e =
+  pub refused-ran : (h.refusal.number ≡ 0 → ⊥) → Ran L s k records l (Err h.refusal) records' lent
+  refused-ran some =
       let no = ne_eqb h.refusal.number 0 some in
       record {
-        found =
-            found-by
-            (e ∙ sym (ap (λ (b : Bool). cond b (solution_in (solved_of h.terms (read_into L s l) (min k h.n))) no_solution) no));
+        found = found-by (sym (ap (λ (b : Bool). cond b planned (Err h.refusal)) no));
         recorded = read.recorded;
         left = by_left (lent_is ∙ sym (ap (λ (b : Bool). cond b (with_floors h.terms.floors (read_into L s l)) (read_into L s l)) no));
       }
@@ -105,20 +104,19 @@ module _
   pub solved-ran : h.refusal.number ≡ 0 →
       {j : ℕ} →
       j ≡ min k h.n →
-      {z : Solved} {l' : List ℤ} →
+      {z : Option Solution} {l' : List ℤ} →
       Solves h.terms j lent z l' →
       {x : Solution} →
       x ≡ solution_in z →
-      Ran L s k records l (record { refusal = h.refusal; n = h.n; solution = x }) records' l'
-  solved-ran clear ej solves e =
+      Ran L s k records l (Ok (record { n = h.n; solution = x })) records' l'
+  solved-ran clear {j} ej {z} solves {x} e =
       let so = eq-eqb h.refusal.number 0 clear in
       record {
         found =
             found-by
-            (e
-            ∙ ap solution_in solves.answer
-            ∙ ap₂ (λ (r : List ℤ) (i : ℕ). solution_in (solved_of h.terms r i)) lent_is ej
-            ∙ sym (ap (λ (b : Bool). cond b (solution_in (solved_of h.terms (read_into L s l) (min k h.n))) no_solution) so));
+            (ap (λ (y : Solution). Ok (record { n = h.n; solution = y }))
+            (e ∙ ap solution_in solves.answer ∙ ap₂ (λ (r : List ℤ) (i : ℕ). solution_in (solved_of h.terms r i)) lent_is ej)
+            ∙ sym (ap (λ (b : Bool). cond b planned (Err h.refusal)) so));
         recorded = read.recorded;
         left =
             by_left

@@ -8,14 +8,13 @@ ghost use Rattle.records.specs.Layout.{layout_of};
 ghost use Rattle.running.specs.Running.{no_solution, Ran};
 
 use answers::Refusal;
-use engine::{Solution, Solved};
-use lp::{Certificate, Outcome, Point};
+use engine::Solution;
+use lp::{Certificate, Outcome};
 use records::Version;
 
-// What a run finds: the book's refusal, or no refusal, how many rules the chain has, and what those of the prefix come to.
+// What a run finds of a book that is not refused: how many rules the chain has, and what those of the prefix come to.
 #[derive(Clone, Copy)]
 pub struct Findings {
-    pub refusal: Refusal,
     pub n: usize,
     pub solution: Solution,
 }
@@ -37,53 +36,37 @@ fn no_solution() -> Solution
             third: 0,
             third_weight: 0,
         },
-        held: false,
-        start: Point { x: 0, y: 0, d: 0 },
+        start: None,
         restarts: 0,
     }
 }
 
-// The lesser of two: a prefix of n rules is the whole chain, if there are fewer.
-fn shorter(prefix: usize, n: usize) -> usize
-    ensures { result ≡ min prefix n }
-{
-    if prefix < n { prefix } else { n }
-}
-
-// The run over a book's first `prefix` rules: the whole chain, if there are fewer. The rules go into the run of entries after six numbers
-// for the floors, as far as there is room. An accepted book's numbers are all in range, so that the engine plans it if all have room.
+// The run over a book's first `prefix` rules: the whole chain, if there are fewer; or the book's refusal. The rules go into the run of
+// entries after six numbers for the floors, as far as there is room. An accepted book's numbers are all in range, so that the engine plans
+// it if all have room.
 pub fn run(
     version: Version,
     book: &[u8],
     prefix: usize,
     records: &mut [u16],
     entries: &mut [i64],
-) -> Findings
+) -> Result<Findings, Refusal>
     ensures { Ran (layout_of version) book.now prefix records.old entries.old
         result records.new entries.new }
 {
-    let floors = shorter(6, entries.len());
+    let floors = entries.len().min(6);
     let head = reading::read(version, book, &mut *records, &mut entries[floors..]);
     let refusal = head.refusal;
     let number = refusal.number;
     let n = head.n;
     if number != 0 {
-        return Findings {
-            refusal,
-            n,
-            solution: no_solution(),
-        };
+        return Err(refusal);
     }
-    match engine::solve(head.terms, &mut *entries, shorter(prefix, n)) {
-        Solved::Outside => Findings {
-            refusal,
+    match engine::solve(head.terms, &mut *entries, prefix.min(n)) {
+        None => Ok(Findings {
             n,
             solution: no_solution(),
-        },
-        Solved::Walked(solution) => Findings {
-            refusal,
-            n,
-            solution,
-        },
+        }),
+        Some(solution) => Ok(Findings { n, solution }),
     }
 }

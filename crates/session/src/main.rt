@@ -19,7 +19,8 @@ use std::io;
 // How many lines are read at most.
 const LINES: u64 = 1000000000000;
 
-// What is said of a line: an answer, or that it is no step. Of the input's end nothing is said.
+// What is said of a line: an answer, or that it is no step. Of the input's end nothing is said. Three states in one enum are plainer than
+// an Option in an Option.
 #[derive(Clone, Copy)]
 enum Reply {
     Answered(Answer),
@@ -59,11 +60,9 @@ fn done(step: Step) -> Turn
     requires { IsSession step.session }
     ensures { IsSession result.session }
 {
-    let plan = step.plan;
-    let refusal = step.refusal;
     Turn {
         session: step.session,
-        reply: Reply::Answered(said(refusal, plan)),
+        reply: Reply::Answered(said(step.refusal, step.plan)),
     }
 }
 
@@ -85,7 +84,7 @@ fn turned_back(session: Session, refusal: Refusal) -> Turn
 {
     Turn {
         session,
-        reply: Reply::Answered(Answer::Refused(refusal)),
+        reply: Reply::Answered(Err(refusal)),
     }
 }
 
@@ -95,11 +94,11 @@ fn stepped(session: Session, text: &[u8]) -> Turn
     ensures { IsSession result.session }
 {
     match session_lines::read_line(text) {
-        Asked::Nothing => unchanged(session),
-        Asked::Begin(b) => done(steps::start(b.p, b.q, b.lx, b.ly)),
-        Asked::Add(rule) => done(steps::add(session, rule)),
-        Asked::Turn(refusal) => turned_back(session, refusal),
-        Asked::Back => done(steps::withdraw(session)),
+        None => unchanged(session),
+        Some(Asked::Begin(b)) => done(steps::start(b.p, b.q, b.lx, b.ly)),
+        Some(Asked::Add(rule)) => done(steps::add(session, rule)),
+        Some(Asked::Turn(refusal)) => turned_back(session, refusal),
+        Some(Asked::Back) => done(steps::withdraw(session)),
     }
 }
 

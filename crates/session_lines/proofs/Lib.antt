@@ -1,6 +1,5 @@
--- The laws of the session program's lines: places in a text (Places), numbers (Signs), steps (Taken), words (Spelling), lines
--- (Choosing), and lines worked out (Examples).
-pub mod Places
+-- The laws of the session program's lines: numbers (Signs), steps (Taken), words (Spelling), lines (Choosing), and lines worked out
+-- (Examples).
 pub mod Signs
 pub mod Taken
 pub mod Spelling

@@ -1,52 +1,69 @@
 -- Numbers in their fields: with a minus or without, and what it means that one fits.
 use mathlib.Core.Path.{◌≡◌, refl, ap, sym, ◌∙◌, subst}
-use mathlib.Core.Bool.{Bool, true, false, cond, ◌&&◌}
+use mathlib.Core.Bool.{Bool, true, false, cond}
 use mathlib.Core.List.{List}
 use mathlib.Core.Logic.{◌⊎◌, inl, inr}
-use Prim.Native.Nat.{ℕ, zero, suc, ◌≤◌, ◌<◌}
+use Prim.Native.Nat.{ℕ, zero, suc, ◌^◌, ◌≤◌, ◌<◌}
 use native.Mathlib.Omega.{arith}
-use lib.Dec.{T, eqb, leb}
+use lib.Dec.{eqb}
 use lib.ListN.{drop}
 use lib.IntN.{ℤ, pos, negsuc, neg_ℤ, nat_abs, ◌-ℤ◌, +ℤ_idl}
 use mir.Syntax.{Width, w8, w16, w32, w64}
-use mir.Val.{Fits, SFits, to_z, of_z}
-use mir.Facts.{to_z-of_z, to_z_pos}
+use mir.Val.{Fits, SFits, hbits, to_z, of_z}
+use mir.Facts.{to_z-of_z}
 use borrow.Author.Tests.{eq-eqb, ne_eqb, leb-true, le-leb, lt-leb}
-use Rattle.language.specs.Parser.{first, tail, digit, past}
-use Rattle.session_lines.specs.declared.digits.Run.{Run}
+use Rattle.language.specs.Parser.{first, tail, digit, run, past}
+use Rattle.text.specs.Number.{value_from}
+use Rattle.scanning.specs.declared.Run.{Run}
+use Rattle.scanning.specs.Places.{Goes}
+use Rattle.scanning.specs.Runs.{Runs}
+use Rattle.scanning.proofs.Places.{capped-alike}
 use Rattle.session_lines.specs.declared.numbers.Number.{Number}
 use Rattle.session_lines.specs.declared.numbers.Found.{Found}
-use Rattle.session_lines.specs.Fields.{no_number, greatest, numeral_of, minus, number_with, number_in, past_field, fits, value_of}
-use Rattle.session_lines.specs.Asked.{Goes, Runs, FindsFrom, Finds}
+use Rattle.std.specs.Prelude.{Option, Some, None, Result, Ok, Err, OkIff, unsigned_abs}
+use Rattle.std.specs.Result.{result_ok}
+use Rattle.std.specs.Int.{FitsUnsignedBits}
+use Rattle.session_lines.specs.Fields.{greatest, numeral_of, minus, number_with, number_in, past_field, fits, value_of, size_of, signed_in, unsigned_in}
+use Rattle.session_lines.specs.Asked.{FindsFrom, Finds}
 
 pub numeral-small : (negative : Bool) (size : ℕ) →
     size ≤ greatest →
-    record { there = true; negative = negative; size = size } ≡ numeral_of negative size
+    Some (record { negative = negative; size = size }) ≡ numeral_of negative size
 unfolding numeral_of
 numeral-small negative size h = rw (le-leb size greatest h)
 
-pub numeral-beyond : (negative : Bool) (size : ℕ) {n : Number} → greatest < size → n ≡ no_number → n ≡ numeral_of negative size
+pub numeral-beyond : (negative : Bool) (size : ℕ) → greatest < size → None ≡ numeral_of negative size
 unfolding numeral_of
-numeral-beyond negative size h e = e ∙ rw (lt-leb size greatest h)
+numeral-beyond negative size h = rw (lt-leb size greatest h)
+
+-- beyond the greatest one number is as good as another
+beyond : (negative : Bool) (n : ℕ) → greatest < n → numeral_of negative n ≡ None
+unfolding numeral_of
+beyond negative n h = rw (lt-leb n greatest h)
 
 -- ---- a number, its space and its digits at two places
 
-module _ (negative : Bool) (s : List ℕ) (at from : ℕ) {r : Run} (runs : Runs s from r) {b : ℕ}
+module _ (negative : Bool) (s : List ℕ) (at from : ℕ) {r : Run} (runs : Runs greatest s from r) {b : ℕ}
     (space : b ≡ first (drop at s)) where
+  same : numeral_of negative r.number ≡ numeral_of negative (value_from 0 (run (drop from s)))
+  same =
+      ap (numeral_of negative) runs.number
+      ∙ capped-alike (numeral_of negative) greatest None (beyond negative) 0 (run (drop from s))
+
   pub number-there : {d : ℕ} →
       b ≡ 32 →
       d ≡ first (drop from s) →
       {t : Bool} →
       t ≡ digit d →
       t ≡ true →
-      {n : Number} →
+      {n : Option Number} →
       n ≡ numeral_of negative r.number →
       FindsFrom negative s at from (record { number = n; next = r.end })
   unfolding number_with
   number-there e f g h k =
       let z : eqb (first (drop at s)) 32 ≡ true = eq-eqb (first (drop at s)) 32 (sym space ∙ e) in
       let y : digit (first (drop from s)) ≡ true = sym (ap digit f) ∙ sym g ∙ h in
-      record { number = k ∙ runs.same negative ∙ rw z (rw y refl); goes = runs.goes }
+      record { number = k ∙ same ∙ rw z (rw y refl); goes = runs.goes }
 
   pub number_undigited : {d : ℕ} →
       b ≡ 32 →
@@ -54,20 +71,18 @@ module _ (negative : Bool) (s : List ℕ) (at from : ℕ) {r : Run} (runs : Runs
       {t : Bool} →
       t ≡ digit d →
       t ≡ false →
-      {n : Number} →
-      n ≡ no_number →
-      FindsFrom negative s at from (record { number = n; next = r.end })
+      FindsFrom negative s at from (record { number = None; next = r.end })
   unfolding number_with
-  number_undigited e f g h k =
+  number_undigited e f g h =
       let z : eqb (first (drop at s)) 32 ≡ true = eq-eqb (first (drop at s)) 32 (sym space ∙ e) in
       let y : digit (first (drop from s)) ≡ false = sym (ap digit f) ∙ sym g ∙ h in
-      record { number = k ∙ rw z (rw y refl); goes = runs.goes }
+      record { number = rw z (rw y refl); goes = runs.goes }
 
-  pub number_unspaced : (b ≡ 32 → ⊥) → {n : Number} → n ≡ no_number → FindsFrom negative s at from (record { number = n; next = r.end })
+  pub number_unspaced : (b ≡ 32 → ⊥) → FindsFrom negative s at from (record { number = None; next = r.end })
   unfolding number_with
-  number_unspaced e k =
+  number_unspaced e =
       let z : eqb (first (drop at s)) 32 ≡ false = ne_eqb (first (drop at s)) 32 (λ q. e (space ∙ q)) in
-      record { number = k ∙ rw z refl; goes = runs.goes }
+      record { number = rw z refl; goes = runs.goes }
 
 -- ---- a number with a minus or without
 
@@ -111,105 +126,235 @@ module _ (s : List ℕ) (at : ℕ) {sign b : ℕ} (after : Goes s (tail (drop at
         };
       }
 
--- ---- what fits
+-- ---- a number in its field
 
-pub fits-minus : (n : Number) (below above : ℕ) → n.negative ≡ true → (n.there && leb n.size below) ≡ fits below above n
+module _ {n : Option Number} {m : Number} (below above : ℕ) (e : n ≡ Some m) {t : Bool} (f : t ≡ fits below above (Some m)) where
+  fitting : {u : Bool} → t ≡ u → fits below above n ≡ u
+  fitting h = ap (fits below above) e ∙ sym f ∙ h
+
+  pub has_room : t ≡ true → {z : ℤ} → z ≡ value_of (Some m) → Some z ≡ signed_in below above n
+  has_room h g = sym (ap (λ u. cond u (Some (value_of n)) None) (fitting h) ∙ ap (λ o. Some (value_of o)) e ∙ ap Some (sym g))
+
+  pub no_room : t ≡ false → None ≡ signed_in below above n
+  no_room h = sym (ap (λ u. cond u (Some (value_of n)) None) (fitting h))
+
+module _ {n : Option Number} {m : Number} (above : ℕ) (e : n ≡ Some m) {t : Bool} (f : t ≡ fits 0 above (Some m)) where
+  pub has_room_unsigned : t ≡ true → Some m.size ≡ unsigned_in above n
+  has_room_unsigned h = sym (ap (λ u. cond u (Some (size_of n)) None) (fitting 0 above e f h) ∙ ap (λ o. Some (size_of o)) e)
+
+  pub no_room_unsigned : t ≡ false → None ≡ unsigned_in above n
+  no_room_unsigned h = sym (ap (λ u. cond u (Some (size_of n)) None) (fitting 0 above e f h))
+
+pub no_signed : {n : Option Number} (below above : ℕ) → n ≡ None → None ≡ signed_in below above n
 unfolding fits
-fits-minus n below above e = sym (ap (λ t. n.there && leb n.size (cond t below above)) e)
+no_signed below above e = sym (ap (signed_in below above) e)
 
-pub fits-plain : (n : Number) (below above : ℕ) → n.negative ≡ false → (n.there && leb n.size above) ≡ fits below above n
+pub no_unsigned : {n : Option Number} (above : ℕ) → n ≡ None → None ≡ unsigned_in above n
 unfolding fits
-fits-plain n below above e = sym (ap (λ t. n.there && leb n.size (cond t below above)) e)
+no_unsigned above e = sym (ap (unsigned_in above) e)
 
-pub both : (a b : Bool) → (a && b) ≡ true → (a ≡ true) × (b ≡ true)
-both true b e = (refl, e)
-both false b e = absurd (subst T (sym e) tt)
+-- what a field gives says whether the number has room there, and which it is
+pub given : {A : Type 0} (t : Bool) (v : A) {x : A} {o : Option A} → o ≡ cond t (Some v) None → o ≡ Some x → (t ≡ true) × (x ≡ v)
+given true v e f = (refl, cc)
+given false v e f = cc
 
-pub four : (a b c d : Bool) → ((a && b) && (c && d)) ≡ true → (a ≡ true) × (b ≡ true) × (c ≡ true) × (d ≡ true)
-four a b c d e =
-    let p = both (a && b) (c && d) e in
-    let q = both a b p.0 in
-    let r = both c d p.1 in
-    (q.0, q.1, r.0, r.1)
-
-pub five : (a b c d m : Bool) →
-    ((a && b && c) && (d && m)) ≡ true →
-    (a ≡ true) × (b ≡ true) × (c ≡ true) × (d ≡ true) × (m ≡ true)
-five a b c d m e =
-    let p = both (a && b && c) (d && m) e in
-    let q = both (a && b) c p.0 in
-    let r = both a b q.0 in
-    let s = both d m p.1 in
-    (r.0, r.1, q.1, s.0, s.1)
+pub missing : {A : Type 0} (t : Bool) (v : A) {o : Option A} → o ≡ cond t (Some v) None → o ≡ None → t ≡ false
+missing true v e f = cc
+missing false v e f = refl
 
 -- a number that fits is no greater than its side of 0 allows
-pub bounded : (n : Number) (below above : ℕ) → fits below above n ≡ true → n.size ≤ cond n.negative below above
+pub bounded : (n : Number) (below above : ℕ) → fits below above (Some n) ≡ true → n.size ≤ cond n.negative below above
 unfolding fits
-bounded n below above e =
-    leb-true n.size (cond n.negative below above)
-    (both n.there (leb n.size (cond n.negative below above)) e).1
+bounded n below above e = leb-true n.size (cond n.negative below above) e
 
--- ---- a sign and a size
+-- ---- a sign and a size, in a type that has less room
 
-turned : (w : ℕ) → w ≤ 2147483648 → SFits w64 (neg_ℤ (pos w))
-turned zero h = record { sfits = omega arith }
-turned (suc w) h = record { sfits = omega arith }
+abbrev whole : ℕ
+whole = 9223372036854775807
 
-module _ (n : Number) (h : n.size ≤ 2147483648) where
-  natural : to_z w64 n.size ≡ pos n.size
-  natural = to_z_pos w64 (omega arith)
+unfit : (t : Bool) → (t ≡ true → ⊥) → t ≡ false
+unfit true h = absurd (h refl)
+unfit false h = refl
 
-  opposite : pos 0 -ℤ to_z w64 n.size ≡ neg_ℤ (pos n.size)
-  opposite = ap (λ y. pos 0 -ℤ y) natural ∙ +ℤ_idl (neg_ℤ (pos n.size))
+-- what a conversion gave says what was asked of it
+taken : {T E P : Type 0} {v x : T} (r : Result T E) → OkIff r P v → result_ok r ≡ Some x → P × (x ≡ v)
+taken (Ok y) (p, q) e = (p, cc)
+taken (Err y) h e = cc
 
-  pub opposite-fits : SFits w64 (pos 0 -ℤ to_z w64 n.size)
-  opposite-fits = subst (λ z. SFits w64 z) (sym opposite) (turned n.size h)
+refused : {T E P : Type 0} (v : T) (r : Result T E) → OkIff r P v → result_ok r ≡ None → P → ⊥
+refused v (Ok y) (p, q) e k = cc
+refused v (Err y) h e k = h k
 
-  pub signed-minus : n.negative ≡ true → to_z w64 (of_z w64 (pos 0 -ℤ to_z w64 n.size)) ≡ value_of n
-  signed-minus e =
-      to_z-of_z {w = w64} opposite-fits ∙ opposite ∙ sym (ap (λ t. cond t (neg_ℤ (pos n.size)) (pos n.size)) e)
+-- the number has room in 64 bits if its size has
+module _ (n : Number) {E : Type 0} (r : Result ℤ E) (h : OkIff r (SFits w64 (pos n.size)) (pos n.size)) where
+  pub signed_beyond : result_ok r ≡ None → None ≡ signed_in whole whole (Some n)
+  signed_beyond e =
+      no_room {n = Some n} {m = n} whole whole refl refl
+      (unfit (fits whole whole (Some n)) (λ t. refused (pos n.size) r h e (go n.negative (bounded n whole whole t))))
+    where
+      go : (t : Bool) → n.size ≤ cond t whole whole → SFits w64 (pos n.size)
+      go true k = record { sfits = omega arith }
+      go false k = record { sfits = omega arith }
 
-  pub signed-plain : n.negative ≡ false → to_z w64 n.size ≡ value_of n
-  signed-plain e = natural ∙ sym (ap (λ t. cond t (neg_ℤ (pos n.size)) (pos n.size)) e)
+  module _ {x : ℤ} (e : result_ok r ≡ Some x) where
+    size_fits : SFits w64 (pos n.size)
+    size_fits = (taken r h e).0
 
-pub small : (n : Number) (below above : ℕ) → below ≤ 2147483648 → above ≤ 2147483648 → fits below above n ≡ true → n.size ≤ 2147483648
-small n below above b a e = go n.negative (bounded n below above e)
+    size_read : to_z w64 (of_z w64 x) ≡ pos n.size
+    size_read = ap (λ z. to_z w64 (of_z w64 z)) (taken r h e).1 ∙ to_z-of_z {w = w64} size_fits
+
+    fitted : fits whole whole (Some n) ≡ true
+    unfolding fits
+    fitted = le-leb n.size (cond n.negative whole whole) (go n.negative)
+      where
+        go : (t : Bool) → n.size ≤ cond t whole whole
+        go true = omega (arith, size_fits.sfits)
+        go false = omega (arith, size_fits.sfits)
+
+    turned : (k : ℕ) → SFits w64 (pos k) → SFits w64 (neg_ℤ (pos k))
+    turned zero f = f
+    turned (suc k) f = record { sfits = omega (arith, f.sfits) }
+
+    pub signed-minus : n.negative ≡ true →
+        Some (to_z w64 (of_z w64 (pos 0 -ℤ to_z w64 (of_z w64 x)))) ≡ signed_in whole whole (Some n)
+    signed-minus g =
+        has_room {n = Some n} {m = n} whole whole refl refl fitted
+        (ap (λ z. to_z w64 (of_z w64 (pos 0 -ℤ z))) size_read
+        ∙ ap (λ z. to_z w64 (of_z w64 z)) (+ℤ_idl (neg_ℤ (pos n.size)))
+        ∙ to_z-of_z {w = w64} (turned n.size size_fits)
+        ∙ sym (ap (λ t. cond t (neg_ℤ (pos n.size)) (pos n.size)) g))
+
+    pub signed-plain : n.negative ≡ false → Some (to_z w64 (of_z w64 x)) ≡ signed_in whole whole (Some n)
+    signed-plain g =
+        has_room {n = Some n} {m = n} whole whole refl refl fitted
+        (size_read ∙ sym (ap (λ t. cond t (neg_ℤ (pos n.size)) (pos n.size)) g))
+
+-- a number that has room in 64 bits is kept whole by its bits
+pub kept_whole : (n : Number) {o : Option ℤ} {z : ℤ} →
+    o ≡ signed_in whole whole (Some n) →
+    o ≡ Some z →
+    to_z w64 (of_z w64 z) ≡ value_of (Some n)
+kept_whole n f e =
+    let g = given (fits whole whole (Some n)) (value_of (Some n)) f e in
+    ap (λ y. to_z w64 (of_z w64 y)) g.1 ∙ to_z-of_z {w = w64} (go n.negative n.size (bounded n whole whole g.0))
   where
-    go : (t : Bool) → n.size ≤ cond t below above → n.size ≤ 2147483648
-    go true h = omega arith
-    go false h = omega arith
-
-pub value16 : (n : Number) → fits 32768 32767 n ≡ true → SFits w16 (value_of n)
-value16 n e = go n.negative n.size (bounded n 32768 32767 e)
-  where
-    go : (t : Bool) (k : ℕ) → k ≤ cond t 32768 32767 → SFits w16 (cond t (neg_ℤ (pos k)) (pos k))
+    go : (t : Bool) (k : ℕ) → k ≤ cond t whole whole → SFits w64 (cond t (neg_ℤ (pos k)) (pos k))
     go true zero h = record { sfits = omega arith }
     go true (suc k) h = record { sfits = omega arith }
     go false k h = record { sfits = omega arith }
 
-pub value32 : (n : Number) → fits 2147483648 2147483647 n ≡ true → SFits w32 (value_of n)
-value32 n e = go n.negative n.size (bounded n 2147483648 2147483647 e)
-  where
-    go : (t : Bool) (k : ℕ) → k ≤ cond t 2147483648 2147483647 → SFits w32 (cond t (neg_ℤ (pos k)) (pos k))
-    go true zero h = record { sfits = omega arith }
-    go true (suc k) h = record { sfits = omega arith }
-    go false k h = record { sfits = omega arith }
+-- a number with no room in 64 bits has none in fewer
+module _ {n : Option Number} {m : Number} (below above : ℕ) (b : below ≤ whole) (a : above ≤ whole) (e : n ≡ Some m)
+    {o : Option ℤ} (f : o ≡ signed_in whole whole (Some m)) (g : o ≡ None) where
+  narrower : fits below above (Some m) ≡ true → fits whole whole (Some m) ≡ true
+  unfolding fits
+  narrower t = le-leb m.size (cond m.negative whole whole) (go m.negative (bounded m below above t))
+    where
+      go : (t : Bool) → m.size ≤ cond t below above → m.size ≤ cond t whole whole
+      go true h = omega arith
+      go false h = omega arith
 
--- a number without a sign
-pub under : (n : Number) (above : ℕ) → fits 0 above n ≡ true → n.size ≤ above
-under n above e = go n.negative (bounded n 0 above e)
-  where
-    go : (t : Bool) → n.size ≤ cond t 0 above → n.size ≤ above
-    go true h = omega arith
-    go false h = h
+  outside : fits below above (Some m) ≡ false
+  outside =
+      let w = missing (fits whole whole (Some m)) (value_of (Some m)) f g in
+      unfit (fits below above (Some m)) (λ t. let y = narrower t in cc)
 
--- ---- casts
+  pub no_room_whole : None ≡ signed_in below above n
+  no_room_whole = no_room below above e refl outside
 
-pub cast_fits : (w : Width) {z v : ℤ} → SFits w64 z → z ≡ v → SFits w v → SFits w (to_z w64 (of_z w64 z))
-cast_fits w f e h = subst (SFits w) (sym (to_z-of_z {w = w64} f ∙ e)) h
+pub no_room_whole_unsigned : {n : Option Number} {m : Number} (above : ℕ) →
+    above ≤ whole →
+    n ≡ Some m →
+    {o : Option ℤ} →
+    o ≡ signed_in whole whole (Some m) →
+    o ≡ None →
+    None ≡ unsigned_in above n
+no_room_whole_unsigned above a e f g = no_room_unsigned above e refl (outside 0 above (omega arith) a e f g)
 
-pub cast_value : (w : Width) {z v : ℤ} → SFits w64 z → z ≡ v → SFits w v → to_z w (of_z w (to_z w64 (of_z w64 z))) ≡ v
-cast_value w f e h = ap (λ y. to_z w (of_z w y)) (to_z-of_z {w = w64} f ∙ e) ∙ to_z-of_z {w = w} h
+-- what a type with a sign has room for is what fits
+module _ (w : Width) (below above : ℕ) (b : below ≡ 2 ^ hbits w) (a : suc above ≡ 2 ^ hbits w) where
+  room : (n : Number) → SFits w (value_of (Some n)) → fits below above (Some n) ≡ true
+  unfolding fits
+  room n h = le-leb n.size (cond n.negative below above) (go n.negative n.size h)
+    where
+      go : (t : Bool) (k : ℕ) → SFits w (cond t (neg_ℤ (pos k)) (pos k)) → k ≤ cond t below above
+      go true zero h = omega arith
+      go true (suc k) h = omega (arith, h.sfits, b)
+      go false k h = omega (arith, h.sfits, a)
+
+  value : (n : Number) → fits below above (Some n) ≡ true → SFits w (value_of (Some n))
+  value n e = go n.negative n.size (bounded n below above e)
+    where
+      go : (t : Bool) (k : ℕ) → k ≤ cond t below above → SFits w (cond t (neg_ℤ (pos k)) (pos k))
+      go true zero h = record { sfits = omega (arith, a) }
+      go true (suc k) h = record { sfits = omega (arith, b) }
+      go false k h = record { sfits = omega (arith, a) }
+
+  -- the conversion of a number says what a field of that type does
+  pub converted : {n : Option Number} {m : Number} {z : ℤ} {E : Type 0} (r : Result ℤ E) →
+      n ≡ Some m →
+      z ≡ value_of (Some m) →
+      OkIff r (SFits w z) z →
+      result_ok r ≡ signed_in below above n
+  converted {m = m} (Ok x) e v (p, q) = has_room below above e refl (room m (subst (SFits w) v p)) (q ∙ v)
+  converted {m = m} (Err x) e v h =
+      no_room below above e refl (unfit (fits below above (Some m)) (λ t. h (subst (SFits w) (sym v) (value m t))))
+
+  -- what a field with a sign gives is kept whole by its bits
+  pub kept : (n : Option Number) {o : Option ℤ} {x : ℤ} → o ≡ signed_in below above n → o ≡ Some x → to_z w (of_z w x) ≡ value_of n
+  unfolding fits
+  kept (Some m) f e =
+      let g = given (fits below above (Some m)) (value_of (Some m)) f e in
+      ap (λ z. to_z w (of_z w z)) g.1 ∙ to_z-of_z {w = w} (value m g.0)
+  kept None f e = cc
+
+pub kept16 : (n : Option Number) {o : Option ℤ} {x : ℤ} →
+    o ≡ signed_in 32768 32767 n →
+    o ≡ Some x →
+    to_z w16 (of_z w16 x) ≡ value_of n
+kept16 n f e = kept w16 32768 32767 refl refl n f e
+
+pub kept32 : (n : Option Number) {o : Option ℤ} {x : ℤ} →
+    o ≡ signed_in 2147483648 2147483647 n →
+    o ≡ Some x →
+    to_z w32 (of_z w32 x) ≡ value_of n
+kept32 n f e = kept w32 2147483648 2147483647 refl refl n f e
+
+-- what a type without a sign has room for is what fits
+module _ (bits above : ℕ) (a : suc above ≡ 2 ^ bits) where
+  room_unsigned : (n : Number) → FitsUnsignedBits bits (value_of (Some n)) → fits 0 above (Some n) ≡ true
+  unfolding fits
+  room_unsigned n h = le-leb n.size (cond n.negative 0 above) (go n.negative n.size h)
+    where
+      go : (t : Bool) (k : ℕ) → FitsUnsignedBits bits (cond t (neg_ℤ (pos k)) (pos k)) → k ≤ cond t 0 above
+      go true zero h = omega arith
+      go true (suc k) h = absurd h
+      go false k h = omega (arith, h, a)
+
+  value_unsigned : (n : Number) → fits 0 above (Some n) ≡ true → FitsUnsignedBits bits (value_of (Some n))
+  value_unsigned n e = go n.negative n.size (bounded n 0 above e)
+    where
+      go : (t : Bool) (k : ℕ) → k ≤ cond t 0 above → FitsUnsignedBits bits (cond t (neg_ℤ (pos k)) (pos k))
+      go true zero h = omega (arith, a)
+      go true (suc k) h = absurd (omega arith)
+      go false k h = omega (arith, a)
+
+  pub converted_unsigned : {n : Option Number} {m : Number} {z : ℤ} {E : Type 0} (r : Result ℕ E) →
+      n ≡ Some m →
+      z ≡ value_of (Some m) →
+      OkIff r (FitsUnsignedBits bits z) (unsigned_abs z) →
+      result_ok r ≡ unsigned_in above n
+  converted_unsigned {m = m} (Ok x) e v (p, q) =
+      ap Some (q ∙ ap unsigned_abs v ∙ sizes m.negative m.size)
+      ∙ has_room_unsigned above e refl (room_unsigned m (subst (FitsUnsignedBits bits) v p))
+    where
+      sizes : (t : Bool) (k : ℕ) → unsigned_abs (cond t (neg_ℤ (pos k)) (pos k)) ≡ k
+      sizes true zero = refl
+      sizes true (suc k) = refl
+      sizes false k = refl
+  converted_unsigned {m = m} (Err x) e v h =
+      no_room_unsigned above e refl
+      (unfit (fits 0 above (Some m)) (λ t. h (subst (FitsUnsignedBits bits) (sym v) (value_unsigned m t))))
 
 -- ---- the numbers of a typed rule
 

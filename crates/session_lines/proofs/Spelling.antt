@@ -1,65 +1,51 @@
--- The word that a text begins with: what the loop over it keeps.
-use mathlib.Core.Path.{◌≡◌, refl, ap, sym, ◌∙◌}
+-- The word that a text begins with, as the test of slices tells it. No byte of such a word is 0, by which a definition knows a text's end.
+use mathlib.Core.Path.{◌≡◌, refl, ap, sym, ◌∙◌, subst}
 use mathlib.Core.Bool.{Bool, true, false, ◌&&◌}
 use mathlib.Core.List.{List, [], ◌∷◌}
-use Prim.Native.Nat.{ℕ, zero, suc, ◌+◌, ◌≤◌, ◌<◌}
-use native.Mathlib.Numerals.{add-one}
+use Prim.Native.Nat.{ℕ, ◌≤◌}
 use native.Mathlib.Omega.{arith}
-use lib.Dec.{eqb}
-use lib.ListN.{length, drop, get_or, drop_of_length-le}
-use borrow.Author.Tests.{eq-eqb, ne_eqb}
-use Rattle.language.specs.Parser.{first, tail}
+use lib.Dec.{T, eqb, leb}
+use borrow.Author.Tests.{leb-true, eq-eqb, ne_eqb, eqb-true, eqb-false}
+use Rattle.std.proofs.Common.{nat_eq}
+use Rattle.std.specs.List.{starts_with}
+use Rattle.text.specs.Text.{text}
 use Rattle.session_lines.specs.Lines.{begins}
-use Rattle.session_lines.proofs.Places.{here}
 
-pub record Spelling (word l : List ℕ) (i : ℕ) : Type 0 where
-  pub same : begins (drop i word) (drop i l) ≡ begins word l
-  pub high : i ≤ length word
+-- no byte is 0
+abbrev written : List ℕ → Bool
+written [] = true
+written (b ∷ word) = leb 1 b && written word
 
-pub spelling_start : (word l : List ℕ) → Spelling word l 0
-spelling_start word l = record { same = refl; high = omega arith }
+both : (a b : Bool) → (a && b) ≡ true → (a ≡ true) × (b ≡ true)
+both true b e = (refl, e)
+both false b e = absurd (subst T (sym e) tt)
 
-beyond : (l : List ℕ) (i : ℕ) → tail (drop i l) ≡ drop (i + 1) l
-beyond l i = go l i ∙ sym (ap (λ (k : ℕ). drop k l) (add-one i))
+turned : (a b : ℕ) → eqb a b ≡ eqb b a
+turned a b = go (eqb a b) refl
   where
-    go : (l : List ℕ) (i : ℕ) → tail (drop i l) ≡ drop (suc i) l
-    go [] zero = refl
-    go [] (suc i) = refl
-    go (b ∷ l) zero = refl
-    go (b ∷ l) (suc i) = go l i
+    go : (t : Bool) → eqb a b ≡ t → t ≡ eqb b a
+    go true e = sym (eq-eqb b a (sym (eqb-true a b e)))
+    go false e = sym (ne_eqb b a (λ q. eqb-false a b e (sym q)))
 
-split : (word l : List ℕ) (i : ℕ) →
-    i < length word →
-    begins (drop i word) (drop i l) ≡ (eqb (first (drop i l)) (get_or word i 0) && begins (drop (i + 1) word) (drop (i + 1) l))
-split word l i h =
-    ap (λ (w : List ℕ). begins w (drop i l)) (here word i h)
-    ∙ ap (λ (m : List ℕ). eqb (first (drop i l)) (get_or word i 0) && begins (drop (i + 1) word) m) (beyond l i)
+begins-as : (word l : List ℕ) → written word ≡ true → starts_with nat_eq l word ≡ begins word l
+begins-as [] l e = refl
+begins-as (b ∷ word) [] e =
+    let h : 1 ≤ b = leb-true 1 b (both (leb 1 b) (written word) e).0 in
+    sym (ap (λ t. t && begins word []) (ne_eqb 0 b (λ q. omega arith)))
+begins-as (b ∷ word) (c ∷ l) e =
+    λ i. turned b c i && begins-as word l (both (leb 1 b) (written word) e).1 i
 
-pub spelling_more : (word l : List ℕ) (i : ℕ) {b : ℕ} →
-    i < length word →
-    b ≡ first (drop i l) →
-    b ≡ get_or word i 0 →
-    Spelling word l i →
-    Spelling word l (i + 1)
-spelling_more word l i h e f k =
-    record {
-      same =
-          sym (ap (λ (t : Bool). t && begins (drop (i + 1) word) (drop (i + 1) l))
-          (eq-eqb (first (drop i l)) (get_or word i 0) (sym e ∙ f)))
-          ∙ sym (split word l i h) ∙ k.same;
-      high = omega arith;
-    }
+-- ---- the four words
 
-pub spelling_other : (word l : List ℕ) (i : ℕ) {b : ℕ} →
-    i < length word →
-    b ≡ first (drop i l) →
-    (b ≡ get_or word i 0 → ⊥) →
-    Spelling word l i →
-    false ≡ begins word l
-spelling_other word l i h e f k =
-    sym (ap (λ (t : Bool). t && begins (drop (i + 1) word) (drop (i + 1) l))
-    (ne_eqb (first (drop i l)) (get_or word i 0) (λ q. f (e ∙ q))))
-    ∙ sym (split word l i h) ∙ k.same
+module _ (l : List ℕ) {r : Bool} where
+  pub start-as : r ≡ starts_with nat_eq l (text "start") → r ≡ begins (text "start") l
+  start-as e = e ∙ begins-as (text "start") l refl
 
-pub spelling_end : (word l : List ℕ) (i : ℕ) → length word ≤ i → Spelling word l i → true ≡ begins word l
-spelling_end word l i h k = sym (ap (λ (w : List ℕ). begins w (drop i l)) (drop_of_length-le word h)) ∙ k.same
+  pub add-as : r ≡ starts_with nat_eq l (text "add") → r ≡ begins (text "add") l
+  add-as e = e ∙ begins-as (text "add") l refl
+
+  pub rule-as : r ≡ starts_with nat_eq l (text "rule") → r ≡ begins (text "rule") l
+  rule-as e = e ∙ begins-as (text "rule") l refl
+
+  pub back-as : r ≡ starts_with nat_eq l (text "back") → r ≡ begins (text "back") l
+  back-as e = e ∙ begins-as (text "back") l refl

@@ -9,12 +9,15 @@ use lib.ListN.{length, take, drop, length-drop}
 use lib.Seq.{take_all}
 use lib.IntN.{ℤ}
 use borrow.Author.Tests.{eq-eqb, ne_eqb}
+use mir.Syntax.{w16, w32}
+use mir.Val.{to_z, of_z}
 use Rattle.records.specs.declared.Rule.{Rule}
+use Rattle.std.specs.Prelude.{Option, Some, None, Ok, Err}
 use Rattle.answers.specs.declared.Refusal.{Refusal}
+use Rattle.forms.specs.declared.Flaw.{Flaw}
+use Rattle.forms.specs.declared.Flaw.TheVariants.{Text}
 use Rattle.forms.specs.declared.Written.{Written}
-use Rattle.forms.specs.declared.Typed.{Typed}
-use Rattle.forms.specs.declared.Typed.TheVariants as typed
-use Rattle.forms.specs.Value.{no_rule}
+use Rattle.forms.specs.Value.{Typed, refusal_of, no_rule}
 use Rattle.language.specs.Grammar as grammar
 use Rattle.language.specs.Value.{value_rule}
 use Rattle.language.specs.Parser.{Parsed, fail, got, first, parse, judged, answer}
@@ -22,24 +25,25 @@ use Rattle.language.proofs.Refusals.{InRange, Sound, value-sound}
 use Rattle.session_lines.specs.declared.numbers.Number.{Number}
 use Rattle.session_lines.specs.declared.numbers.Found.{Found}
 use Rattle.session_lines.specs.declared.Asked.{Asked}
-use Rattle.session_lines.specs.declared.Asked.TheVariants.{Nothing, Begin, Add, Turn}
-use Rattle.session_lines.specs.Fields.{number_in, past_field, fits, value_of}
+use Rattle.session_lines.specs.declared.Asked.TheVariants.{Begin, Add, Turn}
+use Rattle.session_lines.specs.Fields.{number_in, past_field, fits, value_of, size_of, signed_in, unsigned_in}
 use Rattle.session_lines.specs.Lines.{sixteens, begun_of, ended, start_in, rule_of, rule_in, written_of, read_as, typed_of, typed_in}
-use Rattle.session_lines.specs.Asked.{Goes, Finds}
-use Rattle.session_lines.proofs.Signs.{four, five}
+use Rattle.scanning.specs.Places.{Goes}
+use Rattle.session_lines.specs.Asked.{Finds}
+use Rattle.session_lines.proofs.Signs.{given, missing, kept16, kept32}
 
 -- ---- the end of a text
 
 left : {s rest : List ℕ} {r : ℕ} → Goes s rest r → length rest ≡ length s - r
 left {s = s} {r = r} g = sym (ap length g.goes_on) ∙ length-drop r s
 
-pub at-end : {s rest : List ℕ} {r : ℕ} {a b : Asked} → Goes s rest r → r ≡ length s → a ≡ b → a ≡ ended rest b
+pub at-end : {s rest : List ℕ} {r : ℕ} {a b : Option Asked} → Goes s rest r → r ≡ length s → a ≡ b → a ≡ ended rest b
 at-end {rest = rest} {b = b} g e q =
-    q ∙ sym (ap (λ (t : Bool). cond t b Nothing) (eq-eqb (length rest) 0 (omega (arith, left g, e))))
+    q ∙ sym (ap (λ (t : Bool). cond t b None) (eq-eqb (length rest) 0 (omega (arith, left g, e))))
 
-pub before-end : {s rest : List ℕ} {r : ℕ} (b : Asked) → Goes s rest r → (r ≡ length s → ⊥) → Nothing ≡ ended rest b
+pub before-end : {s rest : List ℕ} {r : ℕ} (b : Option Asked) → Goes s rest r → (r ≡ length s → ⊥) → None ≡ ended rest b
 before-end {s = s} {rest = rest} {r = r} b g e =
-    sym (ap (λ (t : Bool). cond t b Nothing) (ne_eqb (length rest) 0 (λ z. e (omega (arith, left g, g.high, z)))))
+    sym (ap (λ (t : Bool). cond t b None) (ne_eqb (length rest) 0 (λ z. e (omega (arith, left g, g.high, z)))))
 
 -- ---- fields one after the other
 
@@ -50,7 +54,7 @@ then g f = (f.number ∙ ap number_in g.goes_on, record { goes_on = f.goes.goes_
 module _ (s : List ℕ) {at : ℕ} {p q lx ly : Found} (word : Goes s (drop 5 s) at) (f : Finds s at p) (g : Finds s p.next q)
     (h : Finds s q.next lx) (k : Finds s lx.next ly) where
   pub start-read : ly.next ≡ length s →
-      {a : Asked} →
+      {a : Option Asked} →
       a ≡ begun_of p.number q.number lx.number ly.number →
       a ≡ start_in (drop 5 s)
   unfolding start_in
@@ -61,14 +65,14 @@ module _ (s : List ℕ) {at : ℕ} {p q lx ly : Found} (word : Goes s (drop 5 s)
       let k' = then h'.1 k in
       at-end k'.1 e (z ∙ (λ i. begun_of (f'.0 i) (g'.0 i) (h'.0 i) (k'.0 i)))
 
-  pub start-other : (ly.next ≡ length s → ⊥) → Nothing ≡ start_in (drop 5 s)
+  pub start-other : (ly.next ≡ length s → ⊥) → None ≡ start_in (drop 5 s)
   unfolding start_in
   start-other e = before-end _ (then (then (then (then word f).1 g).1 h).1 k).1 e
 
 module _ (s : List ℕ) {at : ℕ} {kind a b c label : Found} (word : Goes s (drop 4 s) at) (f : Finds s at kind)
     (g : Finds s kind.next a) (h : Finds s a.next b) (k : Finds s b.next c) (m : Finds s c.next label) where
   pub rule-read : label.next ≡ length s →
-      {x : Asked} →
+      {x : Option Asked} →
       x ≡ rule_of kind.number a.number b.number c.number label.number →
       x ≡ rule_in (drop 4 s)
   unfolding rule_in
@@ -80,71 +84,145 @@ module _ (s : List ℕ) {at : ℕ} {kind a b c label : Found} (word : Goes s (dr
       let m' = then k'.1 m in
       at-end m'.1 e (z ∙ (λ i. rule_of (f'.0 i) (g'.0 i) (h'.0 i) (k'.0 i) (m'.0 i)))
 
-  pub rule-other : (label.next ≡ length s → ⊥) → Nothing ≡ rule_in (drop 4 s)
+  pub rule-other : (label.next ≡ length s → ⊥) → None ≡ rule_in (drop 4 s)
   unfolding rule_in
   rule-other e = before-end _ (then (then (then (then (then word f).1 g).1 h).1 k).1 m).1 e
 
 -- ---- numbers in range
 
-module _ (p q lx ly : Number) {a b c d : Bool} (f : a ≡ sixteens p) (g : b ≡ sixteens q) (h : c ≡ sixteens lx) (k : d ≡ sixteens ly) where
-  tested : {u : Bool} → ((a && b) && (c && d)) ≡ u → ((sixteens p && sixteens q) && (sixteens lx && sixteens ly)) ≡ u
-  tested e = sym (λ i. (f i && g i) && (h i && k i)) ∙ e
+abbrev begun_by : Option Number → Option Number → Option Number → Option Number → Bool → Bool → Bool → Bool → Option Asked
+begun_by p q lx ly s t u v =
+    cond ((s && t) && (u && v)) (Some (Begin (record { p = value_of p; q = value_of q; lx = value_of lx; ly = value_of ly }))) None
 
-  pub begun-fits : ((a && b) && (c && d)) ≡ true →
-      (sixteens p ≡ true) × (sixteens q ≡ true) × (sixteens lx ≡ true) × (sixteens ly ≡ true)
-  begun-fits e = four (sixteens p) (sixteens q) (sixteens lx) (sixteens ly) (tested e)
-
-  pub begun-read : ((a && b) && (c && d)) ≡ true →
-      {x y z w : ℤ} →
-      x ≡ value_of p →
-      y ≡ value_of q →
-      z ≡ value_of lx →
-      w ≡ value_of ly →
-      Begin (record { p = x; q = y; lx = z; ly = w }) ≡ begun_of p q lx ly
+module _ (p q lx ly : Option Number) {a : Option ℤ} (f : a ≡ signed_in 32768 32767 p) where
+  pub begun_1 : a ≡ None → None ≡ begun_of p q lx ly
   unfolding begun_of
-  begun-read e x' y' z' w' =
-      (λ i. Begin (record { p = x' i; q = y' i; lx = z' i; ly = w' i }))
-      ∙ sym (ap (λ (t : Bool). cond t (Begin (record { p = value_of p; q = value_of q; lx = value_of lx; ly = value_of ly })) Nothing)
-      (tested e))
+  begun_1 e =
+      let z = missing (sixteens p) (value_of p) f e in
+      sym (ap (λ s. begun_by p q lx ly s (sixteens q) (sixteens lx) (sixteens ly)) z)
 
-  pub begun-other : ((a && b) && (c && d)) ≡ false → Nothing ≡ begun_of p q lx ly
-  unfolding begun_of
-  begun-other e =
-      sym (ap (λ (t : Bool). cond t (Begin (record { p = value_of p; q = value_of q; lx = value_of lx; ly = value_of ly })) Nothing) (tested e))
+  module _ {x : ℤ} (x-is : a ≡ Some x) {b : Option ℤ} (g : b ≡ signed_in 32768 32767 q) where
+    one : (sixteens p ≡ true) × (x ≡ value_of p)
+    one = given (sixteens p) (value_of p) f x-is
 
-module _ (kind na nb nc label : Number) {a b c d m : Bool} (f : a ≡ sixteens na) (g : b ≡ sixteens nb)
-    (h : c ≡ fits 2147483648 2147483647 nc) (k : d ≡ fits 0 255 kind) (l : m ≡ fits 0 65535 label) where
-  ruled : {u : Bool} →
-      ((a && b && c) && (d && m)) ≡ u →
-      ((sixteens na && sixteens nb && fits 2147483648 2147483647 nc) && (fits 0 255 kind && fits 0 65535 label)) ≡ u
-  ruled e = sym (λ i. (f i && g i && h i) && (k i && l i)) ∙ e
+    pub begun_2 : b ≡ None → None ≡ begun_of p q lx ly
+    unfolding begun_of
+    begun_2 e =
+        let z = missing (sixteens q) (value_of q) g e in
+        sym (λ i. begun_by p q lx ly (one.0 i) (z i) (sixteens lx) (sixteens ly))
 
-  pub ruled-fits : ((a && b && c) && (d && m)) ≡ true →
-      (sixteens na ≡ true)
-      × (sixteens nb ≡ true)
-      × (fits 2147483648 2147483647 nc ≡ true)
-      × (fits 0 255 kind ≡ true)
-      × (fits 0 65535 label ≡ true)
-  ruled-fits e =
-      five (sixteens na) (sixteens nb) (fits 2147483648 2147483647 nc) (fits 0 255 kind) (fits 0 65535 label) (ruled e)
+    module _ {y : ℤ} (y-is : b ≡ Some y) {c : Option ℤ} (h : c ≡ signed_in 32768 32767 lx) where
+      two : (sixteens q ≡ true) × (y ≡ value_of q)
+      two = given (sixteens q) (value_of q) g y-is
 
-  pub ruled-read : ((a && b && c) && (d && m)) ≡ true →
-      {x y z : ℤ} →
-      x ≡ value_of na →
-      y ≡ value_of nb →
-      z ≡ value_of nc →
-      Add (record { kind = kind.size; a = x; b = y; c = z; label = label.size }) ≡ rule_of kind na nb nc label
+      pub begun_3 : c ≡ None → None ≡ begun_of p q lx ly
+      unfolding begun_of
+      begun_3 e =
+          let z = missing (sixteens lx) (value_of lx) h e in
+          sym (λ i. begun_by p q lx ly (one.0 i) (two.0 i) (z i) (sixteens ly))
+
+      module _ {z : ℤ} (z-is : c ≡ Some z) {d : Option ℤ} (k : d ≡ signed_in 32768 32767 ly) where
+        three : (sixteens lx ≡ true) × (z ≡ value_of lx)
+        three = given (sixteens lx) (value_of lx) h z-is
+
+        pub begun_4 : d ≡ None → None ≡ begun_of p q lx ly
+        unfolding begun_of
+        begun_4 e =
+            let m = missing (sixteens ly) (value_of ly) k e in
+            sym (λ i. begun_by p q lx ly (one.0 i) (two.0 i) (three.0 i) (m i))
+
+        pub begun-read : {w : ℤ} →
+            d ≡ Some w →
+            Some (Begin (record {
+              p = to_z w16 (of_z w16 x);
+              q = to_z w16 (of_z w16 y);
+              lx = to_z w16 (of_z w16 z);
+              ly = to_z w16 (of_z w16 w);
+            })) ≡ begun_of p q lx ly
+        unfolding begun_of
+        begun-read e =
+            let four = given (sixteens ly) (value_of ly) k e in
+            (λ i. Some (Begin (record {
+              p = kept16 p f x-is i;
+              q = kept16 q g y-is i;
+              lx = kept16 lx h z-is i;
+              ly = kept16 ly k e i;
+            })))
+            ∙ sym (λ i. begun_by p q lx ly (one.0 i) (two.0 i) (three.0 i) (four.0 i))
+
+abbrev ruled_by : Option Number → Option Number → Option Number → Option Number → Option Number →
+    Bool → Bool → Bool → Bool → Bool → Option Asked
+ruled_by kind a b c label s t u v w =
+    cond ((s && t && u) && (v && w))
+    (Some (Add (record { kind = size_of kind; a = value_of a; b = value_of b; c = value_of c; label = size_of label }))) None
+
+module _ (kind a b c label : Option Number) {oa : Option ℤ} (f : oa ≡ signed_in 32768 32767 a) where
+  pub ruled_1 : oa ≡ None → None ≡ rule_of kind a b c label
   unfolding rule_of
-  ruled-read e x' y' z' =
-      (λ i. Add (record { kind = kind.size; a = x' i; b = y' i; c = z' i; label = label.size }))
-      ∙ sym (ap (λ (t : Bool). cond t
-      (Add (record { kind = kind.size; a = value_of na; b = value_of nb; c = value_of nc; label = label.size })) Nothing) (ruled e))
+  ruled_1 e =
+      let m = missing (sixteens a) (value_of a) f e in
+      sym (ap (λ s. ruled_by kind a b c label s (sixteens b) (fits 2147483648 2147483647 c) (fits 0 255 kind) (fits 0 65535 label)) m)
 
-  pub ruled-other : ((a && b && c) && (d && m)) ≡ false → Nothing ≡ rule_of kind na nb nc label
-  unfolding rule_of
-  ruled-other e =
-      sym (ap (λ (t : Bool). cond t
-      (Add (record { kind = kind.size; a = value_of na; b = value_of nb; c = value_of nc; label = label.size })) Nothing) (ruled e))
+  module _ {x : ℤ} (x-is : oa ≡ Some x) {ob : Option ℤ} (g : ob ≡ signed_in 32768 32767 b) where
+    first_is : (sixteens a ≡ true) × (x ≡ value_of a)
+    first_is = given (sixteens a) (value_of a) f x-is
+
+    pub ruled_2 : ob ≡ None → None ≡ rule_of kind a b c label
+    unfolding rule_of
+    ruled_2 e =
+        let m = missing (sixteens b) (value_of b) g e in
+        sym (λ i. ruled_by kind a b c label (first_is.0 i) (m i) (fits 2147483648 2147483647 c) (fits 0 255 kind) (fits 0 65535 label))
+
+    module _ {y : ℤ} (y-is : ob ≡ Some y) {oc : Option ℤ} (h : oc ≡ signed_in 2147483648 2147483647 c) where
+      second_is : (sixteens b ≡ true) × (y ≡ value_of b)
+      second_is = given (sixteens b) (value_of b) g y-is
+
+      pub ruled_3 : oc ≡ None → None ≡ rule_of kind a b c label
+      unfolding rule_of
+      ruled_3 e =
+          let m = missing (fits 2147483648 2147483647 c) (value_of c) h e in
+          sym (λ i. ruled_by kind a b c label (first_is.0 i) (second_is.0 i) (m i) (fits 0 255 kind) (fits 0 65535 label))
+
+      module _ {z : ℤ} (z-is : oc ≡ Some z) {ok : Option ℕ} (k : ok ≡ unsigned_in 255 kind) where
+        third_is : (fits 2147483648 2147483647 c ≡ true) × (z ≡ value_of c)
+        third_is = given (fits 2147483648 2147483647 c) (value_of c) h z-is
+
+        pub ruled_4 : ok ≡ None → None ≡ rule_of kind a b c label
+        unfolding rule_of
+        ruled_4 e =
+            let m = missing (fits 0 255 kind) (size_of kind) k e in
+            sym (λ i. ruled_by kind a b c label (first_is.0 i) (second_is.0 i) (third_is.0 i) (m i) (fits 0 65535 label))
+
+        module _ {n : ℕ} (n-is : ok ≡ Some n) {ol : Option ℕ} (l : ol ≡ unsigned_in 65535 label) where
+          fourth_is : (fits 0 255 kind ≡ true) × (n ≡ size_of kind)
+          fourth_is = given (fits 0 255 kind) (size_of kind) k n-is
+
+          pub ruled_5 : ol ≡ None → None ≡ rule_of kind a b c label
+          unfolding rule_of
+          ruled_5 e =
+              let m = missing (fits 0 65535 label) (size_of label) l e in
+              sym (λ i. ruled_by kind a b c label (first_is.0 i) (second_is.0 i) (third_is.0 i) (fourth_is.0 i) (m i))
+
+          pub ruled-read : {m : ℕ} →
+              ol ≡ Some m →
+              Some (Add (record {
+                kind = n;
+                a = to_z w16 (of_z w16 x);
+                b = to_z w16 (of_z w16 y);
+                c = to_z w32 (of_z w32 z);
+                label = m;
+              })) ≡ rule_of kind a b c label
+          unfolding rule_of
+          ruled-read e =
+              let fifth_is = given (fits 0 65535 label) (size_of label) l e in
+              (λ i. Some (Add (record {
+                kind = fourth_is.1 i;
+                a = kept16 a f x-is i;
+                b = kept16 b g y-is i;
+                c = kept32 c h z-is i;
+                label = fifth_is.1 i;
+              })))
+              ∙ sym (λ i. ruled_by kind a b c label (first_is.0 i) (second_is.0 i) (third_is.0 i) (fourth_is.0 i) (fifth_is.0 i))
 
 -- ---- a label and a text
 
@@ -152,70 +230,76 @@ module _ (kind na nb nc label : Number) {a b c d m : Bool} (f : a ≡ sixteens n
 pub whole : (s : List ℕ) (at : ℕ) → take (length s - at) (drop at s) ≡ drop at s
 whole s at = take_all (length s - at) (drop at s) (omega (arith, length-drop at s))
 
-module _ (s : List ℕ) {at : ℕ} {label : Found} (word : Goes s (drop 3 s) at) (f : Finds s at label) {t : Bool}
-    (fitting : t ≡ fits 0 65535 label.number) where
-  told : {u : Bool} → t ≡ u → fits 0 65535 (number_in (drop 3 s)) ≡ u
-  told e = sym (ap (fits 0 65535) (then word f).0) ∙ sym fitting ∙ e
+module _ (s : List ℕ) {at : ℕ} {label : Found} (word : Goes s (drop 3 s) at) (f : Finds s at label) {o : Option ℕ}
+    (fitting : o ≡ unsigned_in 65535 label.number) where
+  told : o ≡ unsigned_in 65535 (number_in (drop 3 s))
+  told = fitting ∙ ap (unsigned_in 65535) (then word f).0
 
-  module _ {b : ℕ} (e : t ≡ true) (byte : b ≡ first (drop label.next s)) where
+  typed_by : Bool → Bool → Option Asked
+  typed_by t u = cond (t && u) (Some (typed_of (size_of (number_in (drop 3 s))) (past_field (drop 3 s)))) None
+
+  module _ {n b : ℕ} (e : o ≡ Some n) (byte : b ≡ first (drop label.next s)) where
     here : b ≡ first (past_field (drop 3 s))
     here = byte ∙ ap first (then word f).1.goes_on
 
-    pub typed-read : b ≡ 32 → {a : Asked} → a ≡ typed_of label.number (drop label.next s) → a ≡ typed_in (drop 3 s)
-    unfolding typed_in
+    labelled : (fits 0 65535 (number_in (drop 3 s)) ≡ true) × (n ≡ size_of (number_in (drop 3 s)))
+    labelled = given (fits 0 65535 (number_in (drop 3 s))) (size_of (number_in (drop 3 s))) told e
+
+    pub typed-read : b ≡ 32 → {a : Asked} → a ≡ typed_of n (drop label.next s) → Some a ≡ typed_in (drop 3 s)
+    unfolding typed_in typed_by
     typed-read z q =
-        let x = told e in
         let y : eqb (first (past_field (drop 3 s))) 32 ≡ true = eq-eqb (first (past_field (drop 3 s))) 32 (sym here ∙ z) in
-        q ∙ (λ i. typed_of ((then word f).0 i) ((then word f).1.goes_on i))
-        ∙ sym (ap₂ (λ (t u : Bool). cond (t && u) (typed_of (number_in (drop 3 s)) (past_field (drop 3 s))) Nothing) x y)
+        ap Some (q ∙ (λ i. typed_of (labelled.1 i) ((then word f).1.goes_on i))) ∙ sym (ap₂ typed_by labelled.0 y)
 
-    pub typed_unspaced : (b ≡ 32 → ⊥) → Nothing ≡ typed_in (drop 3 s)
-    unfolding typed_in
+    pub typed_unspaced : (b ≡ 32 → ⊥) → None ≡ typed_in (drop 3 s)
+    unfolding typed_in typed_by
     typed_unspaced z =
-        let x = told e in
         let y : eqb (first (past_field (drop 3 s))) 32 ≡ false = ne_eqb (first (past_field (drop 3 s))) 32 (λ q. z (here ∙ q)) in
-        sym (ap₂ (λ (t u : Bool). cond (t && u) (typed_of (number_in (drop 3 s)) (past_field (drop 3 s))) Nothing) x y)
+        sym (ap₂ typed_by labelled.0 y)
 
-  pub typed_unlabelled : t ≡ false → Nothing ≡ typed_in (drop 3 s)
-  unfolding typed_in
+  pub typed_unlabelled : o ≡ None → None ≡ typed_in (drop 3 s)
+  unfolding typed_in typed_by
   typed_unlabelled e =
-      let l = drop 3 s in
-      sym (ap (λ (t : Bool). cond (t && eqb (first (past_field l)) 32) (typed_of (number_in l) (past_field l)) Nothing)
-      (told e))
+      let m = missing (fits 0 65535 (number_in (drop 3 s))) (size_of (number_in (drop 3 s))) told e in
+      sym (ap (λ t. typed_by t (eqb (first (past_field (drop 3 s))) 32)) m)
 
 -- ---- what a text reads as
 
 abbrev Ranged : Typed → Type 0
-Ranged (typed.Rule w) = InRange w
-Ranged (typed.Refused r) = Unit {0}
+Ranged (Ok w) = InRange w
+Ranged (Err x) = Unit {0}
 
 sound : (p : Parsed grammar.Rule) → Ranged (judged p)
 sound fail = tt
 sound (got r s) = go (value_rule r) (value-sound r)
   where
     go : (t : Typed) → Sound t → Ranged t
-    go (typed.Rule w) h = h
-    go (typed.Refused r) h = tt
+    go (Ok w) h = h
+    go (Err x) h = tt
 
 answer-ranged : (l : List ℕ) → Ranged (answer l)
 unfolding answer
 answer-ranged l = go (leb (length l) 120)
   where
-    go : (t : Bool) → Ranged (cond t (judged (parse l)) (no_rule 13))
+    go : (t : Bool) → Ranged (cond t (judged (parse l)) (no_rule Text))
     go true = sound (parse l)
     go false = tt
 
-pub ranged : (l : List ℕ) {t : Typed} {w : Written} → answer l ≡ t → t ≡ typed.Rule w → InRange w
+pub ranged : (l : List ℕ) {t : Typed} {w : Written} → answer l ≡ t → t ≡ Ok w → InRange w
 ranged l e f = subst Ranged (e ∙ f) (answer-ranged l)
 
-pub read-rule : (label : Number) (l : List ℕ) {t : Typed} {w : Written} {r : Rule} →
+pub read-rule : (label : ℕ) (l : List ℕ) {t : Typed} {w : Written} {r : Rule} →
     t ≡ answer l →
-    t ≡ typed.Rule w →
+    t ≡ Ok w →
     r ≡ written_of label w →
     Add r ≡ typed_of label l
 unfolding typed_of
 read-rule label l e f g = ap Add g ∙ ap (read_as label) (sym f ∙ e)
 
-pub read-refused : (label : Number) (l : List ℕ) {t : Typed} {r : Refusal} → t ≡ answer l → t ≡ typed.Refused r → Turn r ≡ typed_of label l
+pub read-refused : (label : ℕ) (l : List ℕ) {t : Typed} {x : Flaw} {r : Refusal} →
+    t ≡ answer l →
+    t ≡ Err x →
+    r ≡ refusal_of x →
+    Turn r ≡ typed_of label l
 unfolding typed_of
-read-refused label l e f = ap (read_as label) (sym f ∙ e)
+read-refused label l e f g = ap Turn g ∙ ap (read_as label) (sym f ∙ e)

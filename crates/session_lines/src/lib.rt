@@ -2,10 +2,8 @@
 
 #![tactic(auto)]
 
-mod digits;
 mod numbers;
 mod steps;
-mod words;
 
 ghost use Rattle.std.specs.Prelude.{◌≡◌};
 ghost use Rattle.session_lines.specs.Lines.{line_in};
@@ -13,7 +11,6 @@ ghost use Rattle.session_lines.specs.Lines.{line_in};
 use answers::Refusal;
 use records::Rule;
 use steps::{added, started, typed};
-use words::begins;
 
 // An objective and floors.
 #[derive(Clone, Copy)]
@@ -24,33 +21,32 @@ pub struct Beginning {
     pub ly: i16,
 }
 
-// What a line asks for: no step, a session anew, a rule more, none since its text is turned back, or a rule less.
+// The step that a line asks for: a session anew, a rule more, none since its text is turned back, or a rule less.
 #[derive(Clone, Copy)]
 pub enum Asked {
-    Nothing,
     Begin(Beginning),
     Add(Rule),
     Turn(Refusal),
     Back,
 }
 
-// What a text asks for.
-pub fn read_line(text: &[u8]) -> Asked
+// The step that a text asks for, if it asks for one.
+pub fn read_line(text: &[u8]) -> Option<Asked>
     ensures { result ≡ line_in text.now }
 {
-    if begins(text, b"start") {
+    if text.starts_with(b"start") {
         return started(text);
     }
-    if begins(text, b"add") {
+    if text.starts_with(b"add") {
         return typed(text);
     }
-    if begins(text, b"rule") {
+    if text.starts_with(b"rule") {
         return added(text);
     }
-    if begins(text, b"back") {
+    if text.starts_with(b"back") {
         if text.len() == 4 {
-            return Asked::Back;
+            return Some(Asked::Back);
         }
     }
-    Asked::Nothing
+    None
 }

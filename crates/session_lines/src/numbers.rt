@@ -1,73 +1,54 @@
 // The numbers of a line: each stands after one space, as a minus or none and digits.
-ghost use Rattle.std.specs.Prelude.{◌≡◌, true, ◌≤◌, length};
-ghost use Rattle.session_lines.specs.Fields.{no_number, numeral_of, fits as fits_of, value_of};
-ghost use Rattle.session_lines.specs.Asked.{Places, FindsFrom, Finds};
+ghost use Rattle.std.specs.Prelude.{◌≡◌, Some};
+ghost use Rattle.session_lines.specs.Fields.{numeral_of, signed_in, unsigned_in};
+ghost use Rattle.session_lines.specs.Asked.{FindsFrom, Finds};
 
-use crate::digits::{after, byte_at, digit, digits};
+use scanning::{after, byte_at, digit, digits};
 
-// A number's sign and size, or that none stands there.
+// A number's sign and size.
 #[derive(Clone, Copy)]
 pub struct Number {
-    pub there: bool,
     pub negative: bool,
     pub size: u64,
 }
 
-// A number, and where the text goes on.
+// The number of a field, if one stands there, and where the text goes on.
 #[derive(Clone, Copy)]
 pub struct Found {
-    pub number: Number,
+    pub number: Option<Number>,
     pub next: usize,
 }
 
-fn no_number() -> Number
-    ensures { result ≡ no_number }
-{
-    Number {
-        there: false,
-        negative: false,
-        size: 0,
-    }
-}
-
 // A number that is not beyond the greatest.
-fn numeral(negative: bool, size: u64) -> Number
+fn numeral(negative: bool, size: u64) -> Option<Number>
     ensures { result ≡ numeral_of negative size }
 {
     if size <= 2147483648 {
-        Number {
-            there: true,
-            negative,
-            size,
-        }
+        Some(Number { negative, size })
     } else {
-        no_number()
+        None
     }
 }
 
 // The number whose space and whose digits stand at two places.
 fn number_from(negative: bool, text: &[u8], at: usize, from: usize) -> Found
-    requires { Places text.now at from }
     ensures { FindsFrom negative text.now at from result }
 {
-    let run = digits(text, from);
+    let run = digits(text, from, 2147483648);
     let next = run.end;
     if byte_at(text, at) != 32 {
-        let number = no_number();
-        return Found { number, next };
+        return Found { number: None, next };
     }
     if digit(byte_at(text, from)) {
         let number = numeral(negative, run.number);
         Found { number, next }
     } else {
-        let number = no_number();
-        Found { number, next }
+        Found { number: None, next }
     }
 }
 
 // The number in the field at a place, where its space stands.
 pub fn field(text: &[u8], at: usize) -> Found
-    requires { at ≤ length text.now }
     ensures { Finds text.now at result }
 {
     let sign = after(text, at);
@@ -79,38 +60,38 @@ pub fn field(text: &[u8], at: usize) -> Found
     }
 }
 
-// Whether a number goes at most so far below 0, or so far above it.
-pub fn fits(n: Number, below: u64, above: u64) -> bool
-    ensures { result ≡ fits_of below above n }
+// The number itself, if it has room in 64 bits.
+fn signed(n: Number) -> Option<i64>
+    ensures { result ≡ signed_in 9223372036854775807 9223372036854775807 (Some n) }
 {
-    if n.negative {
-        n.there & (n.size <= below)
-    } else {
-        n.there & (n.size <= above)
-    }
+    let size = i64::try_from(n.size).ok()?;
+    if n.negative { Some(-size) } else { Some(size) }
 }
 
-// The number itself.
-fn signed(n: Number) -> i64
-    requires { n.size ≤ 2147483648 }
-    ensures { result ≡ value_of n }
+// As one of sixteen bits. This and the next three are not one function of any type, so that each says in numbers what has room in it.
+pub fn sixteen(n: Option<Number>) -> Option<i16>
+    ensures { result ≡ signed_in 32768 32767 n }
 {
-    let size = n.size as i64;
-    if n.negative { 0 - size } else { size }
-}
-
-// As one of sixteen bits.
-pub fn sixteen(n: Number) -> i16
-    requires { fits_of 32768 32767 n ≡ true }
-    ensures { result ≡ value_of n }
-{
-    signed(n) as i16
+    i16::try_from(signed(n?)?).ok()
 }
 
 // As one of thirty-two.
-pub fn thirty_two(n: Number) -> i32
-    requires { fits_of 2147483648 2147483647 n ≡ true }
-    ensures { result ≡ value_of n }
+pub fn thirty_two(n: Option<Number>) -> Option<i32>
+    ensures { result ≡ signed_in 2147483648 2147483647 n }
 {
-    signed(n) as i32
+    i32::try_from(signed(n?)?).ok()
+}
+
+// As one of eight bits without a sign.
+pub fn unsigned_eight(n: Option<Number>) -> Option<u8>
+    ensures { result ≡ unsigned_in 255 n }
+{
+    u8::try_from(signed(n?)?).ok()
+}
+
+// As one of sixteen bits without a sign.
+pub fn unsigned_sixteen(n: Option<Number>) -> Option<u16>
+    ensures { result ≡ unsigned_in 65535 n }
+{
+    u16::try_from(signed(n?)?).ok()
 }

@@ -7,9 +7,9 @@ use mathlib.Core.List.{List, [], ◌∷◌}
 use Prim.Native.Nat.{ℕ, zero, suc, ◌+◌, ◌-◌, ◌≤◌, ◌<◌}
 use native.Mathlib.Omega.{arith}
 use native.Mathlib.Decide.{ℕ_discrete}
-use borrow.Author.Tests.{eq-eqb, ne_eqb}
+use borrow.Author.Tests.{ne_eqb}
 use lib.Dec.{eqb}
-use lib.ListN.{length, take, get_or, set, length-set}
+use lib.ListN.{length, get_or, set, length-set}
 use lib.Seq.{get_or-set_same, get_or-set_other, get_or-take, length-take-le, ext_get_or}
 use lib.IntN.{ℤ, pos}
 use Rattle.records.specs.declared.Rule.{Rule}
@@ -22,13 +22,14 @@ use Rattle.repacker.proofs.Readback.{book-reads}
 use Rattle.repacker.proofs.RepackLaws.{usable_v2}
 use Rattle.answers.specs.declared.Plan.{Plan}
 use Rattle.answers.specs.declared.Refusal.{Refusal}
-use Rattle.answers.specs.declared.Answer.TheVariants.{Planned}
-use Rattle.answers.specs.Refusal.{refusal, not_refused}
+use Rattle.std.proofs.Common.{Option, Some, None, Ok}
+use Rattle.std.specs.Prelude.{is_none}
+use Rattle.answers.specs.Refusal.{refusal}
 use Rattle.planner.specs.Planning.{AnsweredBy, Answers}
 use Rattle.sessions.specs.declared.Session.{Session}
 use Rattle.sessions.specs.declared.Step.{Step}
 use Rattle.sessions.specs.Sessions.{no_rule, held_of, IsSession, chain_of, Shown}
-use Rattle.sessions.specs.Steps.{start_of, longer_by, shorter_by, adding_refusal, withdrawing, Starts, Adds, Withdraws}
+use Rattle.sessions.specs.Steps.{start_of, longer_by, shorter_by, withdrawing, Starts, Adds, Withdraws}
 use Rattle.sessions.proofs.Held.{sound, held-lawful}
 
 -- ---- what is handed back is a session
@@ -44,40 +45,39 @@ withdraw_hands_back s x h = h.valid
 
 -- ---- a refused step changes nothing
 
-pub refused-add-keeps : (s : Session) (r : Rule) (x : Step) → Adds s r x → (x.refusal.number ≡ 0 → ⊥) → x.session ≡ s
-refused-add-keeps s r x h some =
-    h.session-is
-    ∙ ap (λ b. cond b (longer_by s r) s)
-    (ne_eqb (adding_refusal s r).number 0 (λ e. some (ap (λ (f : Refusal). f.number) h.refusal_is ∙ e)))
+-- no step is refused and not refused
+never : {o : Option Refusal} {f : Refusal} {s t : Session} → o ≡ None → o ≡ Some f → s ≡ t
+never none some = cc
 
-pub refused-withdraw-keeps : (s : Session) (x : Step) → Withdraws s x → (x.refusal.number ≡ 0 → ⊥) → x.session ≡ s
-refused-withdraw-keeps s x h some = go (eqb s.n 0) refl
+pub refused-add-keeps : (s : Session) (r : Rule) (x : Step) → Adds s r x → (f : Refusal) → x.refusal ≡ Some f → x.session ≡ s
+refused-add-keeps s r x h f some =
+    h.session-is ∙ ap (λ (g : Option Refusal). cond (is_none g) (longer_by s r) s) (sym h.refusal_is ∙ some)
+
+pub refused-withdraw-keeps : (s : Session) (x : Step) → Withdraws s x → (f : Refusal) → x.refusal ≡ Some f → x.session ≡ s
+refused-withdraw-keeps s x h f some = go (eqb s.n 0) refl
   where
     go : (b : Bool) → eqb s.n 0 ≡ b → x.session ≡ s
     go true e = h.session-is ∙ ap (λ c. cond c s (shorter_by s)) e
-    go false e =
-        absurd (some (ap (λ (f : Refusal). f.number) (h.refusal_is ∙ ap (λ c. cond c (refusal 19 0) not_refused) e)))
+    go false e = never (h.refusal_is ∙ ap (λ c. cond c (Some (refusal 19 0)) None) e) some
 
 -- a refused start hands back an empty session, objective and floors 0
 pub refused-start-empty : (p q lx ly : ℤ) (x : Step) →
     Starts p q lx ly x →
-    (x.refusal.number ≡ 0 → ⊥) →
+    (f : Refusal) →
+    x.refusal ≡ Some f →
     x.session ≡ start_of (pos 0) (pos 0) (pos 0) (pos 0)
-refused-start-empty p q lx ly x h some = go (is_least p || is_least q) refl
+refused-start-empty p q lx ly x h f some = go (is_least p || is_least q) refl
   where
     go : (b : Bool) → (is_least p || is_least q) ≡ b → x.session ≡ start_of (pos 0) (pos 0) (pos 0) (pos 0)
     go true e =
         h.session-is ∙ ap (λ c. cond c (start_of (pos 0) (pos 0) (pos 0) (pos 0)) (start_of p q lx ly)) e
-    go false e =
-        absurd (some (ap (λ (f : Refusal). f.number) (h.refusal_is ∙ ap (λ c. cond c (refusal 4 0) not_refused) e)))
+    go false e = never (h.refusal_is ∙ ap (λ c. cond c (Some (refusal 4 0)) None) e) some
 
 -- ---- add, then withdraw
 
-taken-add : (s : Session) (r : Rule) (x : Step) → Adds s r x → x.refusal.number ≡ 0 → x.session ≡ longer_by s r
+taken-add : (s : Session) (r : Rule) (x : Step) → Adds s r x → x.refusal ≡ None → x.session ≡ longer_by s r
 taken-add s r x h none =
-    h.session-is
-    ∙ ap (λ b. cond b (longer_by s r) s)
-    (eq-eqb (adding_refusal s r).number 0 (sym (ap (λ (f : Refusal). f.number) h.refusal_is) ∙ none))
+    h.session-is ∙ ap (λ (g : Option Refusal). cond (is_none g) (longer_by s r) s) (sym h.refusal_is ∙ none)
 
 -- a place that is blank is blank again
 blank-again : (s : Session) → IsSession s → (r : Rule) → s.n < 64 → set (set s.rules s.n r) s.n no_rule ≡ s.rules
@@ -108,9 +108,9 @@ back-again s is r free =
 pub add-withdraw : (s : Session) → IsSession s →
     (r : Rule) (x y : Step) →
     Adds s r x →
-    x.refusal.number ≡ 0 →
+    x.refusal ≡ None →
     Withdraws x.session y →
-    (y.session ≡ s) × (y.refusal ≡ not_refused)
+    (y.session ≡ s) × (y.refusal ≡ None)
 add-withdraw s is r x y h none k = (
   k.session-is
       ∙ ap (λ (z : Session). cond (eqb z.n 0) z (shorter_by z)) added
@@ -118,7 +118,7 @@ add-withdraw s is r x y h none k = (
       ∙ back-again s is r free,
   k.refusal_is
       ∙ ap (λ (z : Session). withdrawing z) added
-      ∙ ap (λ b. cond b (refusal 19 0) not_refused) some,
+      ∙ ap (λ b. cond b (Some (refusal 19 0)) None) some,
 )
   where
     added : x.session ≡ longer_by s r
@@ -170,6 +170,6 @@ module _ (s : Session) (is : IsSession s) where
       at_place j d h = held_at j d h ∙ get_or-take s.n s.rules j no_rule (omega (arith, many))
 
   -- so that the answer of a session is `plan`'s for that book
-  pub answer_of_the_book : (p : Plan) → Shown s p → Answers v2 (book_of v2 s.terms (held_of s)) (Planned p)
+  pub answer_of_the_book : (p : Plan) → Shown s p → Answers v2 (book_of v2 s.terms (held_of s)) (Ok p)
   answer_of_the_book p shown =
-      record { answered = subst (λ x. AnsweredBy x (Planned p)) (sym book-accepted) shown.answer }
+      record { answered = subst (λ x. AnsweredBy x (Ok p)) (sym book-accepted) shown.answer }

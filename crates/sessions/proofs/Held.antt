@@ -1,4 +1,5 @@
 -- A session as the chain of a book: its rules are in range, the engine plans them, and the names are the places from 1 up.
+use Rattle.std.specs.Prelude.{None, Some}
 use mathlib.Core.Path.{◌≡◌, refl, sym, ◌∙◌, ap, ap₂, subst}
 use mathlib.Core.List.{List, [], ◌∷◌, map}
 use Prim.Native.Nat.{ℕ, zero, suc, ◌+◌, ◌<◌}
@@ -21,7 +22,6 @@ use Rattle.book.proofs.Bounds.{SoundRule, planned-small}
 use Rattle.repacker.specs.Repacking.{numbered}
 use Rattle.answers.specs.declared.Plan.{Plan}
 use Rattle.engine.specs.declared.Solution.{Solution}
-use Rattle.engine.specs.declared.Solved.TheVariants.{Outside, Walked}
 use Rattle.engine.specs.Entries.{entries}
 use Rattle.engine.specs.Solving.{solution_of, solved_of}
 use Rattle.engine.proofs.Tests.{solved}
@@ -113,13 +113,13 @@ module _ (s : Session) (is : IsSession s) where
         ∙ sym (rules-numbered 1 (held_of s))
 
     walked : solved_of s.terms laid s.n
-        ≡ Walked (solution_of s.terms.objective (walk tie s.terms.floors s.terms.objective (rules_of (chain_of s))))
+        ≡ Some (solution_of s.terms.objective (walk tie s.terms.floors s.terms.objective (rules_of (chain_of s))))
     walked =
         solved s.terms laid s.n terms-small (omega (arith, is.count, laid-length l s.rules s.n))
         (subst SmallSystem (sym chain-laid) rules-small)
-        ∙ ap (λ (S : List Constraint). Walked (solution_of s.terms.objective (walk tie s.terms.floors s.terms.objective S))) chain-laid
+        ∙ ap (λ (S : List Constraint). Some (solution_of s.terms.objective (walk tie s.terms.floors s.terms.objective S))) chain-laid
 
-    pub never-outside : {run : List ℤ} → run ≡ laid_from l s.rules s.n → Outside ≡ solved_of s.terms run s.n → ⊥
+    pub never-outside : {run : List ℤ} → run ≡ laid_from l s.rules s.n → None ≡ solved_of s.terms run s.n → ⊥
     never-outside e w =
         let clash = w ∙ ap (λ (x : List ℤ). solved_of s.terms x s.n) e ∙ walked in
         let z : ◌≡◌ {A = ℕ} 0 1 = cc in
@@ -130,7 +130,7 @@ module _ (s : Session) (is : IsSession s) where
         run ≡ laid_from l s.rules s.n →
         names ≡ positions 64 →
         {x : Solution} →
-        Walked x ≡ solved_of s.terms run s.n →
+        Some x ≡ solved_of s.terms run s.n →
         {p : Plan} →
         p ≡ plan_of names x →
         Shown s p

@@ -2,13 +2,13 @@
 use mathlib.Core.Path.{◌≡◌, refl, sym, ◌∙◌, ap}
 use mathlib.Core.Bool.{Bool, true, false, ◌||◌}
 use mathlib.Core.List.{List, [], ◌∷◌, map}
-use Prim.Native.Nat.{ℕ, zero, suc, ◌+◌, ◌≤◌, ◌<◌}
+use Prim.Native.Nat.{ℕ, zero, suc, ◌≤◌, ◌<◌}
 use native.Mathlib.Omega.{arith}
-use native.Mathlib.Decide.{ℕ_discrete}
-use borrow.Author.Tests.{eq-eqb, ne_eqb}
+use borrow.Author.Tests.{eq-eqb}
 use lib.Dec.{eqb}
 use lib.ListN.{length, take, get_or}
 use lib.Seq.{get_or-take, length-take-le}
+use Rattle.std.specs.List.{list_any}
 use Rattle.records.specs.declared.Rule.{Rule}
 use Rattle.book.specs.Reading.{memb}
 use Rattle.sessions.specs.declared.Session.{Session}
@@ -28,14 +28,14 @@ there (r ∷ l) zero label h e = ap (λ b. b || memb label (labels l)) (eq-eqb l
 there (r ∷ l) (suc k) label h e =
     ap (λ b. eqb label r.label || b) (there l k label (omega arith) e) ∙ or_true (eqb label r.label)
 
-absent : (l : List Rule) (label : ℕ) →
-    ((k : ℕ) → k < length l → (get_or l k no_rule).label ≡ label → ⊥) →
-    memb label (labels l) ≡ false
+looked : (l : List Rule) (label : ℕ) → list_any (λ (r : Rule). eqb label r.label) l ≡ memb label (labels l)
 unfolding memb
-absent [] label f = refl
-absent (r ∷ l) label f =
-    ap (λ b. b || memb label (labels l)) (ne_eqb label r.label (λ e. f 0 (omega arith) (sym e)))
-    ∙ absent l label (λ k h. f (suc k) (omega arith))
+looked [] label = refl
+looked (r ∷ l) label = ap (λ b. eqb label r.label || b) (looked l label)
+
+-- a look through the rules held
+pub label-looked : (s : Session) (label : ℕ) → list_any (λ (r : Rule). eqb label r.label) (take s.n s.rules) ≡ label_held s label
+label-looked s label = looked (take s.n s.rules) label
 
 module _ (s : Session) (label : ℕ) (inside : s.n ≤ length s.rules) where
   many : length (take s.n s.rules) ≡ s.n
@@ -46,25 +46,5 @@ module _ (s : Session) (label : ℕ) (inside : s.n ≤ length s.rules) where
       sym (there (take s.n s.rules) k label (omega (arith, many))
       (ap (λ (r : Rule). r.label) (get_or-take s.n s.rules k no_rule h) ∙ e))
 
-  pub label-absent : ((k : ℕ) → k < s.n → (get_or s.rules k no_rule).label ≡ label → ⊥) → false ≡ label_held s label
-  label-absent f =
-      sym (absent (take s.n s.rules) label
-      (λ k h e. f k (omega (arith, many))
-      (sym (ap (λ (r : Rule). r.label) (get_or-take s.n s.rules k no_rule (omega (arith, many)))) ∙ e)))
-
   pub label-new : label_held s label ≡ false → (k : ℕ) → k < s.n → (get_or s.rules k no_rule).label ≡ label → ⊥
   label-new none k h e = let clash = label-there k h e ∙ none in let z : ◌≡◌ {A = ℕ} 0 1 = cc in let b : ⊥ = omega arith in b
-
--- one rule more without the label
-pub one_more : (rules : List Rule) (label i : ℕ) →
-    ((k : ℕ) → k < i → (get_or rules k no_rule).label ≡ label → ⊥) →
-    ((get_or rules i no_rule).label ≡ label → ⊥) →
-    (k : ℕ) →
-    k < i + 1 →
-    (get_or rules k no_rule).label ≡ label →
-    ⊥
-one_more rules label i before here k h e = go (ℕ_discrete k i)
-  where
-    go : Dec (k ≡ i) → ⊥
-    go (yes q) = here (ap (λ j. (get_or rules j no_rule).label) (sym q) ∙ e)
-    go (no q) = before k (omega arith) e

@@ -4,15 +4,17 @@ use mathlib.Core.Bool.{Bool, true, false, not, cond, ◌||◌}
 use Prim.Native.Nat.{ℕ, ◌+◌, ◌≤◌, ◌<◌}
 use native.Mathlib.Omega.{arith}
 use borrow.Author.Tests.{eq-eqb, ne_eqb, lt-ltb, le-ltb}
-use lib.Dec.{T, eqb, ltb}
+use lib.Dec.{T, eqb}
 use lib.IntN.{ℤ, pos}
 use mir.Syntax.{w16}
 use mir.Val.{SFits, to_z, of_z}
 use mir.Facts.{to_z-of_z}
 use Rattle.records.specs.declared.Rule.{Rule}
 use Rattle.records.specs.Record.{is_least}
+use Rattle.std.proofs.Common.{Option, Some, None}
+use Rattle.std.specs.Prelude.{is_none}
 use Rattle.answers.specs.declared.Refusal.{Refusal}
-use Rattle.answers.specs.Refusal.{refusal, not_refused}
+use Rattle.answers.specs.Refusal.{refusal}
 use Rattle.sessions.specs.declared.Session.{Session}
 use Rattle.sessions.specs.declared.Step.{Step}
 use Rattle.sessions.specs.Sessions.{cause_of, label_held, IsSession}
@@ -59,71 +61,69 @@ module _ (s : Session) (r : Rule) {n : ℕ} (found : n ≡ cause_of r) where
 -- ---- adding
 
 module _ (s : Session) (r : Rule) (x : Step) where
-  refused-so : {k i : ℕ} → adding_refusal s r ≡ refusal k i → (k ≡ 0 → ⊥) → Leads s (refusal k i) x → Adds s r x
-  refused-so {k} {i} e some h =
+  refused-so : {k i : ℕ} → adding_refusal s r ≡ Some (refusal k i) → Leads s (Some (refusal k i)) x → Adds s r x
+  refused-so e h =
       record {
-        session-is =
-            h.session-is
-            ∙ sym (ap (λ b. cond b (longer_by s r) s) (ap (λ (f : Refusal). eqb f.number 0) e ∙ ne_eqb k 0 some));
+        session-is = h.session-is ∙ sym (ap (λ (f : Option Refusal). cond (is_none f) (longer_by s r) s) e);
         refusal_is = h.refusal_is ∙ sym e;
         shown = h.shown;
         valid = h.valid;
       }
 
-  pub adds-full : 64 ≤ s.n → Leads s (refusal 18 0) x → Adds s r x
+  pub adds-full : 64 ≤ s.n → Leads s (Some (refusal 18 0)) x → Adds s r x
   adds-full full h =
       refused-so
-      (ap (λ b. cond b (cond (eqb (adding_cause s r) 0) not_refused (refusal (adding_cause s r) (s.n + 1))) (refusal 18 0))
+      (ap (λ b. cond b (cond (eqb (adding_cause s r) 0) None (Some (refusal (adding_cause s r) (s.n + 1)))) (Some (refusal 18 0)))
       (le-ltb s.n 64 full))
-      (λ e. let z : ⊥ = omega arith in z) h
+      h
 
   module _ (free : s.n < 64) (k : ℕ) (checked : AddingChecked s r k) where
-    by-cause : adding_refusal s r ≡ cond (eqb (adding_cause s r) 0) not_refused (refusal (adding_cause s r) (s.n + 1))
+    by-cause : adding_refusal s r ≡ cond (eqb (adding_cause s r) 0) None (Some (refusal (adding_cause s r) (s.n + 1)))
     by-cause =
-        ap (λ b. cond b (cond (eqb (adding_cause s r) 0) not_refused (refusal (adding_cause s r) (s.n + 1))) (refusal 18 0))
+        ap (λ b. cond b (cond (eqb (adding_cause s r) 0) None (Some (refusal (adding_cause s r) (s.n + 1)))) (Some (refusal 18 0)))
         (lt-ltb s.n 64 free)
 
-    pub adds-turned : (k ≡ 0 → ⊥) → Leads s (refusal k (s.n + 1)) x → Adds s r x
+    pub adds-turned : (k ≡ 0 → ⊥) → Leads s (Some (refusal k (s.n + 1))) x → Adds s r x
     adds-turned some h =
         refused-so
         (by-cause
-        ∙ ap (λ m. cond (eqb m 0) not_refused (refusal m (s.n + 1))) (sym checked.answer)
-        ∙ ap (λ b. cond b not_refused (refusal k (s.n + 1))) (ne_eqb k 0 some))
-        some h
+        ∙ ap (λ m. cond (eqb m 0) None (Some (refusal m (s.n + 1)))) (sym checked.answer)
+        ∙ ap (λ b. cond b None (Some (refusal k (s.n + 1)))) (ne_eqb k 0 some))
+        h
 
-    pub adds-taken : k ≡ 0 → {y : Session} → y ≡ longer_by s r → Leads y (refusal 0 0) x → Adds s r x
+    pub adds-taken : k ≡ 0 → {y : Session} → y ≡ longer_by s r → Leads y None x → Adds s r x
     adds-taken none e h =
         record {
           session-is =
               h.session-is ∙ e
-              ∙ sym (ap (λ b. cond b (longer_by s r) s) (ap (λ (f : Refusal). eqb f.number 0) clear));
+              ∙ sym (ap (λ (f : Option Refusal). cond (is_none f) (longer_by s r) s) clear);
           refusal_is = h.refusal_is ∙ sym clear;
           shown = h.shown;
           valid = h.valid;
         }
       where
-        clear : adding_refusal s r ≡ not_refused
+        clear : adding_refusal s r ≡ None
         clear =
             by-cause
-            ∙ ap (λ m. cond (eqb m 0) not_refused (refusal m (s.n + 1))) (sym checked.answer ∙ none)
+            ∙ ap (λ m. cond (eqb m 0) None (Some (refusal m (s.n + 1)))) (sym checked.answer ∙ none)
 
 -- ---- withdrawing
 
 module _ (s : Session) (x : Step) where
-  pub withdraws_none : s.n ≡ 0 → Leads s (refusal 19 0) x → Withdraws s x
+  pub withdraws_none : s.n ≡ 0 → Leads s (Some (refusal 19 0)) x → Withdraws s x
   withdraws_none e h =
       record {
         session-is = h.session-is ∙ sym (ap (λ b. cond b s (shorter_by s)) (eq-eqb s.n 0 e));
-        refusal_is = h.refusal_is ∙ sym (ap (λ b. cond b (refusal 19 0) not_refused) (eq-eqb s.n 0 e));
+        refusal_is = h.refusal_is ∙ sym (ap (λ b. cond b (Some (refusal 19 0)) None) (eq-eqb s.n 0 e));
         shown = h.shown;
         valid = h.valid;
       }
 
-  pub withdraws_one : (s.n ≡ 0 → ⊥) → {y : Session} → y ≡ shorter_by s → Leads y (refusal 0 0) x → Withdraws s x
+  pub withdraws_one : (s.n ≡ 0 → ⊥) → {y : Session} → y ≡ shorter_by s → Leads y None x → Withdraws s x
   withdraws_one some e h =
       record {
         session-is = h.session-is ∙ e ∙ sym (ap (λ b. cond b s (shorter_by s)) (ne_eqb s.n 0 some));
-        refusal_is = h.refusal_is ∙ sym (ap (λ b. cond b (refusal 19 0) not_refused) (ne_eqb s.n 0 some));
+        refusal_is = h.refusal_is ∙ sym (ap (λ b. cond b (Some (refusal 19 0)) None) (ne_eqb s.n 0 some));
         shown = h.shown;
         valid = h.valid;
       }
@@ -166,7 +166,7 @@ module _ (p q lx ly : ℤ) (fp : SFits w16 p) (fq : SFits w16 q) (fx : SFits w16
         {y : Session} →
         y ≡ start_of (read p) (read q) (read lx) (read ly) →
         (x : Step) →
-        Leads y (refusal 0 0) x →
+        Leads y None x →
         Starts p q lx ly x
     starts e ey x h =
         let clear = lawful-none (is_least p) (is_least q) (sym (tested told) ∙ e) in
@@ -174,7 +174,7 @@ module _ (p q lx ly : ℤ) (fp : SFits w16 p) (fq : SFits w16 q) (fx : SFits w16
           session-is =
               h.session-is ∙ ey ∙ back
               ∙ sym (ap (λ b. cond b (start_of (pos 0) (pos 0) (pos 0) (pos 0)) (start_of p q lx ly)) clear);
-          refusal_is = h.refusal_is ∙ sym (ap (λ b. cond b (refusal 4 0) not_refused) clear);
+          refusal_is = h.refusal_is ∙ sym (ap (λ b. cond b (Some (refusal 4 0)) None) clear);
           shown = h.shown;
           valid = h.valid;
         }
@@ -183,7 +183,7 @@ module _ (p q lx ly : ℤ) (fp : SFits w16 p) (fq : SFits w16 q) (fx : SFits w16
         {y : Session} →
         y ≡ start_of (pos 0) (pos 0) (pos 0) (pos 0) →
         (x : Step) →
-        Leads y (refusal 4 0) x →
+        Leads y (Some (refusal 4 0)) x →
         Starts p q lx ly x
     starts-refused e ey x h =
         let some = unlawful_some (is_least p) (is_least q) (sym (tested told) ∙ e) in
@@ -191,7 +191,7 @@ module _ (p q lx ly : ℤ) (fp : SFits w16 p) (fq : SFits w16 q) (fx : SFits w16
           session-is =
               h.session-is ∙ ey
               ∙ sym (ap (λ b. cond b (start_of (pos 0) (pos 0) (pos 0) (pos 0)) (start_of p q lx ly)) some);
-          refusal_is = h.refusal_is ∙ sym (ap (λ b. cond b (refusal 4 0) not_refused) some);
+          refusal_is = h.refusal_is ∙ sym (ap (λ b. cond b (Some (refusal 4 0)) None) some);
           shown = h.shown;
           valid = h.valid;
         }

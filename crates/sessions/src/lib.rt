@@ -15,10 +15,11 @@ pub struct Session {
     pub terms: Terms,
 }
 
-// What a step hands back: the session, the refusal, which is zero where nothing is turned back, and the plan of the session's rules.
+// What a step hands back: the session, the refusal, if something is turned back, and the plan of the session's rules, which a refused step
+// has too.
 #[derive(Clone, Copy)]
 pub struct Step {
     pub session: Session,
-    pub refusal: Refusal,
+    pub refusal: Option<Refusal>,
     pub plan: Plan,
 }

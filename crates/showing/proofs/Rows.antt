@@ -5,8 +5,7 @@ use mathlib.Core.List.{List, [], ◌∷◌, ◌++◌, map}
 use Prim.Native.Nat.{ℕ, ◌+◌, ◌*◌, ◌≤◌, ◌<◌}
 use native.Mathlib.Numerals.{add-one}
 use native.Mathlib.Omega.{arith}
-use borrow.Author.Tests.{eq-eqb, ne_eqb, le-leb, lt-leb}
-use lib.Dec.{eqb}
+use borrow.Author.Tests.{le-leb, lt-leb}
 use lib.ListN.{length, get_or, take}
 use lib.Seq.{take-suc, take_all, length-sets}
 use Rattle.lp.specs.declared.Point.{Point}
@@ -15,12 +14,11 @@ use Rattle.lp.specs.declared.Outcome.TheVariants as outcome
 use Rattle.records.specs.declared.Version.{Version}
 use Rattle.records.specs.declared.Version.TheVariants.{One, Two}
 use Rattle.records.specs.Layout.{Layout, layout_of}
-use Rattle.answers.specs.declared.Answer.TheVariants.{Refused}
+use Rattle.std.proofs.Common.{Result, Ok, Err}
 use Rattle.answers.specs.declared.Refusal.{Refusal}
 use Rattle.text.specs.Append.{Appended, Appends, Fills}
 use Rattle.text.proofs.Put.{followed, roomier, spelt, nothing, too_small, filled, widened}
 use Rattle.panel_row.specs.declared.Row.{Row}
-use Rattle.report.specs.Line.{line_of}
 use Rattle.panel_row.specs.Panel.{row_line, row_lines}
 use Rattle.report.specs.Written.{Written}
 use Rattle.panel_row.proofs.Rows.{lines_append}
@@ -77,60 +75,57 @@ pub four-records : (v : Version) → 4 ≤ (layout_of v).records
 four-records One = omega arith
 four-records Two = omega arith
 
-module _ (L : Layout) (s : List ℕ) (f : Refusal) (q : Outcome) (records before : List ℕ) where
+module _ (L : Layout) (s : List ℕ) (q : Result Outcome Refusal) (records before : List ℕ) where
   as_told : {line after : List ℕ} {count : ℕ} →
-      line ≡ panel_from L s f q records →
+      line ≡ panel_from L s q records →
       Fills line (panel_room L) before after count →
-      Shows L s f q records before after count
+      Shows L s q records before after count
   as_told {line} {after} {count} e g = subst (λ (l : List ℕ). Fills l (panel_room L) before after count) e g
 
-  panel_if : {b : Bool} → eqb f.number 0 ≡ b →
-      panel_from L s f q records ≡ cond b (row_lines (rows_from L s (within L records) q)) (line_of (Refused f))
-  panel_if e = ap (λ (b : Bool). cond b (row_lines (rows_from L s (within L records) q)) (line_of (Refused f))) e
+  panel-is : {x : Result Outcome Refusal} → q ≡ x → panel_from L s x records ≡ panel_from L s q records
+  panel-is e = sym (ap (λ (x : Result Outcome Refusal). panel_from L s x records) e)
 
   -- a buffer that is too small is left as it was
-  pub small-shows : length before < panel_room L → Shows L s f q records before before 0
-  small-shows h = too_small (panel_from L s f q records) (panel_room L) before h
+  pub small-shows : length before < panel_room L → Shows L s q records before before 0
+  small-shows h = too_small (panel_from L s q records) (panel_room L) before h
 
   module _ (room : panel_room L ≤ length before) where
     -- a refused book's line takes 256 bytes at most, and there are four records or more
     pub refused-shows : 4 ≤ L.records →
-        (f.number ≡ 0 → ⊥) →
+        {f : Refusal} →
+        q ≡ Err f →
         {after : List ℕ} {count : ℕ} →
-        Written (Refused f) before after count →
-        Shows L s f q records before after count
-    refused-shows four some g = as_told (sym (panel_if (ne_eqb f.number 0 some))) (widened room (omega arith) g)
+        Written (Err f) before after count →
+        Shows L s q records before after count
+    refused-shows four e g = as_told (panel-is e) (widened room (omega arith) g)
 
-    module _ (clear : f.number ≡ 0) where
-      rows_of : {l : List ℕ} → within L records ≡ l → row_lines (rows_from L s l q) ≡ panel_from L s f q records
-      rows_of e = ap (λ (l : List ℕ). row_lines (rows_from L s l q)) (sym e) ∙ sym (panel_if (eq-eqb f.number 0 clear))
+    module _ {o : Outcome} (clear : q ≡ Ok o) where
+      rows_of : {l : List ℕ} → within L records ≡ l → row_lines (rows_from L s l o) ≡ panel_from L s q records
+      rows_of e = ap (λ (l : List ℕ). row_lines (rows_from L s l o)) (sym e) ∙ panel-is clear
 
-      none-shown : {l : List ℕ} → within L records ≡ l → rows_from L s l q ≡ [] → Shows L s f q records before before 0
+      none-shown : {l : List ℕ} → within L records ≡ l → rows_from L s l o ≡ [] → Shows L s q records before before 0
       none-shown e none = as_told (ap row_lines (sym none) ∙ rows_of e) (filled room (omega arith) (nothing before 0 0))
 
       -- more records than a book can have
-      pub many-shows : L.records < length records → Shows L s f q records before before 0
+      pub many-shows : L.records < length records → Shows L s q records before before 0
       many-shows many =
-          none-shown (ap (λ (b : Bool). cond b records []) (lt-leb (length records) L.records many)) (no_rows q)
+          none-shown (ap (λ (b : Bool). cond b records []) (lt-leb (length records) L.records many)) (no_rows o)
         where
-          no_rows : (q : Outcome) → rows_from L s [] q ≡ []
+          no_rows : (o : Outcome) → rows_from L s [] o ≡ []
           no_rows outcome.Infeasible = refl
           no_rows (outcome.Unbounded u d) = refl
           no_rows (outcome.Optimal v) = refl
 
-      module _ (few : length records ≤ L.records) where
-        all-within : within L records ≡ records
-        all-within = ap (λ (b : Bool). cond b records []) (le-leb (length records) L.records few)
+      -- no line, whatever the records
+      pub none-shows : ((l : List ℕ) → rows_from L s l o ≡ []) → Shows L s q records before before 0
+      none-shows none = none-shown refl (none (within L records))
 
-        -- no line
-        pub none-shows : rows_from L s records q ≡ [] → Shows L s f q records before before 0
-        none-shows none = none-shown all-within none
-
-        -- a line for each record
-        pub best-shows : (v : Point) →
-            q ≡ outcome.Optimal v →
-            {after : List ℕ} {count : ℕ} →
-            Appended before 0 (row_lines (map (row_for L s v) records)) (64 * length records) after count →
-            Shows L s f q records before after count
-        best-shows v e g =
-            as_told (ap (λ (o : Outcome). row_lines (rows_from L s records o)) (sym e) ∙ rows_of all-within) (filled room (omega arith) g)
+    -- a line for each record
+    pub best-shows : length records ≤ L.records →
+        (v : Point) →
+        q ≡ Ok (outcome.Optimal v) →
+        {after : List ℕ} {count : ℕ} →
+        Appended before 0 (row_lines (map (row_for L s v) records)) (64 * length records) after count →
+        Shows L s q records before after count
+    best-shows few v e g =
+        as_told (rows_of e (ap (λ (b : Bool). cond b records []) (le-leb (length records) L.records few))) (filled room (omega arith) g)

@@ -1,13 +1,12 @@
 -- A panel as it is shown: for a best outcome a line for each record of the chain, for any other outcome none, for a refused book the line
 -- of the refusal. That these are the lines of what a book reads as is proved in the planner, which lends the chain's records.
-use Rattle.std.specs.Prelude.{cond, List, [], map, ℕ, ◌*◌, ◌≤◌, eqb, leb, length}
+use Rattle.std.specs.Prelude.{cond, Result, Ok, Err, List, [], map, ℕ, ◌*◌, ◌≤◌, leb, length}
 use Rattle.lp.specs.declared.Point.{Point}
 use Rattle.lp.specs.declared.Outcome.{Outcome}
 use Rattle.lp.specs.declared.Outcome.TheVariants as outcome
 use Rattle.records.specs.Layout.{Layout}
 use Rattle.records.specs.Record.{record_at, rule_of}
 use Rattle.records.specs.Planned.{planned_rule}
-use Rattle.answers.specs.declared.Answer.TheVariants.{Refused}
 use Rattle.answers.specs.declared.Refusal.{Refusal}
 use Rattle.amounts.specs.Amounts.{amount_of}
 use Rattle.text.specs.Append.{Fills}
@@ -33,12 +32,13 @@ rows_from L s records (outcome.Optimal v) = map (row_for L s v) records
 abbrev pub within : Layout → List ℕ → List ℕ
 within L records = cond (leb (length records) L.records) records []
 
-abbrev pub panel_from : Layout → List ℕ → Refusal → Outcome → List ℕ → List ℕ
-panel_from L s f q records = cond (eqb f.number 0) (row_lines (rows_from L s (within L records) q)) (line_of (Refused f))
+abbrev pub panel_from : Layout → List ℕ → Result Outcome Refusal → List ℕ → List ℕ
+panel_from L s (Ok q) records = row_lines (rows_from L s (within L records) q)
+panel_from L s (Err f) records = line_of (Err f)
 
 -- the promise of `show`
-abbrev pub Shows : Layout → List ℕ → Refusal → Outcome → List ℕ → List ℕ → List ℕ → ℕ → Type 0
-Shows L s f q records = Fills (panel_from L s f q records) (panel_room L)
+abbrev pub Shows : Layout → List ℕ → Result Outcome Refusal → List ℕ → List ℕ → List ℕ → ℕ → Type 0
+Shows L s q records = Fills (panel_from L s q records) (panel_room L)
 
 -- what the lines of records ask: 64 bytes for each
 pub record Listing (records out : List ℕ) : Type 0 where

@@ -9,7 +9,7 @@ ghost use Rattle.text.specs.Append.{Appended};
 ghost use Rattle.panel_row.specs.Panel.{row_lines};
 ghost use Rattle.showing.specs.Showing.{panel_room, row_for, Listing, Shows};
 
-use answers::{Answer, Refusal};
+use answers::Refusal;
 use lp::{Outcome, Point};
 use panel_row::{Row, append_row};
 use records::Version;
@@ -42,10 +42,8 @@ fn list(version: Version, book: &[u8], records: &[u16], v: Point, out: &mut [u8]
         (64 * length records.now) out.new result }
 {
     let mut at = 0;
-    let mut i = 0;
-    while i < records.len() {
-        at = append_row(row(version, book, records[i], v), &mut *out, at);
-        i += 1;
+    for &index in records {
+        at = append_row(row(version, book, index, v), &mut *out, at);
     }
     at
 }
@@ -56,28 +54,27 @@ fn list(version: Version, book: &[u8], records: &[u16], v: Point, out: &mut [u8]
 pub fn show(
     version: Version,
     book: &[u8],
-    refusal: Refusal,
-    outcome: Outcome,
+    outcome: Result<Outcome, Refusal>,
     records: &[u16],
     out: &mut [u8],
 ) -> usize
-    ensures { Shows (layout_of version) book.now refusal outcome records.now
-        out.old out.new result }
+    ensures { Shows (layout_of version) book.now outcome records.now out.old out.new result }
 {
     let room = panel_room(version);
     if out.len() < room {
         return 0;
     }
-    let number = refusal.number;
-    if number != 0 {
-        return answer_line::write_line(Answer::Refused(refusal), out);
-    }
-    if room / 64 < records.len() {
-        return 0;
-    }
     match outcome {
-        Outcome::Infeasible => 0,
-        Outcome::Unbounded(_, _) => 0,
-        Outcome::Optimal(v) => list(version, book, records, v, out),
+        Err(refusal) => answer_line::write_line(Err(refusal), out),
+        Ok(outcome) => {
+            if room / 64 < records.len() {
+                return 0;
+            }
+            match outcome {
+                Outcome::Infeasible => 0,
+                Outcome::Unbounded(_, _) => 0,
+                Outcome::Optimal(v) => list(version, book, records, v, out),
+            }
+        }
     }
 }

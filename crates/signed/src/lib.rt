@@ -8,26 +8,23 @@ ghost use Rattle.std.specs.Int.Signed.{lt_z};
 ghost use Rattle.std.specs.Int.{w16, w32};
 ghost use Rattle.std.proofs.Common.{to_z};
 
-// Sixteen bits as a signed number in two's complement: half the range up and, round the end, half the range down. The compiler makes
-// one instruction of it.
+// Sixteen bits as a signed number in two's complement.
 pub fn signed16(bits: u16) -> i16
     ensures { result ≡ to_z w16 bits }
 {
-    let up = (bits as u64 + 32768) % 65536;
-    (up as i64 - 32768) as i16
+    u16::cast_signed(bits)
 }
 
 // Thirty-two bits as a signed number in two's complement.
 pub fn signed32(bits: u32) -> i32
     ensures { result ≡ to_z w32 bits }
 {
-    let up = (bits as u64 + 2147483648) % 4294967296;
-    (up as i64 - 2147483648) as i32
+    u32::cast_signed(bits)
 }
 
 // -32,768, which no number of sixteen bits of a book may be.
 pub fn least(x: i16) -> bool
     ensures { result ≡ lt_z x (negsuc 32766) }
 {
-    x < -32767
+    x == i16::MIN
 }

@@ -21,10 +21,9 @@ use Rattle.lp.specs.Range.{SmallConstraint, SmallSystem, SmallFloors}
 use Rattle.lp.specs.Certificate.{is_zero, greatest_weight}
 use Rattle.lp.specs.Document.{same}
 use Rattle.slip.specs.declared.Weights.{Weights}
-use Rattle.slip.specs.declared.named.Named.{Named}
-use Rattle.slip.specs.declared.named.Named.TheVariants.{Nowhere, At}
+use Rattle.std.specs.Prelude.{Some, None}
 use Rattle.slip.specs.declared.named.Slots.{Slots}
-use Rattle.slip.specs.Facts.{Share, share, shares, distinct, none, weight_in_range}
+use Rattle.slip.specs.Facts.{Named, Share, share, shares, distinct, none, weight_in_range}
 use Rattle.slip.specs.Facts.{entry_of, rule_in, is_entry, entry_rule, share_in_range, sums, tight_all}
 use Rattle.slip.specs.Slots.{slot_with, slots_with, blank_of, weighed_of, slot_of, slots_of, apart_of, sound_of, total_of, tight_of}
 use Rattle.slip.specs.Slots.{one, two, three, SmallSlot, SmallSlots}
@@ -42,8 +41,8 @@ and-false false = refl
 -- ---- one slot
 
 weighed-sound : (e : Named) (w : ℤ) → (weighed_of e w).sound ≡ (weight_in_range w && is_entry e)
-weighed-sound Nowhere w = and-false (weight_in_range w)
-weighed-sound (At r) w = go (weight_in_range w)
+weighed-sound None w = and-false (weight_in_range w)
+weighed-sound (Some r) w = go (weight_in_range w)
   where
     go : (b : Bool) → (cond b (slot_with true r w) (blank_of false)).sound ≡ (b && true)
     go true = refl
@@ -51,8 +50,8 @@ weighed-sound (At r) w = go (weight_in_range w)
 
 -- a sound slot holds its entry's rule and its weight
 weighed-holds : (e : Named) (w : ℤ) → (weighed_of e w).sound ≡ true → weighed_of e w ≡ slot_with true (entry_rule e) w
-weighed-holds Nowhere w h = absurd (subst T (sym h) tt)
-weighed-holds (At r) w h = go (weight_in_range w) h
+weighed-holds None w h = absurd (subst T (sym h) tt)
+weighed-holds (Some r) w h = go (weight_in_range w) h
   where
     go : (b : Bool) → (cond b (slot_with true r w) (blank_of false)).sound ≡ true →
         cond b (slot_with true r w) (blank_of false) ≡ slot_with true r w
@@ -242,15 +241,15 @@ weight-within w e =
     (le_z_yes (subst T (sym b.1) tt))
 
 abbrev SmallNamed : Named → Type 0
-SmallNamed Nowhere = Unit {0}
-SmallNamed (At r) = SmallConstraint r
+SmallNamed None = Unit {0}
+SmallNamed (Some r) = SmallConstraint r
 
 rule-small : (records : List ℕ) (rules : List Constraint) → SmallSystem rules → (q : ℕ) → SmallNamed (rule_in records rules q)
 rule-small [] rules h q = tt
 rule-small (i ∷ is) [] h q = tt
 rule-small (i ∷ is) (c ∷ cs) h q = go (eqb i q) (rule-small is cs h.1 q)
   where
-    go : (b : Bool) → SmallNamed (rule_in is cs q) → SmallNamed (elim b [ true ↦ At c | false ↦ rule_in is cs q ])
+    go : (b : Bool) → SmallNamed (rule_in is cs q) → SmallNamed (elim b [ true ↦ Some c | false ↦ rule_in is cs q ])
     go true k = h.0
     go false k = k
 
@@ -277,8 +276,8 @@ module _ (floors : Floors) (records : List ℕ) (rules : List Constraint) (hf : 
       }
 
   weighed-small : (e : Named) → SmallNamed e → (w : ℤ) → SmallSlot (weighed_of e w)
-  weighed-small Nowhere h w = blank-small false
-  weighed-small (At r) h w = go (weight_in_range w) refl
+  weighed-small None h w = blank-small false
+  weighed-small (Some r) h w = go (weight_in_range w) refl
     where
       go : (b : Bool) → weight_in_range w ≡ b → SmallSlot (cond b (slot_with true r w) (blank_of false))
       go true e = record { rule = h; weight = weight-within w e }

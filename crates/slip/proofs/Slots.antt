@@ -15,17 +15,16 @@ use Rattle.ints.proofs.Bits.{read, below-zero, from_zero}
 use Rattle.lp.specs.declared.Constraint.{Constraint}
 use Rattle.lp.specs.declared.Floors.{Floors}
 use Rattle.lp.specs.Program.{floor_x, floor_y}
-use Rattle.slip.specs.declared.named.Named.{Named}
-use Rattle.slip.specs.declared.named.Named.TheVariants.{Nowhere, At}
+use Rattle.std.specs.Prelude.{Some, None}
 use Rattle.slip.specs.declared.named.Slot.{Slot}
 use Rattle.slip.specs.declared.named.Slots.{Slots}
-use Rattle.slip.specs.Facts.{rule_in, entry_of, none, adding}
+use Rattle.slip.specs.Facts.{Named, rule_in, entry_of, none, adding}
 use Rattle.slip.specs.Slots.{slots_with, total_of, SmallSlots}
 use Rattle.slip.specs.Runs.{Summed}
 use Rattle.slip.proofs.Sizes.{within-unread}
 
 module _ (floors : Floors) (records : List ℕ) (rules : List Constraint) (code : ℤ) (f : SFits w64 code) where
-  pub below-names-nothing : lt_z (read code) (pos 0) ≡ true → Nowhere ≡ entry_of floors records rules code
+  pub below-names-nothing : lt_z (read code) (pos 0) ≡ true → None ≡ entry_of floors records rules code
   below-names-nothing t = sym (ap (entry_of floors records rules) (below-zero code f t))
 
   module _ (t : lt_z (read code) (pos 0) ≡ false) {m : ℕ} (e : m ≡ nat_abs (read code)) where
@@ -34,11 +33,11 @@ module _ (floors : Floors) (records : List ℕ) (rules : List Constraint) (code 
         let p : code ≡ pos (mag code) = from_zero code f t in
         p ∙ ap pos (sym (e ∙ ap nat_abs (to_z-of_z {w = w64} f ∙ p)))
 
-    pub names_floor_x : m ≡ 0 → {r : Constraint} → r ≡ floor_x floors → At r ≡ entry_of floors records rules code
-    names_floor_x z er = ap At er ∙ sym (ap (entry_of floors records rules) (code_is ∙ ap pos z))
+    pub names_floor_x : m ≡ 0 → {r : Constraint} → r ≡ floor_x floors → Some r ≡ entry_of floors records rules code
+    names_floor_x z er = ap Some er ∙ sym (ap (entry_of floors records rules) (code_is ∙ ap pos z))
 
-    pub names_floor_y : m ≡ 1 → {r : Constraint} → r ≡ floor_y floors → At r ≡ entry_of floors records rules code
-    names_floor_y z er = ap At er ∙ sym (ap (entry_of floors records rules) (code_is ∙ ap pos z))
+    pub names_floor_y : m ≡ 1 → {r : Constraint} → r ≡ floor_y floors → Some r ≡ entry_of floors records rules code
+    names_floor_y z er = ap Some er ∙ sym (ap (entry_of floors records rules) (code_is ∙ ap pos z))
 
     pub names-rule :
         (m ≡ 0 → ⊥) →

@@ -1,6 +1,6 @@
 -- What a slip must be to get a yes: document 02's words for request 111, as tests. First the ranges, by which a slip is refused with 17;
 -- then the facts of each outcome. A chain is given by its records and its rules, in order.
-use Rattle.std.specs.Prelude.{List, [], ◌∷◌, Bool, true, false, not, cond, ◌&&◌, ℕ, zero, suc, eqb, ℤ, pos, negsuc, ◌+ℤ◌, ◌*ℤ◌}
+use Rattle.std.specs.Prelude.{List, [], ◌∷◌, Bool, true, false, not, cond, ◌&&◌, ℕ, zero, suc, eqb, ℤ, pos, negsuc, ◌+ℤ◌, ◌*ℤ◌, Option, Some, None}
 use Rattle.std.specs.Int.Signed.{le_z, lt_z}
 use Rattle.lp.specs.declared.Constraint.{Constraint}
 use Rattle.lp.specs.declared.Floors.{Floors}
@@ -19,34 +19,36 @@ use Rattle.slip.specs.declared.Weights.{Weights}
 use Rattle.slip.specs.declared.Slip.{Slip}
 use Rattle.slip.specs.declared.Verdict.{Verdict}
 use Rattle.slip.specs.declared.Verdict.TheVariants.{Refused, Yes, No}
-use Rattle.slip.specs.declared.named.Named.{Named}
-use Rattle.slip.specs.declared.named.Named.TheVariants.{Nowhere, At}
 
 -- ---- what a code names
 
+-- the constraint of a floor or of a rule of the chain, or nothing
+abbrev pub Named : Type 0
+Named = Option Constraint
+
 -- the rule in a record, if the chain has it
 abbrev pub rule_in : List ℕ → List Constraint → ℕ → Named
-rule_in [] rules r = Nowhere
-rule_in (i ∷ is) [] r = Nowhere
-rule_in (i ∷ is) (c ∷ cs) r = elim (eqb i r) [ true ↦ At c | false ↦ rule_in is cs r ]
+rule_in [] rules r = None
+rule_in (i ∷ is) [] r = None
+rule_in (i ∷ is) (c ∷ cs) r = elim (eqb i r) [ true ↦ Some c | false ↦ rule_in is cs r ]
 
 -- floor x, floor y, or the rule in record r, whose code is r + 1
 abbrev pub entry_of : Floors → List ℕ → List Constraint → ℤ → Named
-entry_of floors records rules (pos zero) = At (floor_x floors)
-entry_of floors records rules (pos (suc zero)) = At (floor_y floors)
+entry_of floors records rules (pos zero) = Some (floor_x floors)
+entry_of floors records rules (pos (suc zero)) = Some (floor_y floors)
 entry_of floors records rules (pos (suc (suc q))) = rule_in records rules (suc q)
-entry_of floors records rules (negsuc n) = Nowhere
+entry_of floors records rules (negsuc n) = None
 
 abbrev pub is_entry : Named → Bool
-is_entry Nowhere = false
-is_entry (At r) = true
+is_entry None = false
+is_entry (Some r) = true
 
 abbrev pub none : Constraint
 none = constraint (pos 0) (pos 0) (pos 0)
 
 abbrev pub entry_rule : Named → Constraint
-entry_rule Nowhere = none
-entry_rule (At r) = r
+entry_rule None = none
+entry_rule (Some r) = r
 
 -- ---- the entries of a slip
 

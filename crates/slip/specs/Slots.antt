@@ -1,6 +1,6 @@
 -- A slip's three slots looked up, as the code holds them: each with the rule and the weight that it adds. That they say what the list of
 -- shares says is proved in proofs/Slots.antt; nothing here stands in a promise.
-use Rattle.std.specs.Prelude.{List, Bool, true, false, not, cond, ◌&&◌, ◌||◌, ℕ, ℤ, pos, ◌*ℤ◌}
+use Rattle.std.specs.Prelude.{List, Bool, true, false, not, cond, ◌&&◌, ◌||◌, ℕ, ℤ, pos, ◌*ℤ◌, Some, None}
 use Rattle.std.specs.Int.Signed.{lt_z}
 use Rattle.ints.specs.Within.{Within}
 use Rattle.lp.specs.declared.Constraint.{Constraint}
@@ -17,12 +17,10 @@ use Rattle.lp.specs.Document.{same}
 use Rattle.slip.specs.declared.Weights.{Weights}
 use Rattle.slip.specs.declared.Verdict.{Verdict}
 use Rattle.slip.specs.declared.Verdict.TheVariants.{Refused, Yes, No}
-use Rattle.slip.specs.declared.named.Named.{Named}
-use Rattle.slip.specs.declared.named.Named.TheVariants.{Nowhere, At}
 use Rattle.slip.specs.declared.named.Slot.{Slot}
 use Rattle.slip.specs.declared.named.Slots.{Slots}
 use Rattle.slip.specs.Runs.{SmallPair, Entries}
-use Rattle.slip.specs.Facts.{entry_of, none, weight_in_range, adding}
+use Rattle.slip.specs.Facts.{Named, entry_of, none, weight_in_range, adding}
 
 abbrev pub slot_with : Bool → Constraint → ℤ → Slot
 slot_with sound rule weight = record { sound = sound; rule = rule; weight = weight }
@@ -34,8 +32,8 @@ abbrev pub blank_of : Bool → Slot
 blank_of sound = slot_with sound none (pos 0)
 
 abbrev pub weighed_of : Named → ℤ → Slot
-weighed_of Nowhere w = blank_of false
-weighed_of (At r) w = cond (weight_in_range w) (slot_with true r w) (blank_of false)
+weighed_of None w = blank_of false
+weighed_of (Some r) w = cond (weight_in_range w) (slot_with true r w) (blank_of false)
 
 abbrev pub slot_of : Bool → Named → ℤ → Slot
 slot_of counts e w = cond counts (weighed_of e w) (blank_of true)

@@ -1,15 +1,8 @@
-// What the codes of a slip name, and its slots looked up.
+// A slip's slots looked up.
 use lp::Constraint;
 
-// What a code names: the constraint of a floor or of a rule of the chain, or nothing.
-#[derive(Clone, Copy)]
-pub enum Named {
-    Nowhere,
-    At(Constraint),
-}
-
 // A slot looked up: whether it is in range, and the rule and the weight that it adds. One that does not count, or is out of range, adds
-// nothing.
+// nothing. In an Option of rule and weight a sum would have to branch once for each slot, and this one does not.
 #[derive(Clone, Copy)]
 pub struct Slot {
     pub sound: bool,

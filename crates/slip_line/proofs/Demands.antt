@@ -29,7 +29,7 @@ use Rattle.slip.specs.Facts.{distinct, in_range, verdict_of}
 use Rattle.slip.proofs.Shares.{both}
 use Rattle.slip_theory.proofs.Meaning.{yes-exactly_if}
 use Rattle.slips.specs.Writing.{Tidy, TidyFor, Planned}
-use Rattle.slips.specs.declared.Written.TheVariants as written
+use Rattle.std.specs.Prelude.{Ok}
 use Rattle.slip_reader.specs.Reading.{Slotted, Counted, Plain, WideOutcome, WideWeights, Says}
 use Rattle.check_line.specs.Checks.{Checks}
 use Rattle.slip_line.specs.Line.{slip_line, written_fields}
@@ -161,7 +161,7 @@ module _ (t : Terms) (es : List Entry) (s : Slip) (p : Planned t es s) where
           (entries_in_range t (records_of es) (rules_of es) (pos 0) (pos 2) s.weights) r).1 u
 
   -- the line says the slip
-  pub line-says : WideOutcome s.outcome → WideWeights s.weights → Says (slip_line (written.Given s)) s
+  pub line-says : WideOutcome s.outcome → WideWeights s.weights → Says (slip_line (Ok s)) s
   unfolding slip_line written_fields
   line-says o w = record { plain = planned-plain; wide-outcome = o; wide-weights = w; stands = inr refl }
 
@@ -172,7 +172,7 @@ pub line-yes : (book : List ℕ) (t : Terms) (es : List Entry) (s : Slip) →
     WideOutcome s.outcome →
     WideWeights s.weights →
     (r : Verdict) →
-    Checks book (slip_line (written.Given s)) r →
+    Checks book (slip_line (Ok s)) r →
     r ≡ Yes
 line-yes book t es s e p o w r c =
     c.said s (line-says t es s p o w) ∙ ap (λ x. verdict_of x s) e ∙ p.checked

@@ -5,13 +5,13 @@
 ghost use Rattle.std.specs.Prelude.{◌≡◌};
 ghost use Rattle.records.specs.Layout.{v2};
 ghost use Rattle.book.specs.Reading.{read_of};
-ghost use Rattle.slip.specs.Facts.{verdict_of, ranges};
+ghost use Rattle.slip.specs.Facts.{verdict_of};
 ghost use Rattle.std.specs.Int.Signed.{lt_z};
 ghost use Rattle.slip_numbers.specs.Form.{opening_of, opening_with, put_parts, pair_in, ray_in, outcome_in, weights_in};
 ghost use Rattle.slip_numbers.specs.Form.{out_of_range, is_slip, slip_of, pair_of, ray_of, Laid, Fourteen};
 
 use lp::{Outcome, Point, Ray};
-use slip::{Slip, Verdict, Weights};
+use slip::{Slip, Verdict, Weights, within};
 
 // The first two numbers.
 #[derive(Clone, Copy)]
@@ -64,12 +64,6 @@ fn weights_in(n: &[i64]) -> Weights
     }
 }
 
-fn in_order(low: i64, z: i64, high: i64) -> bool
-    ensures { result ≡ ranges low z high }
-{
-    low <= z && z <= high
-}
-
 fn below(z: i64, high: i64) -> bool
     ensures { result ≡ lt_z z high }
 {
@@ -96,16 +90,7 @@ fn out_of_range() -> Slip
 {
     Slip {
         outcome: Outcome::Infeasible,
-        weights: Weights {
-            scale: 0,
-            count: 0,
-            first: 0,
-            first_weight: 0,
-            second: 0,
-            second_weight: 0,
-            third: 0,
-            third_weight: 0,
-        },
+        weights: Weights::nothing(0),
     }
 }
 
@@ -117,7 +102,7 @@ fn is_slip(numbers: &[i64]) -> bool
         return false;
     }
     let first = opening_in(numbers);
-    in_order(1, first.outcome, 3)
+    within(1, first.outcome, 3)
 }
 
 // The slip that a run of numbers stands for.

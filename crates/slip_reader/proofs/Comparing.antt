@@ -1,69 +1,34 @@
--- Texts compared, byte by byte, and a slip's text in a buffer that has room for it and a line feed.
+-- A slip's text in a buffer that has room for it and a line feed, and what a comparison with it says.
 use mathlib.Core.Path.{◌≡◌, refl, ap, sym, ◌∙◌, subst}
 use mathlib.Core.Bool.{Bool, true, false, ◌&&◌}
 use mathlib.Core.List.{List, [], ◌∷◌, ◌++◌, append_assoc}
 use mathlib.Core.Logic.{◌⊎◌, inl, inr}
-use Prim.Native.Nat.{ℕ, suc, ◌+◌, ◌≤◌, ◌<◌}
-use native.Mathlib.Numerals.{add-one}
+use Prim.Native.Nat.{ℕ}
 use native.Mathlib.Nat.{zero-add}
 use native.Mathlib.Omega.{arith}
-use lib.Dec.{T}
-use lib.ListN.{length, take, drop, get_or}
-use lib.Seq.{take-suc, take_all, take_at, sets-eq}
-use lib.IntN.{ℤ, pos}
-use lib.Signed.{le_z, lt_z}
+use lib.Dec.{T, eqb}
+use lib.Pointwise.{pointwise}
+use borrow.Author.Tests.{eq-eqb}
+use Rattle.std.specs.Cmp.Lexicographic.{same_text}
+use lib.ListN.{length, take, drop}
+use lib.Seq.{take_at, sets-eq}
 use Rattle.text.specs.Text.{text}
 use Rattle.text.specs.Append.{Appended}
 use Rattle.text.proofs.Put.{followed}
 use Rattle.slip.specs.declared.Slip.{Slip}
 use Rattle.slip_text.specs.Text.{slip_text}
-use Rattle.slip_reader.specs.Asked.{Same, Judges}
+use Rattle.slip_reader.specs.Asked.{Judges}
 
 true-false : {A : Type 0} → true ≡ false → A
 true-false e = absurd (subst T e tt)
 
-false-true : {A : Type 0} → false ≡ true → A
-false-true e = absurd (subst T (sym e) tt)
+-- a text is alike itself
+itself : (l : List ℕ) → pointwise eqb l l ≡ true
+itself [] = refl
+itself (b ∷ l) = λ i. eq-eqb b b refl i && itself l i
 
--- ---- byte by byte
-
-pub record Together (a b : List ℕ) (i : ℕ) : Type 0 where
-  pub same : length a ≡ length b
-  pub high : i ≤ length a
-  pub front : take i a ≡ take i b
-
-pub together-start : (a b : List ℕ) → length a ≡ length b → Together a b 0
-together-start a b e = record { same = e; high = omega arith; front = refl }
-
-pub together-more : (a b : List ℕ) (i : ℕ) →
-    i < length a →
-    get_or a i 0 ≡ get_or b i 0 →
-    Together a b i →
-    Together a b (i + 1)
-together-more a b i h e t =
-    record {
-      same = t.same;
-      high = omega arith;
-      front =
-          ap (λ (k : ℕ). take k a) (add-one i)
-          ∙ take-suc a i 0 h
-          ∙ (λ j. t.front j ++ (e j ∷ []))
-          ∙ sym (take-suc b i 0 (omega (arith, t.same)))
-          ∙ sym (ap (λ (k : ℕ). take k b) (add-one i));
-    }
-
-pub lengths_differ : (a b : List ℕ) → (length a ≡ length b → ⊥) → Same a b false
-lengths_differ a b n = record { met = false-true; unmet = λ e q. n (ap length q) }
-
-pub bytes-differ : (a b : List ℕ) (i : ℕ) → (get_or a i 0 ≡ get_or b i 0 → ⊥) → Same a b false
-bytes-differ a b i n = record { met = false-true; unmet = λ e q. n (ap (λ l. get_or l i 0) q) }
-
-pub all_alike : (a b : List ℕ) (i : ℕ) → length a ≤ i → Together a b i → Same a b true
-all_alike a b i h t =
-    record {
-      met = λ e. sym (take_all i a h) ∙ t.front ∙ take_all i b (omega (arith, t.same));
-      unmet = true-false;
-    }
+differ : (a b : List ℕ) → false ≡ pointwise eqb a b → a ≡ b → ⊥
+differ a b e q = true-false (sym (itself a) ∙ ap (pointwise eqb a) q ∙ sym e)
 
 -- ---- a slip's text, and a line feed after it, in a buffer
 
@@ -88,16 +53,19 @@ module _ (s : Slip) {zeros mid after : List ℕ} {end all : ℕ} (room : length 
       ∙ take_at (slip_text s ++ text "\n") (drop (length (slip_text s ++ text "\n")) zeros) all (omega (arith, both.moved))
 
   module _ (l : List ℕ) where
-    pub text_alike : {b : Bool} → Same l (take end after) b → b ≡ true → Judges s l true
-    text_alike same e = record { met = λ q. inl (same.met e ∙ text-taken); unmet = true-false }
+    pub text_alike : {b : Bool} → b ≡ pointwise eqb l (take end after) → b ≡ true → Judges s l b
+    text_alike e t = record {
+      met = λ q. inl (same_text l (take end after) (sym t ∙ e) ∙ text-taken);
+      unmet = λ q z. true-false (sym t ∙ q);
+    }
 
-    pub line_alike : {b c : Bool} → Same l (take end after) b → b ≡ false → Same l (take all after) c → Judges s l c
-    line_alike {c = c} same e line =
+    pub line_alike : {b c : Bool} → b ≡ pointwise eqb l (take end after) → b ≡ false → c ≡ pointwise eqb l (take all after) → Judges s l c
+    line_alike {c = c} e t f =
         record {
-          met = λ q. inr (line.met q ∙ line_taken);
-          unmet = λ q z. go q z;
+          met = λ q. inr (same_text l (take all after) (sym q ∙ f) ∙ line_taken);
+          unmet = go;
         }
       where
         go : c ≡ false → (l ≡ slip_text s) ⊎ (l ≡ slip_text s ++ text "\n") → ⊥
-        go q (inl z) = same.unmet e (z ∙ sym text-taken)
-        go q (inr z) = line.unmet q (z ∙ sym line_taken)
+        go q (inl z) = differ l (take end after) (sym t ∙ e) (z ∙ sym text-taken)
+        go q (inr z) = differ l (take all after) (sym q ∙ f) (z ∙ sym line_taken)

@@ -2,7 +2,7 @@
 use mathlib.Core.Path.{◌≡◌, refl, ap, sym, ◌∙◌, subst}
 use mathlib.Core.Bool.{Bool, true, false, cond, ◌&&◌}
 use mathlib.Core.List.{List}
-use Prim.Native.Nat.{ℕ, ◌^◌, ◌≤◌, ◌<◌}
+use Prim.Native.Nat.{ℕ, ◌≤◌}
 use lib.Dec.{eqb}
 use lib.ListN.{length, drop, get_or}
 use lib.IntN.{ℤ, pos}
@@ -21,9 +21,12 @@ use Rattle.slip_reader.specs.declared.fields.Found.{Found}
 use Rattle.slip_reader.specs.declared.parts.Slot.{Slot}
 use Rattle.slip_reader.specs.declared.parts.Pair.{Pair}
 use Rattle.slip_reader.specs.Fields.{size_from, past, signed_of, found_with, found_of, is_minus, digits_in, integer_in, past_field}
-use Rattle.slip_reader.specs.Fields.{record_code, recorded_of, code_in, slot_code, slot_weight, past_slot, weights_of, counted_of, weights_in}
+use Rattle.slip_reader.specs.Fields.{record_code, recorded_of, code_in, slot_code, slot_weight, past_slot, weights_in}
 use Rattle.slip_reader.specs.Fields.{point_in, past_pair, no_weights, best_in, unlimited_in, impossible_in, slip_in}
-use Rattle.slip_reader.specs.Asked.{Goes, Runs, Finds, FindsCode, FindsSlot, FindsPair}
+use Rattle.language.specs.Parser.{first, tail}
+use Rattle.scanning.specs.Places.{Goes}
+use Rattle.scanning.proofs.Places.{first_is, tail_is}
+use Rattle.slip_reader.specs.Asked.{Runs, Finds, FindsCode, FindsSlot, FindsPair}
 use Rattle.slip_reader.proofs.Places.{elsewhere}
 
 -- ---- a number
@@ -43,34 +46,37 @@ module _ (s : List ℕ) (at : ℕ) where
         goes = subst (Goes s (past (digits_in (drop at s)))) (sym (ap (λ f. f.next) q)) (elsewhere (sym (ap past d)) run.goes);
       }
 
-  module _ {f b : ℕ} (from : Goes s (drop 1 (drop at s)) f) (byte : b ≡ get_or (drop f s) 0 0) where
-    first : b ≡ get_or (drop 1 (drop at s)) 0 0
-    first = byte ∙ ap (λ l. get_or l 0 0) from.goes_on
+  module _ {f b : ℕ} (place : Goes s (tail (drop at s)) f) (byte : b ≡ first (drop f s)) where
+    from : Goes s (drop 1 (drop at s)) f
+    from = elsewhere (tail_is (drop at s)) place
+
+    sign : b ≡ get_or (drop 1 (drop at s)) 0 0
+    sign = byte ∙ first_is (drop f s) ∙ ap (λ l. get_or l 0 0) from.goes_on
 
     pub integer-minus : {r : Run} {x : Found} {g : ℕ} →
         b ≡ 45 →
-        Goes s (drop 1 (drop f s)) g →
+        Goes s (tail (drop f s)) g →
         Runs s g r →
         x ≡ found_of true r →
         Finds s at x
     integer-minus {g = g} e start run q =
-        let m : is_minus (drop 1 (drop at s)) ≡ true = sym (ap (λ k. eqb k 45) first) ∙ eq-eqb b 45 e in
+        let m : is_minus (drop 1 (drop at s)) ≡ true = sym (ap (λ k. eqb k 45) sign) ∙ eq-eqb b 45 e in
         finds true g m
         (ap (λ t. cond t (drop 1 (drop 1 (drop at s))) (drop 1 (drop at s))) m
-        ∙ sym (start.goes_on ∙ ap (drop 1) from.goes_on)) run q
+        ∙ sym (start.goes_on ∙ tail_is (drop f s) ∙ ap (drop 1) from.goes_on)) run q
 
     pub integer-plain : {r : Run} {x : Found} → (b ≡ 45 → ⊥) → Runs s f r → x ≡ found_of false r → Finds s at x
     integer-plain e run q =
-        let m : is_minus (drop 1 (drop at s)) ≡ false = sym (ap (λ k. eqb k 45) first) ∙ ne_eqb b 45 e in
+        let m : is_minus (drop 1 (drop at s)) ≡ false = sym (ap (λ k. eqb k 45) sign) ∙ ne_eqb b 45 e in
         finds false f m
         (ap (λ t. cond t (drop 1 (drop 1 (drop at s))) (drop 1 (drop at s))) m ∙ sym from.goes_on) run q
 
 -- ---- an entry
 
-module _ (s : List ℕ) (at : ℕ) {field : Found} {f b : ℕ} (found : Finds s at field) (from : Goes s (drop 1 (drop at s)) f)
-    (byte : b ≡ get_or (drop f s) 0 0) where
+module _ (s : List ℕ) (at : ℕ) {field : Found} {f b : ℕ} (found : Finds s at field) (place : Goes s (tail (drop at s)) f)
+    (byte : b ≡ first (drop f s)) where
   letter : b ≡ get_or (drop 1 (drop at s)) 0 0
-  letter = byte ∙ ap (λ l. get_or l 0 0) from.goes_on
+  letter = byte ∙ first_is (drop f s) ∙ ap (λ l. get_or l 0 0) (place.goes_on ∙ tail_is (drop at s))
 
   code_is : {t u : Bool} →
       eqb b 88 ≡ t →
@@ -245,7 +251,10 @@ module _ (s : List ℕ) where
       ◌≡◌ {A = Slip} (record { outcome = Infeasible; weights = w }) (impossible_in (drop 10 s))
   impossible-read g w = λ i. record { outcome = Infeasible; weights = (w ∙ ap (weights_in (pos 0)) g.goes_on) i }
 
-  module _ {b : ℕ} (byte : b ≡ get_or (drop 0 s) 0 0) where
+  module _ {b : ℕ} (place : b ≡ first (drop 0 s)) where
+    byte : b ≡ get_or s 0 0
+    byte = place ∙ first_is (drop 0 s)
+
     slip-is : {t u : Bool} →
         eqb b 98 ≡ t →
         eqb b 117 ≡ u →

@@ -1,39 +1,14 @@
--- Places in a text: what stands there, where it goes on, and what the loop over the digits of a field keeps.
+-- Places in a text, and what the loop over the digits of a field keeps.
 use mathlib.Core.Path.{◌≡◌, refl, ap, sym, ◌∙◌}
-use mathlib.Core.Bool.{Bool, true, false, cond, ◌||◌}
+use mathlib.Core.Bool.{true, false, cond}
 use mathlib.Core.List.{List, [], ◌∷◌}
-use Prim.Native.Nat.{ℕ, ◌+◌, ◌-◌, ◌≤◌, ◌<◌}
-use native.Mathlib.Numerals.{add-one}
+use Prim.Native.Nat.{ℕ, ◌+◌, ◌≤◌, ◌<◌}
 use native.Mathlib.Omega.{arith}
-use lib.Dec.{eqb}
 use lib.ListN.{length, drop, get_or, drop_of_length-le}
-use lib.Seq.{drop-cons}
 use Rattle.slip_reader.specs.Fields.{ends, grown, size_from, past}
-use Rattle.slip_reader.specs.Asked.{Goes, Runs}
-
-pub here : (s : List ℕ) (i : ℕ) → i < length s → drop i s ≡ get_or s i 0 ∷ drop (i + 1) s
-here s i h = drop-cons s i 0 h ∙ ap (λ (k : ℕ). get_or s i 0 ∷ drop k s) (sym (add-one i))
-
-pub first-here : (s : List ℕ) (i : ℕ) → i < length s → get_or s i 0 ≡ get_or (drop i s) 0 0
-first-here s i h = sym (ap (λ (l : List ℕ). get_or l 0 0) (here s i h))
-
-pub first-end : (s : List ℕ) (i : ℕ) → length s ≤ i → 0 ≡ get_or (drop i s) 0 0
-first-end s i h = sym (ap (λ (l : List ℕ). get_or l 0 0) (drop_of_length-le s h))
-
-pub after-here : (s : List ℕ) (i : ℕ) → i < length s → Goes s (drop 1 (drop i s)) (i + 1)
-after-here s i h = record { goes_on = sym (ap (drop 1) (here s i h)); high = omega arith }
-
-pub after-end : (s : List ℕ) (i : ℕ) → length s ≤ i → i ≤ length s → Goes s (drop 1 (drop i s)) i
-after-end s i h k = record { goes_on = drop_of_length-le s h ∙ sym (ap (drop 1) (drop_of_length-le s h)); high = k }
-
-pub behind-here : (s : List ℕ) (n : ℕ) → n ≤ length s → Goes s (drop n s) n
-behind-here s n h = record { goes_on = refl; high = h }
-
-pub behind-end : (s : List ℕ) (n : ℕ) → length s < n → Goes s (drop n s) (length s)
-behind-end s n h = record {
-  goes_on = drop_of_length-le s {i = length s} (omega arith) ∙ sym (drop_of_length-le s {i = n} (omega arith));
-  high = omega arith;
-}
+use Rattle.scanning.specs.Places.{Goes}
+use Rattle.scanning.proofs.Places.{here}
+use Rattle.slip_reader.specs.Asked.{Runs}
 
 -- a place in other words for what is left
 pub elsewhere : {s l m : List ℕ} {r : ℕ} → l ≡ m → Goes s l r → Goes s m r
@@ -106,12 +81,14 @@ run-stop s at size i h t k =
 pub run_end : (s : List ℕ) (at size i : ℕ) →
     length s ≤ i →
     Running s at size i →
-    Runs s at (record { size = size; end = i })
+    Runs s at (record { size = size; end = length s })
 run_end s at size i h k =
     record {
       size = sym (size_none size) ∙ sym (ap (size_from size) (drop_of_length-le s h)) ∙ k.same;
       goes = record {
-        goes_on = drop_of_length-le s h ∙ sym past-none ∙ sym (ap past (drop_of_length-le s h)) ∙ k.goes_on;
-        high = k.high;
+        goes_on =
+            drop_of_length-le s {i = length s} (omega arith)
+            ∙ sym past-none ∙ sym (ap past (drop_of_length-le s h)) ∙ k.goes_on;
+        high = omega arith;
       };
     }

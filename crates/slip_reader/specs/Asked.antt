@@ -1,5 +1,6 @@
 -- What the private functions hand back, one record for each. A place in the text stands for the text from there on.
-use Rattle.std.specs.Prelude.{◌≡◌, List, Bool, true, false, ℕ, ◌≤◌, ℤ, pos, length, drop}
+use Rattle.std.specs.Prelude.{◌≡◌, List, Bool, true, false, ℕ, pos, drop}
+use Rattle.scanning.specs.Places.{Goes}
 use Rattle.slip.specs.declared.Slip.{Slip}
 use Rattle.slip.specs.Facts.{ranges}
 use Rattle.slip_reader.specs.declared.fields.Run.{Run}
@@ -8,11 +9,6 @@ use Rattle.slip_reader.specs.declared.parts.Slot.{Slot}
 use Rattle.slip_reader.specs.declared.parts.Pair.{Pair}
 use Rattle.slip_reader.specs.Fields.{size_from, past, integer_in, code_in, past_field, slot_code, slot_weight, past_slot, point_in, past_pair}
 use Rattle.slip_reader.specs.Reading.{Stands}
-
--- a place from which so much of the text is left
-pub record Goes (text rest : List ℕ) (r : ℕ) : Type 0 where
-  pub goes_on : drop r text ≡ rest
-  pub high : r ≤ length text
 
 pub record Runs (text : List ℕ) (at : ℕ) (r : Run) : Type 0 where
   pub size : r.size ≡ size_from 0 (drop at text)
@@ -36,10 +32,6 @@ pub record FindsPair (text : List ℕ) (at : ℕ) (r : Pair) : Type 0 where
   pub goes : Goes text (past_pair (drop at text)) r.next
 
 -- ---- comparisons
-
-pub record Same (a b : List ℕ) (r : Bool) : Type 0 where
-  pub met : r ≡ true → a ≡ b
-  pub unmet : r ≡ false → a ≡ b → ⊥
 
 pub record Judges (s : Slip) (l : List ℕ) (r : Bool) : Type 0 where
   pub met : r ≡ true → Stands s l

@@ -10,6 +10,7 @@ use Rattle.lp.specs.declared.Outcome.TheVariants.{Infeasible, Unbounded, Optimal
 use Rattle.lp.specs.Program.{point, ray}
 use Rattle.slip.specs.declared.Weights.{Weights}
 use Rattle.slip.specs.declared.Slip.{Slip}
+use Rattle.slip.specs.Weights as weights
 use Rattle.slip_reader.specs.declared.fields.Run.{Run}
 use Rattle.slip_reader.specs.declared.fields.Found.{Found}
 
@@ -112,17 +113,7 @@ unfoldable pub weights_in : ℤ → List ℕ → Weights
 weights_in scale l = counted_of scale (integer_in l) (past_field l)
 
 abbrev pub no_weights : Weights
-no_weights =
-    record {
-      scale = pos 0;
-      count = pos 0;
-      first = pos 0;
-      first_weight = pos 0;
-      second = pos 0;
-      second_weight = pos 0;
-      third = pos 0;
-      third_weight = pos 0;
-    }
+no_weights = weights.no_weights (pos 0)
 
 -- ---- the slip
 

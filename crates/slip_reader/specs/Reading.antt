@@ -1,7 +1,7 @@
 -- Which slips a text says, by the definition of a slip's text alone (`slip_text`): the slip is one that a line can say, with nothing in its
 -- unused slots, its numbers have 64 bits, and the text is its text, with or without a line feed at the end. What the reader
 -- promises. That a text says one slip at most is a theorem (proofs/Lines.antt).
-use Rattle.std.specs.Prelude.{◌≡◌, List, ◌++◌, Bool, true, false, ◌⊎◌, ℕ, ℤ, pos}
+use Rattle.std.specs.Prelude.{◌≡◌, List, ◌++◌, Bool, true, false, ◌⊎◌, ℕ, ℤ, pos, Option, Some, None}
 use Rattle.std.specs.Int.Signed.{le_z}
 use Rattle.std.specs.Int.{w64}
 use Rattle.std.proofs.Common.{SFits}
@@ -13,8 +13,6 @@ use Rattle.slip.specs.declared.Slip.{Slip}
 use Rattle.slip.specs.Slots.{one, two, three}
 use Rattle.slip.specs.Facts.{ranges}
 use Rattle.slip_text.specs.Text.{slip_text}
-use Rattle.slip_reader.specs.declared.Read.{Read}
-use Rattle.slip_reader.specs.declared.Read.TheVariants as read
 use Rattle.slip_reader.specs.Fields.{no_weights}
 
 -- ---- what a line can say
@@ -70,6 +68,6 @@ pub record Says (l : List ℕ) (s : Slip) : Type 0 where
   pub stands : Stands s l
 
 -- the promise of the reader: the slip that a text says, if it says one
-abbrev pub Reads : List ℕ → Read → Type 0
-Reads l (read.Given s) = Says l s
-Reads l read.NoLine = (s : Slip) → Says l s → ⊥
+abbrev pub Reads : List ℕ → Option Slip → Type 0
+Reads l (Some s) = Says l s
+Reads l None = (s : Slip) → Says l s → ⊥

@@ -1,8 +1,10 @@
 // The fields of a line: each stands after one space, as a sign or none and digits. Whatever else stands there makes some number too, since
 // the slip is written again and compared. A place in the text is at most its length.
-ghost use Rattle.std.specs.Prelude.{◌≡◌, ◌-◌, ◌≤◌, length, drop, get_or};
+ghost use Rattle.std.specs.Prelude.{◌≡◌, ◌-◌, ◌≤◌, length};
 ghost use Rattle.slip_reader.specs.Fields.{ends as ends_of, grown, found_of, recorded_of};
-ghost use Rattle.slip_reader.specs.Asked.{Goes, Runs, Finds, FindsCode};
+ghost use Rattle.slip_reader.specs.Asked.{Runs, Finds, FindsCode};
+
+use scanning::{after, byte_at};
 
 // A number's size, and where its field ends.
 #[derive(Clone, Copy)]
@@ -49,31 +51,15 @@ fn digits(text: &[u8], at: usize) -> Run
     ensures { Runs text.now at result }
 {
     let mut size: u64 = 0;
-    let mut i = at;
-    while i < text.len() {
+    for i in at..text.len() {
         let b = text[i];
         if ends(b) {
             return Run { size, end: i };
         }
         size = grow(size, b);
-        i += 1;
     }
-    Run { size, end: i }
-}
-
-// The byte at a place, or 0 at the end.
-pub fn byte_at(text: &[u8], at: usize) -> u8
-    ensures { result ≡ get_or (drop at text.now) 0 0 }
-{
-    if at < text.len() { text[at] } else { 0 }
-}
-
-// The place after a byte.
-pub fn after(text: &[u8], at: usize) -> usize
-    requires { at ≤ length text.now }
-    ensures { Goes text.now (drop 1 (drop at text.now)) result }
-{
-    if at < text.len() { at + 1 } else { at }
+    let end = text.len();
+    Run { size, end }
 }
 
 // The number of a sign and a size, as far as 64 bits go.

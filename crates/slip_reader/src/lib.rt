@@ -11,21 +11,14 @@ ghost use Rattle.slip_reader.specs.Reading.{Reads};
 
 use slip::Slip;
 
-// No line of a slip, or the slip that it says.
-#[derive(Clone, Copy)]
-pub enum Read {
-    NoLine,
-    Given(Slip),
-}
-
-// The slip that a text says.
-pub fn read_slip(text: &[u8]) -> Read
+// The slip that a text says, if it is the line of one.
+pub fn read_slip(text: &[u8]) -> Option<Slip>
     ensures { Reads text.now result }
 {
     let s = parts::parsed(text);
     if again::is_line(s, text) {
-        Read::Given(s)
+        Some(s)
     } else {
-        Read::NoLine
+        None
     }
 }

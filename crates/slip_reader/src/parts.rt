@@ -1,10 +1,11 @@
 // The parts of a slip, each read from the place where the one before it ended. The outcome's word is known by its first letter.
 ghost use Rattle.std.specs.Prelude.{◌≡◌, ◌≤◌, length, drop};
-ghost use Rattle.slip_reader.specs.Fields.{weights_in, no_weights, best_in, unlimited_in, impossible_in, slip_in};
-ghost use Rattle.slip_reader.specs.Asked.{Goes, FindsSlot, FindsPair};
+ghost use Rattle.slip_reader.specs.Fields.{weights_in, best_in, unlimited_in, impossible_in, slip_in};
+ghost use Rattle.slip_reader.specs.Asked.{FindsSlot, FindsPair};
 
-use crate::fields::{Found, byte_at, code, integer};
+use crate::fields::{Found, code, integer};
 use lp::{Outcome, Point, Ray};
+use scanning::{behind, byte_at};
 use slip::{Slip, Weights};
 
 // An entry and its weight, and where they end.
@@ -86,13 +87,6 @@ fn pair_at(text: &[u8], at: usize) -> Pair
     }
 }
 
-// The place after a word of n bytes.
-fn behind(text: &[u8], n: usize) -> usize
-    ensures { Goes text.now (drop n text.now) result }
-{
-    if n <= text.len() { n } else { text.len() }
-}
-
 fn best(text: &[u8]) -> Slip
     ensures { result ≡ best_in (drop 4 text.now) }
 {
@@ -106,21 +100,6 @@ fn best(text: &[u8]) -> Slip
 }
 
 // An unlimited plan names no entry.
-fn no_weights() -> Weights
-    ensures { result ≡ no_weights }
-{
-    Weights {
-        scale: 0,
-        count: 0,
-        first: 0,
-        first_weight: 0,
-        second: 0,
-        second_weight: 0,
-        third: 0,
-        third_weight: 0,
-    }
-}
-
 fn unlimited(text: &[u8]) -> Slip
     ensures { result ≡ unlimited_in (drop 9 text.now) }
 {
@@ -134,7 +113,7 @@ fn unlimited(text: &[u8]) -> Slip
     let point = v.point;
     Slip {
         outcome: Outcome::Unbounded(point, d),
-        weights: no_weights(),
+        weights: Weights::nothing(0),
     }
 }
 

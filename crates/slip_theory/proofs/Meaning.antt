@@ -33,7 +33,7 @@ use Rattle.answers.specs.Refusal.{refusal}
 use Rattle.slip.specs.declared.Weights.{Weights}
 use Rattle.slip.specs.declared.Slip.{Slip}
 use Rattle.slip.specs.declared.Verdict.TheVariants.{Refused, Yes, No}
-use Rattle.slip.specs.declared.named.Named.TheVariants.{At}
+use Rattle.std.specs.Prelude.{Some}
 use Rattle.slip.specs.Facts.{Share, shares, distinct, ranges, pair_in_range, ray_in_range, weight_in_range}
 use Rattle.slip.specs.Facts.{entry_of, rule_in, is_entry, entry_rule, rule_at, share_in_range, entries_in_range, in_range, holds, answered, judged}
 use Rattle.slip.specs.Facts.{sums, tight_all, is_allowed, is_lawful}
@@ -96,9 +96,9 @@ module _ (t : Terms) (records : List ℕ) (rules : List Constraint) where
   rule-member (i ∷ is) (c ∷ cs) q e = go (eqb i q) e (rule-member is cs q)
     where
       go : (b : Bool) →
-          is_entry (elim b [ true ↦ At c | false ↦ rule_in is cs q ]) ≡ true →
+          is_entry (elim b [ true ↦ Some c | false ↦ rule_in is cs q ]) ≡ true →
           (is_entry (rule_in is cs q) ≡ true → Memᴰ (entry_rule (rule_in is cs q)) cs) →
-          Memᴰ (entry_rule (elim b [ true ↦ At c | false ↦ rule_in is cs q ])) (c ∷ cs)
+          Memᴰ (entry_rule (elim b [ true ↦ Some c | false ↦ rule_in is cs q ])) (c ∷ cs)
       go true e k = Memᴰ.head refl
       go false e k = Memᴰ.tail (k e)
 

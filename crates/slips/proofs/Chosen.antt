@@ -15,7 +15,8 @@ use Rattle.slip.specs.declared.Weights.{Weights}
 use Rattle.slips.specs.declared.pass.Side.{Side}
 use Rattle.slips.specs.declared.pass.Held.{Held}
 use Rattle.slips.specs.Pass.{dot}
-use Rattle.slips.specs.Weights.{weights_with, no_weights, one_weight, two_weights, weights_of, used_of}
+use Rattle.slip.specs.Weights.{no_weights}
+use Rattle.slips.specs.Weights.{weights_with, one_weight, two_weights, weights_of, used_of}
 
 -- a natural number as an i64
 pub natural : {n : ℕ} → n < 2 ^ 63 → to_z w64 n ≡ pos n

@@ -18,8 +18,8 @@ use Rattle.lp.specs.Outcome.{det}
 use Rattle.records.specs.Layout.{v2}
 use Rattle.book.specs.Reading.{Reading, refused, accepted, Entry, read_of, rules_of, records_of}
 use Rattle.book.proofs.Bounds.{rules-small, terms-small, index-within, count_room}
-use Rattle.answers.specs.declared.Answer.{Answer}
-use Rattle.answers.specs.declared.Answer.TheVariants as answer
+use Rattle.answers.specs.Answer.{Answer}
+use Rattle.std.proofs.Common.{Ok, Err}
 use Rattle.answers.specs.declared.Plan.{Plan}
 use Rattle.answers.specs.declared.Refusal.{Refusal}
 use Rattle.answers.specs.Refusal.{refusal}
@@ -32,17 +32,17 @@ use Rattle.slip.specs.declared.Weights.{Weights}
 use Rattle.slip.specs.declared.Slip.{Slip}
 use Rattle.slip.specs.Facts.{judged}
 use Rattle.slip.specs.Runs.{SmallPair}
-use Rattle.slips.specs.declared.Written.{Written}
-use Rattle.slips.specs.declared.Written.TheVariants as written
+use Rattle.std.specs.Prelude.{Ok, Err}
 use Rattle.slips.specs.declared.pass.Held.{Held}
 use Rattle.slips.specs.Pass.{normal_of, dot, held_of}
-use Rattle.slips.specs.Weights.{weights_with, no_weights, one_weight, two_weights, weights_of, best_weights, conflict_weights, SmallCodes}
+use Rattle.slip.specs.Weights.{no_weights}
+use Rattle.slips.specs.Weights.{weights_with, one_weight, two_weights, weights_of, best_weights, conflict_weights, SmallCodes}
 use Rattle.slips.specs.Writing.{BestOf, Tidy, TidyFor, Lean, Planned, Plans, Slips, WrittenBy, Writes}
 use Rattle.slips.proofs.Yes.{optimum-yes, unlimited-yes}
 use Rattle.slips.proofs.Conflict.{conflict-yes, conflict-lean, codes_small, unused_codes, conflict_tidy, Unused}
 use Rattle.plans.proofs.Demands as list
 
-never : (p : Plan) (x : Refusal) → answer.Planned p ≡ answer.Refused x → ⊥
+never : (p : Plan) (x : Refusal) → Ok p ≡ Err x → ⊥
 never p x e =
     let z : ◌≡◌ {A = ℕ} 0 1 = cc in
     let b : ⊥ = omega arith in
@@ -125,13 +125,13 @@ module _ (s : List ℕ) (p : Plan) (promise : Plans s p) where
     rules = rules_of es
 
     planned : PlannedAs t names rules p
-    planned = plan.planned v2 s (answer.Planned p) promise t es e p refl
+    planned = plan.planned v2 s (Ok p) promise t es e p refl
 
     n : Named names rules
     n = chain-named v2 s t es e
 
     bounded : SmallOutcome p.outcome
-    bounded = plan.numbers_bounded v2 s (answer.Planned p) promise t es e p refl
+    bounded = plan.numbers_bounded v2 s (Ok p) promise t es e p refl
 
     impossible-planned : (o : p.outcome ≡ outcome.Infeasible) (w : Weights) →
         w ≡ conflict_weights p.witness →
@@ -161,8 +161,8 @@ module _ (s : List ℕ) (p : Plan) (promise : Plans s p) where
           outcome_defined = planned.outcome_defined;
           checked = ap (λ x. judged t names rules (record { outcome = x; weights = w })) o
               ∙ unlimited-yes t names rules n v d w (subst SmallOutcome o bounded).0 (subst SmallOutcome o bounded).1
-              (plan.start-pair v2 s (answer.Planned p) promise t es e p refl v d o).feasible
-              (plan.direction-lawful v2 s (answer.Planned p) promise t es e p refl v d o);
+              (plan.start-pair v2 s (Ok p) promise t es e p refl v d o).feasible
+              (plan.direction-lawful v2 s (Ok p) promise t es e p refl v d o);
           lean = λ q. absurd (unlimited-not-impossible (sym o ∙ q));
           unused = subst (λ x. TidyFor x w) (sym o) ew;
         }
@@ -177,8 +177,8 @@ module _ (s : List ℕ) (p : Plan) (promise : Plans s p) where
           outcome_defined = planned.outcome_defined;
           checked = (λ i. judged t names rules (record { outcome = o i; weights = ew i }))
               ∙ optimum-yes t names rules n v (terms-small v2 s e) (rules-small v2 s e) (subst SmallOutcome o bounded)
-              (plan.best-pair v2 s (answer.Planned p) promise t es e p refl v o).feasible
-              (plan.best-pair v2 s (answer.Planned p) promise t es e p refl v o).no_more;
+              (plan.best-pair v2 s (Ok p) promise t es e p refl v o).feasible
+              (plan.best-pair v2 s (Ok p) promise t es e p refl v o).no_more;
           lean = λ q. absurd (best-not-impossible (sym o ∙ q));
           unused = subst (λ x. TidyFor x w) (sym o)
               (subst Tidy (sym ew) (optimum_tidy (normal_of t.objective) (held_of t.objective v t.floors names rules)));
@@ -189,7 +189,7 @@ module _ (s : List ℕ) (p : Plan) (promise : Plans s p) where
   by-reading {Q} f = go (read_of v2 s) refl
     where
       go : (r : Reading) → read_of v2 s ≡ r → Q
-      go (refused k i) e = absurd (never p (refusal k i) (subst (λ r. AnsweredBy r (answer.Planned p)) e promise.answered))
+      go (refused k i) e = absurd (never p (refusal k i) (subst (λ r. AnsweredBy r (Ok p)) e promise.answered))
       go (accepted t es) e = f t es e
 
   pub witness_small : p.outcome ≡ outcome.Infeasible → SmallCodes p.witness
@@ -230,20 +230,20 @@ module _ (s : List ℕ) (p : Plan) (promise : Plans s p) where
 -- ---- of any book
 
 module _ (s : List ℕ) {a : Answer} (promise : Answers v2 s a) where
-  pub plans_of : {p : Plan} → a ≡ answer.Planned p → Plans s p
+  pub plans_of : {p : Plan} → a ≡ Ok p → Plans s p
   plans_of q = subst (Answers v2 s) q promise
 
-  pub refused-writes : {x : Refusal} → a ≡ answer.Refused x → Writes s (written.Refused x)
+  pub refused-writes : {x : Refusal} → a ≡ Err x → Writes s (Err x)
   refused-writes {x} q = record { written = go (read_of v2 s) (subst (AnsweredBy (read_of v2 s)) q promise.answered) }
     where
-      go : (r : Reading) → AnsweredBy r (answer.Refused x) → WrittenBy r (written.Refused x)
-      go (refused k i) e = let inner : x ≡ refusal k i = cc in ap written.Refused inner
+      go : (r : Reading) → AnsweredBy r (Err x) → WrittenBy r (Err x)
+      go (refused k i) e = let inner : x ≡ refusal k i = cc in ap Err inner
       go (accepted t es) e = absurd e
 
-  pub given-writes : {p : Plan} → a ≡ answer.Planned p → {slip : Slip} → Slips s slip → Writes s (written.Given slip)
+  pub given-writes : {p : Plan} → a ≡ Ok p → {slip : Slip} → Slips s slip → Writes s (Ok slip)
   given-writes {p} q {slip} k = record { written = go (read_of v2 s) refl }
     where
-      go : (r : Reading) → read_of v2 s ≡ r → WrittenBy r (written.Given slip)
+      go : (r : Reading) → read_of v2 s ≡ r → WrittenBy r (Ok slip)
       go (refused n i) e =
-          absurd (never p (refusal n i) (subst (λ r. AnsweredBy r (answer.Planned p)) e (plans_of q).answered))
+          absurd (never p (refusal n i) (subst (λ r. AnsweredBy r (Ok p)) e (plans_of q).answered))
       go (accepted t es) e = k.of_book t es e

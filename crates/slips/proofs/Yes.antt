@@ -33,7 +33,7 @@ use Rattle.theory.proofs.Solver.{equal, pos-by, C, Z, detᵖ}
 use Rattle.theory.proofs.Lists.{every_of, for-members, is_true}
 use Rattle.slip.specs.declared.Weights.{Weights}
 use Rattle.slip.specs.declared.Verdict.TheVariants.{Yes}
-use Rattle.slip.specs.declared.named.Named.TheVariants.{At}
+use Rattle.std.specs.Prelude.{Some}
 use Rattle.slip.specs.Facts.{share, shares, distinct, none, ranges, pair_in_range, weight_in_range}
 use Rattle.slip.specs.Facts.{entry_of, rule_in, is_entry, entry_rule, rule_at, share_in_range, sums, tight_all, answered, judged}
 use Rattle.slip.specs.Runs.{SmallPair}
@@ -43,7 +43,8 @@ use Rattle.slips.specs.declared.pass.Side.{Side}
 use Rattle.slips.specs.declared.pass.Held.{Held}
 use Rattle.slips.specs.Pass.{normal_of, opposite_of, dot, side, floors_held, held_of}
 use Rattle.slips.specs.Runs.{SmallHeld}
-use Rattle.slips.specs.Weights.{weights_with, no_weights, one_weight, two_weights, best_weights}
+use Rattle.slip.specs.Weights.{no_weights}
+use Rattle.slips.specs.Weights.{weights_with, one_weight, two_weights, best_weights}
 use Rattle.slips.proofs.Sizes.{normal-small, floors-held-small}
 use Rattle.slips.proofs.Lending.{pass_small}
 use Rattle.slips.proofs.Enclosed.{Real, Holds, Paired, AndTight, nothing-holds, turned-holds, pass_holds, seen-less, no_objective}
@@ -95,7 +96,7 @@ found_at : (names : List ℕ) (rules : List Constraint) →
     ((i j : ℕ) → i < j → j < length names → get_or names i 0 ≡ get_or names j 0 → ⊥) →
     (k : ℕ) →
     k < length names →
-    rule_in names rules (get_or names k 0) ≡ At (get_or rules k none)
+    rule_in names rules (get_or names k 0) ≡ Some (get_or rules k none)
 found_at [] rules e apart k h = absurd (empty h)
   where
     empty : k < 0 → ⊥
@@ -105,9 +106,9 @@ found_at (i ∷ is) [] e apart k h = absurd (wrong (length is) e)
     wrong : (n : ℕ) → suc n ≡ 0 → ⊥
     wrong n e = omega (arith, e)
 found_at (i ∷ is) (c ∷ cs) e apart zero h =
-    ap (λ b. elim b [ true ↦ At c | false ↦ rule_in is cs i ]) (eq-eqb i i refl)
+    ap (λ b. elim b [ true ↦ Some c | false ↦ rule_in is cs i ]) (eq-eqb i i refl)
 found_at (i ∷ is) (c ∷ cs) e apart (suc k) h =
-    ap (λ b. elim b [ true ↦ At c | false ↦ rule_in is cs (get_or is k 0) ])
+    ap (λ b. elim b [ true ↦ Some c | false ↦ rule_in is cs (get_or is k 0) ])
     (ne_eqb i (get_or is k 0) (λ q. apart 0 (suc k) (omega arith) (omega arith) q))
     ∙ found_at is cs (omega (arith, e)) (λ i j l m. apart (suc i) (suc j) (omega arith) (omega arith)) k (omega arith)
 
@@ -117,7 +118,7 @@ module _ (t : Terms) (names : List ℕ) (rules : List Constraint) (n : Named nam
 
   -- a side is an entry of the system under its code
   abbrev pub Entry : Side → Type 0
-  Entry s = entry_of t.floors names rules s.code ≡ At s.rule
+  Entry s = entry_of t.floors names rules s.code ≡ Some s.rule
 
   code-names : (r : ℕ) → 1 ≤ r → entry_of t.floors names rules (pos (r + 1)) ≡ rule_in names rules r
   code-names zero h = absurd (none_below h)
@@ -129,7 +130,7 @@ module _ (t : Terms) (names : List ℕ) (rules : List Constraint) (n : Named nam
       plus : (q : ℕ) → suc q + 1 ≡ suc (suc q)
       plus q = omega arith
 
-  pub rule-entry : (k : ℕ) → k < length names → entry_of t.floors names rules (pos (get_or names k 0 + 1)) ≡ At (get_or rules k none)
+  pub rule-entry : (k : ℕ) → k < length names → entry_of t.floors names rules (pos (get_or names k 0 + 1)) ≡ Some (get_or rules k none)
   rule-entry k h = code-names (get_or names k 0) (n.from_one k h) ∙ found_at names rules n.count n.apart k h
 
   module _ (v : Point) where

@@ -10,6 +10,7 @@ use Rattle.lp.specs.Outcome.{det}
 use Rattle.lp.specs.Certificate.{is_zero}
 use Rattle.lp.specs.Range.{SmallConstraint}
 use Rattle.slip.specs.declared.Weights.{Weights}
+use Rattle.slip.specs.Weights.{no_weights}
 use Rattle.slips.specs.declared.pass.Side.{Side}
 use Rattle.slips.specs.declared.pass.Held.{Held}
 use Rattle.slips.specs.Pass.{normal_of, dot, held_of}
@@ -27,9 +28,6 @@ weights_with scale count first w₁ second w₂ third w₃ =
       third = third;
       third_weight = w₃;
     }
-
-abbrev pub no_weights : ℤ → Weights
-no_weights scale = weights_with scale (pos 0) (pos 0) (pos 0) (pos 0) (pos 0) (pos 0) (pos 0)
 
 -- ---- of an optimum
 

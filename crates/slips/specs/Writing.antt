@@ -1,6 +1,6 @@
 -- What the writer promises: for an accepted book of version 2 a slip that has its plan's outcome, with its pair and direction, and that
 -- gets a yes; what it does not use is 0. Its entries, weights and scale are free, with document 02's facts as their property.
-use Rattle.std.specs.Prelude.{◌≡◌, List, map, false, ℕ, ℤ, pos, nat_abs}
+use Rattle.std.specs.Prelude.{◌≡◌, List, map, false, ℕ, ℤ, pos, nat_abs, Ok, Result, Err}
 use Rattle.std.specs.Int.Signed.{lt_z}
 use Rattle.lp.specs.declared.Constraint.{Constraint}
 use Rattle.lp.specs.declared.Terms.{Terms}
@@ -14,17 +14,16 @@ use Rattle.records.specs.Layout.{v2}
 use Rattle.book.specs.Reading.{Reading, refused, accepted, Entry, read_of, rules_of, records_of}
 use Rattle.book.specs.Runs.{Few}
 use Rattle.answers.specs.Refusal.{refusal}
+use Rattle.answers.specs.declared.Refusal.{Refusal}
 use Rattle.answers.specs.declared.Plan.{Plan}
-use Rattle.answers.specs.declared.Answer.TheVariants as answer
 use Rattle.planner.specs.Planning.{Answers}
 use Rattle.slip.specs.declared.Weights.{Weights}
 use Rattle.slip.specs.declared.Slip.{Slip}
 use Rattle.slip.specs.declared.Verdict.TheVariants.{Yes}
 use Rattle.slip.specs.Facts.{Share, shares, rule_at, verdict_of}
 use Rattle.slip.specs.Runs.{Roomy, SmallPair}
-use Rattle.slips.specs.declared.Written.{Written}
-use Rattle.slips.specs.declared.Written.TheVariants as written
-use Rattle.slips.specs.Weights.{no_weights, best_weights}
+use Rattle.slip.specs.Weights.{no_weights}
+use Rattle.slips.specs.Weights.{best_weights}
 
 -- ---- the weights of a best pair, from a book's bytes
 
@@ -71,10 +70,14 @@ pub record Planned (t : Terms) (es : List Entry) (s : Slip) : Type 0 where
   pub lean : s.outcome ≡ outcome.Infeasible → Lean t (records_of es) (rules_of es) s.weights
   pub unused : TidyFor s.outcome s.weights
 
+-- the book's refusal, or the slip of its plan
+abbrev pub Written : Type 0
+Written = Result Slip Refusal
+
 abbrev pub WrittenBy : Reading → Written → Type 0
-WrittenBy (refused n r) w = w ≡ written.Refused (refusal n r)
-WrittenBy (accepted t es) (written.Refused x) = ⊥
-WrittenBy (accepted t es) (written.Given s) = Planned t es s
+WrittenBy (refused n r) w = w ≡ Err (refusal n r)
+WrittenBy (accepted t es) (Err x) = ⊥
+WrittenBy (accepted t es) (Ok s) = Planned t es s
 
 -- the promise of `slip_of`
 pub record Writes (s : List ℕ) (w : Written) : Type 0 where
@@ -82,7 +85,7 @@ pub record Writes (s : List ℕ) (w : Written) : Type 0 where
 
 -- what the slip of a plan is made from
 abbrev pub Plans : List ℕ → Plan → Type 0
-Plans s p = Answers v2 s (answer.Planned p)
+Plans s p = Answers v2 s (Ok p)
 
 pub record Slips (s : List ℕ) (slip : Slip) : Type 0 where
   pub of_book : (t : Terms) (es : List Entry) → read_of v2 s ≡ accepted t es → Planned t es slip

@@ -1,4 +1,5 @@
 // The weights of a best pair, from the book's bytes: it is read once more into two lent runs, one size for each size of book.
+ghost use Rattle.std.specs.Prelude.{◌≡◌, ◌*◌, ◌≤◌};
 ghost use Rattle.records.specs.Layout.{v2};
 ghost use Rattle.book.specs.Runs.{Few};
 ghost use Rattle.slip.specs.Runs.{SmallPair};
@@ -26,21 +27,15 @@ fn best_in(book: &[u8], v: Point, records: &mut [u16], rules: &mut [i64]) -> Wei
     optimum_weights(normal, held)
 }
 
-fn best_short(book: &[u8], v: Point) -> Weights
-    requires { FewAt book.now 30 v }
+// Of a book with at most RULES rules. Each size is an instance of its own.
+fn best_sized<const RULES: usize, const NUMBERS: usize>(book: &[u8], v: Point) -> Weights
+    requires few { FewAt book.now RULES v }
+    requires most { RULES ≤ 4095 }
+    requires numbers { NUMBERS ≡ 3 * RULES }
     ensures { BestOf book.now v result }
 {
-    let mut records = [0u16; 30];
-    let mut rules = [0i64; 90];
-    best_in(book, v, &mut records, &mut rules)
-}
-
-fn best_long(book: &[u8], v: Point) -> Weights
-    requires { SmallPair v }
-    ensures { BestOf book.now v result }
-{
-    let mut records = [0u16; 4095];
-    let mut rules = [0i64; 12285];
+    let mut records = [0u16; RULES];
+    let mut rules = [0i64; NUMBERS];
     best_in(book, v, &mut records, &mut rules)
 }
 
@@ -49,8 +44,8 @@ pub fn best_weights(book: &[u8], v: Point) -> Weights
     ensures { BestOf book.now v result }
 {
     if book.len() <= 434 {
-        best_short(book, v)
+        best_sized::<30, 90>(book, v)
     } else {
-        best_long(book, v)
+        best_sized::<4095, 12285>(book, v)
     }
 }

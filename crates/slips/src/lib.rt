@@ -10,19 +10,12 @@ mod weights;
 
 ghost use Rattle.slips.specs.Writing.{Plans, Slips, Writes};
 
-use answers::{Answer, Plan, Refusal};
+use answers::{Plan, Refusal};
 use lent::best_weights;
 use lp::Outcome;
 use records::Version;
-use slip::Slip;
-use weights::{conflict_weights, no_weights};
-
-// The book's refusal, or the slip of its plan.
-#[derive(Clone, Copy)]
-pub enum Written {
-    Refused(Refusal),
-    Given(Slip),
-}
+use slip::{Slip, Weights};
+use weights::conflict_weights;
 
 // The slip of an accepted book's plan.
 fn slip_for(book: &[u8], plan: Plan) -> Slip
@@ -37,7 +30,7 @@ fn slip_for(book: &[u8], plan: Plan) -> Slip
         },
         Outcome::Unbounded(_, _) => Slip {
             outcome,
-            weights: no_weights(),
+            weights: Weights::nothing(0),
         },
         Outcome::Optimal(v) => Slip {
             outcome,
@@ -48,11 +41,11 @@ fn slip_for(book: &[u8], plan: Plan) -> Slip
 
 // The slip of a book of version 2, or its refusal. Its outcome, pair and direction are its plan's; its entries, weights and scale are any
 // that get a yes.
-pub fn slip_of(book: &[u8]) -> Written
+pub fn slip_of(book: &[u8]) -> Result<Slip, Refusal>
     ensures { Writes book.now result }
 {
     match planner::plan(Version::Two, book) {
-        Answer::Refused(refusal) => Written::Refused(refusal),
-        Answer::Planned(plan) => Written::Given(slip_for(book, plan)),
+        Err(refusal) => Err(refusal),
+        Ok(plan) => Ok(slip_for(book, plan)),
     }
 }

@@ -148,10 +148,8 @@ pub fn passed(
         c: 0,
     };
     let mut held = floors_held(normal, v, floors);
-    let mut i = 0;
-    while i < n {
+    for i in 0..n {
         held = turned(normal, v, side_at(records, rules, i), held);
-        i += 1;
     }
     held
 }

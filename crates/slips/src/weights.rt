@@ -1,6 +1,6 @@
 // The weights of a slip, from what the pass holds or from the plan's witness.
-ghost use Rattle.std.specs.Prelude.{◌≡◌, pos};
-ghost use Rattle.slips.specs.Weights.{no_weights, one_weight, two_weights, weights_of, used_of, conflict_weights};
+ghost use Rattle.std.specs.Prelude.{◌≡◌};
+ghost use Rattle.slips.specs.Weights.{one_weight, two_weights, weights_of, used_of, conflict_weights};
 ghost use Rattle.slips.specs.Weights.{SmallCodes, Enclosing, Along, Weighing};
 
 use crate::exact::{det, dot};
@@ -8,38 +8,6 @@ use crate::pass::{Held, Side};
 use lp::{Certificate, Constraint};
 use slip::Weights;
 use witness::is_zero;
-
-// No entry at all.
-pub fn no_weights() -> Weights
-    ensures { result ≡ no_weights (pos 0) }
-{
-    Weights {
-        scale: 0,
-        count: 0,
-        first: 0,
-        first_weight: 0,
-        second: 0,
-        second_weight: 0,
-        third: 0,
-        third_weight: 0,
-    }
-}
-
-// Of an objective of (0, 0).
-fn scale_alone() -> Weights
-    ensures { result ≡ no_weights (pos 1) }
-{
-    Weights {
-        scale: 1,
-        count: 0,
-        first: 0,
-        first_weight: 0,
-        second: 0,
-        second_weight: 0,
-        third: 0,
-        third_weight: 0,
-    }
-}
 
 // One entry, of the objective's direction.
 fn one_entry(f: Constraint, s: Side) -> Weights
@@ -105,7 +73,8 @@ pub fn optimum_weights(f: Constraint, h: Held) -> Weights
     if 0 < det(right.rule, left.rule) {
         return two_entries(f, right, left);
     }
-    scale_alone()
+    // An objective of (0, 0) needs no entry.
+    Weights::nothing(1)
 }
 
 // How many entries of a witness are in use.

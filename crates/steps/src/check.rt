@@ -29,16 +29,7 @@ fn label_held(session: Session, label: u16) -> bool
     ensures { result ≡ label_held session label }
 {
     let rules = session.rules;
-    let n = session.n;
-    let mut i = 0;
-    while i < n {
-        let rule = rules[i];
-        if rule.label == label {
-            return true;
-        }
-        i += 1;
-    }
-    false
+    rules[..session.n].iter().any(|rule| label == rule.label)
 }
 
 // The cause that turns a rule back, or 0. A rule of a session comes from no record, so that no padding is set and no link follows.

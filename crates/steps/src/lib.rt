@@ -9,7 +9,7 @@ mod plan;
 mod state;
 
 ghost use Rattle.sessions.specs.Sessions.{IsSession};
-ghost use Rattle.sessions.specs.Steps.{Starts, Adds, Withdraws, Stays};
+ghost use Rattle.sessions.specs.Steps.{Leads, Starts, Adds, Withdraws, Stays};
 
 use answers::Refusal;
 use check::{cause_of_adding, lawful_objective};
@@ -18,8 +18,21 @@ use records::Rule;
 use sessions::{Session, Step};
 use state::{begun, longer, shorter};
 
-// A step that leads to a session.
-fn taken(session: Session, number: u8, at: u16) -> Step
+// A step that is taken, and leads to a session.
+fn taken(session: Session) -> Step
+    requires { IsSession session }
+    ensures { Leads session None result }
+{
+    let plan = plan_held(session);
+    Step {
+        session,
+        refusal: None,
+        plan,
+    }
+}
+
+// One that is refused.
+fn refused(session: Session, number: u8, at: u16) -> Step
     requires { IsSession session }
     ensures { Stays session number at result }
 {
@@ -27,7 +40,7 @@ fn taken(session: Session, number: u8, at: u16) -> Step
     let plan = plan_held(session);
     Step {
         session,
-        refusal,
+        refusal: Some(refusal),
         plan,
     }
 }
@@ -37,9 +50,9 @@ pub fn start(p: i16, q: i16, lx: i16, ly: i16) -> Step
     ensures { Starts p q lx ly result }
 {
     if lawful_objective(p, q) {
-        taken(begun(p, q, lx, ly), 0, 0)
+        taken(begun(p, q, lx, ly))
     } else {
-        taken(begun(0, 0, 0, 0), 4, 0)
+        refused(begun(0, 0, 0, 0), 4, 0)
     }
 }
 
@@ -50,13 +63,13 @@ pub fn add(session: Session, rule: Rule) -> Step
 {
     let n = session.n;
     if n >= 64 {
-        return taken(session, 18, 0);
+        return refused(session, 18, 0);
     }
     let cause = cause_of_adding(session, rule);
     if cause != 0 {
-        return taken(session, cause, n as u16 + 1);
+        return refused(session, cause, n as u16 + 1);
     }
-    taken(longer(session, rule), 0, 0)
+    taken(longer(session, rule))
 }
 
 // Withdraws the latest rule.
@@ -65,7 +78,7 @@ pub fn withdraw(session: Session) -> Step
     ensures { Withdraws session result }
 {
     if session.n == 0 {
-        return taken(session, 19, 0);
+        return refused(session, 19, 0);
     }
-    taken(shorter(session), 0, 0)
+    taken(shorter(session))
 }

@@ -5,7 +5,6 @@ ghost use Rattle.sessions.specs.Sessions.{IsSession, Shown};
 ghost use Rattle.sessions.specs.Laying.{positions, EntryRoom, laid_from, LaysRules};
 
 use answers::Plan;
-use engine::Solved;
 use lp::{Certificate, Constraint, Outcome};
 use rules::constraint;
 use sessions::Session;
@@ -15,10 +14,8 @@ fn places() -> [u16; 64]
     ensures { result ≡ positions 64 }
 {
     let mut names = [0u16; 64];
-    let mut i = 0;
-    while i < 64 {
+    for i in 0..64 {
         names[i] = i as u16 + 1;
-        i += 1;
     }
     names
 }
@@ -43,11 +40,8 @@ fn lay(session: Session, run: &mut [i64])
     ensures { run.new ≡ laid_from run.old session.rules session.n }
 {
     let rules = session.rules;
-    let n = session.n;
-    let mut i = 0;
-    while i < n {
+    for i in 0..session.n {
         put(&mut *run, i, constraint(rules[i]));
-        i += 1;
     }
 }
 
@@ -78,7 +72,7 @@ pub fn plan_held(session: Session) -> Plan
     lay(session, &mut entries);
     let names = places();
     match engine::solve(session.terms, &mut entries, session.n) {
-        Solved::Outside => no_plan(),
-        Solved::Walked(solution) => plans::plan_of(solution, &names),
+        None => no_plan(),
+        Some(solution) => plans::plan_of(solution, &names),
     }
 }

@@ -10,7 +10,8 @@ use std::io;
 use std::io::Read;
 
 // Reads until the buffer is full or the input ends, and says how many bytes stand at the buffer's start: the bytes that came next, and all of
-// them where there is room for more. A read that fails is handed on, and so is one that a signal interrupts.
+// them where there is room for more. A read that fails is handed on, and so is one that a signal interrupts. The library's `read_exact`
+// would call an input that ends early a failure.
 pub fn read_full<R: Read>(reader: &mut R, buffer: &mut [u8]) -> io::Result<usize>
     ensures within { ReadsAtMost result buffer.new }
     ensures next { IfOk result (λ n. Consumes (R.remaining reader.old) (R.remaining reader.new) (take n buffer.new)) }

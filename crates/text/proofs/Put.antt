@@ -1,16 +1,16 @@
 -- Bytes put after bytes: two runs of stores, the second where the first ended, are one. What such a run makes of a buffer of any size,
 -- and of one that it fills.
 use mathlib.Core.Path.{◌≡◌, refl, ap, sym, ◌∙◌, subst}
-use mathlib.Core.List.{List, [], ◌∷◌, ◌++◌}
+use mathlib.Core.List.{List, [], ◌∷◌, ◌++◌, append_assoc}
 use mathlib.Core.Bool.{Bool, true, false}
 use Prim.Native.Nat.{ℕ, suc, ◌+◌, ◌-◌, ◌≤◌, ◌<◌}
-use native.Mathlib.Nat.{le_refl, zero-add}
+use native.Mathlib.Nat.{le_refl, le-add_right, zero-add}
 use native.Mathlib.Omega.{arith}
-use native.Mathlib.Numerals.{add-one}
-use borrow.Author.Tests.{ltb-true, ltb-false, lt-ltb, le-ltb}
+use borrow.Author.Tests.{ltb-true, ltb-false}
+use borrow.Rule.Slice.PartMut.{put_mid, post_of, Post-is}
 use lib.Dec.{ltb}
-use lib.ListN.{length, set, take, drop, get_or, length-append}
-use lib.Seq.{sets, sets-eq, take-suc, take_all}
+use lib.ListN.{length, set, take, drop, length-append}
+use lib.Seq.{sets, sets-eq}
 use Rattle.text.specs.Append.{Appended, Appends, Fills}
 
 sets_append : (l : List ℕ) (i : ℕ) (u v : List ℕ) → sets l i (u ++ v) ≡ sets (sets l i u) (i + length u) v
@@ -56,41 +56,27 @@ pub exactly : {before after u : List ℕ} {v : List ℕ} {at next i : ℕ} →
 exactly {before} {after} {u} {v} {at} {next} {i} e f =
     record { stored = (spelt e f).stored; moved = (spelt e f).moved; small = le_refl (length v) }
 
--- ---- a word, byte by byte
+-- ---- a word, copied in
 
-pub none_yet : (out word : List ℕ) (at : ℕ) → Appended out at (take 0 word) 0 out at
-none_yet out word at = record { stored = refl; moved = omega arith; small = le_refl 0 }
-
--- one byte stored is one appended
-pub one_byte : {before : List ℕ} {at b : ℕ} → Appended before at (b ∷ []) 1 (set before at b) (at + 1)
-one_byte = record { stored = refl; moved = refl; small = le_refl 1 }
-
-pub one_further : (word : List ℕ) (i : ℕ) {before mid after : List ℕ} {at next end : ℕ} →
-    i < length word →
-    Appended before at (take i word) i mid next →
-    Appended mid next (get_or word i 0 ∷ []) 1 after end →
-    Appended before at (take (i + 1) word) (i + 1) after end
-one_further word i h f g =
-    spelt (sym (take-suc word i 0 h) ∙ ap (λ (k : ℕ). take k word) (sym (add-one i))) (followed f g)
-
-pub all_of : (word : List ℕ) (i : ℕ) {before after : List ℕ} {at next j : ℕ} →
-    length word ≤ i →
-    Appended before at (take i word) j after next →
-    Appended before at word (length word) after next
-all_of word i h f = exactly (take_all i word h) f
+pub copied : (out : List ℕ) (at : ℕ) {word part : List ℕ} →
+    part ≡ word →
+    at + length word ≤ length out →
+    Appended out at word (length word) (put_mid at (at + length word - at) out part) (at + length word)
+copied out at {word} {part} same room =
+    record {
+      stored =
+          ap (λ (l : List ℕ). take at out ++ (l ++ post_of at (at + length word - at) out)) same
+          ∙ ap (λ (l : List ℕ). take at out ++ (word ++ l)) (Post-is at (at + length word) out (le-add_right at (length word)))
+          ∙ sym (append_assoc (take at out) word (drop (at + length word) out))
+          ∙ sym (sets-eq word out at room);
+      moved = refl;
+      small = le_refl (length word);
+    }
 
 pub nothing : (out : List ℕ) (at room : ℕ) → Appended out at [] room out at
 nothing out at room = record { stored = refl; moved = omega arith; small = omega arith }
 
 -- ---- a buffer of any size: the test of its room is handed in as a Bool
-
--- what is left behind the place is compared
-pub room-left : (size at room : ℕ) → at ≤ size → ltb (size - at) room ≡ ltb size (at + room)
-room-left size at room h = go (ltb (size - at) room) refl
-  where
-    go : (t : Bool) → ltb (size - at) room ≡ t → t ≡ ltb size (at + room)
-    go true e = sym (lt-ltb size (at + room) (omega (arith, ltb-true (size - at) room e)))
-    go false e = sym (le-ltb size (at + room) (omega (arith, ltb-false (size - at) room e)))
 
 -- one without room is left as it was
 pub no_room : {before bytes : List ℕ} {at room : ℕ} (b : Bool) →

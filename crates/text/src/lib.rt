@@ -11,22 +11,17 @@ ghost use Rattle.text.specs.Append.{Appends};
 pub fn lacks_room(size: usize, at: usize, room: usize) -> bool
     ensures { result ≡ ltb size (at + room) }
 {
-    if size < at { true } else { size - at < room }
+    size < at || size - at < room
 }
 
-// A word, byte by byte.
+// A word, copied in.
 pub fn append_word(word: &[u8], out: &mut [u8], at: usize) -> usize
     ensures { Appends out.old at word.now (length word.now) out.new result }
 {
     if lacks_room(out.len(), at, word.len()) {
         return at;
     }
-    let mut next = at;
-    let mut i = 0;
-    while i < word.len() {
-        out[next] = word[i];
-        next += 1;
-        i += 1;
-    }
-    next
+    let end = at + word.len();
+    out[at..end].copy_from_slice(word);
+    end
 }

@@ -1,4 +1,5 @@
 -- Before the first rule: the floors' corner is the start point, the axes span the rays, and the corner is the optimum unless an axis gains.
+use Rattle.std.specs.Prelude.{Option, None, Some}
 use mathlib.Core.Path.{◌≡◌, refl, sym, ◌∙◌, ap, subst}
 use mathlib.Core.List.Memᴰ
 use mathlib.Core.List.{List, [], ◌∷◌, Memᴰ}
@@ -21,10 +22,6 @@ use Rattle.lp.specs.declared.Ray.{Ray}
 use Rattle.lp.specs.declared.Tie.{Tie}
 use Rattle.lp.specs.Program.{point, ray, rise, between, Keeps, Feasible, floor_x, floor_y, system}
 use Rattle.lp.specs.Outcome.{meet, reduce, tie_order, gain_order}
-use Rattle.model.specs.declared.Cone.{Cone}
-use Rattle.model.specs.declared.Cone.TheVariants.{Wedge}
-use Rattle.model.specs.declared.Gain.{Gain}
-use Rattle.model.specs.declared.Gain.TheVariants as gain
 use Rattle.model.specs.Step.{gaining, opening}
 use Rattle.theory.proofs.Solver.{equal, nn_by, P, R, Z}
 use Rattle.theory.proofs.Lists.{for-members}
@@ -123,8 +120,8 @@ module _ (floors : Floors) where
         (nn_neg (nn_by (R ∷ []) (λ d. ⊝ (con (negsuc 0) ⊗ d.dx ⊕ con (pos 0) ⊗ d.dy) ≐ d.dx) refl out out-x))
         (nn_neg (nn_by (R ∷ []) (λ d. ⊝ (con (pos 0) ⊗ d.dx ⊕ con (negsuc 0) ⊗ d.dy) ≐ d.dy) refl out out-y))
 
-  abbrev axes : Cone
-  axes = Wedge (ray (pos 1) (pos 0)) (ray (pos 0) (pos 1))
+  abbrev axes : Option (Ray × Ray)
+  axes = Some (ray (pos 1) (pos 0), ray (pos 0) (pos 1))
 
   axes_span : Wedged S (ray (pos 1) (pos 0)) (ray (pos 0) (pos 1))
   axes_span =
@@ -141,9 +138,9 @@ module _ (floors : Floors) where
       }
 
   module _ (t : Tie) (good : GoodTie t) (f : Functional) where
-    corner-opens : (g : Gain) → gaining f axes ≡ g → BestStands t f S axes (opening f corner axes g)
-    corner-opens (gain.Along d) e = (d, e)
-    corner-opens gain.Nowhere e = (
+    corner-opens : (g : Option Ray) → gaining f axes ≡ g → BestStands t f S axes (opening f corner axes g)
+    corner-opens (Some d) e = (d, e)
+    corner-opens None e = (
       record {
         feasible = corner-feasible;
         greatest =

@@ -1,6 +1,7 @@
 -- The rays of a system: an angular interval from lo to hi inside the quadrant, or nothing. |d| stands for dx + dy, which is positive for
 -- every ray but 0; the identity f(q)·|p| − f(p)·|q| = cross(p, q)·(b − a) compares what a functional (a, b) does along two rays, also
 -- where they are the same.
+use Rattle.std.specs.Prelude.{Option, None, Some}
 use mathlib.Core.Path.{◌≡◌, refl, sym, ◌∙◌, ap, subst}
 use mathlib.Core.List.{List, [], ◌∷◌, Memᴰ}
 use mathlib.Core.Bool.{Bool, true, false, not}
@@ -17,10 +18,6 @@ use Rattle.lp.specs.declared.Functional.{Functional}
 use Rattle.lp.specs.declared.Ray.{Ray}
 use Rattle.lp.specs.Program.{constraint, ray, rise, along}
 use Rattle.lp.specs.Outcome.{cross}
-use Rattle.model.specs.declared.Cone.{Cone}
-use Rattle.model.specs.declared.Cone.TheVariants.{Empty, Wedge}
-use Rattle.model.specs.declared.Gain.{Gain}
-use Rattle.model.specs.declared.Gain.TheVariants as gain
 use Rattle.model.specs.Scan.{direction}
 use Rattle.model.specs.Step.{narrow, narrowed, gaining}
 use Rattle.theory.proofs.Solver.{equal, nn_by, pos-by, clash-by, C, R, riseᵖ, crossᵖ, Rayᵖ}
@@ -51,9 +48,9 @@ pub record Wedged (S : List Constraint) (lo hi : Ray) : Type 0 where
   pub lo_candidate : Candidate S lo
   pub hi-candidate : Candidate S hi
 
-abbrev pub Spans : List Constraint → Cone → Type 0
-Spans S Empty = (d : Ray) → Recedes S d → Null d
-Spans S (Wedge lo hi) = Wedged S lo hi
+abbrev pub Spans : List Constraint → Option (Ray × Ray) → Type 0
+Spans S None = (d : Ray) → Recedes S d → Null d
+Spans S (Some (lo, hi)) = Wedged S lo hi
 
 -- what the floors say: every ray is in the quadrant
 abbrev pub Quadrant : List Constraint → Type 0
@@ -244,9 +241,9 @@ module _ (S S' : List Constraint) (h : Constraint) (ext : Extends S h S') (quadr
     narrowed-spans false true a b c d = raise_lo (b tt) (c tt)
     narrowed-spans false false a b c d = closed (b tt) (d tt)
 
-  pub narrow-spans : (cone : Cone) → Spans S cone → Spans S' (narrow h cone)
-  narrow-spans Empty s = λ d f. s d (recedes-old d f)
-  narrow-spans (Wedge lo hi) w =
+  pub narrow-spans : (rays : Option (Ray × Ray)) → Spans S rays → Spans S' (narrow h rays)
+  narrow-spans None s = λ d f. s d (recedes-old d f)
+  narrow-spans (Some (lo, hi)) w =
       narrowed-spans lo hi w (le_z (rise h lo) (pos 0)) (le_z (rise h hi) (pos 0)) (λ t. le_z_yes t) (λ t. le_z_no t) (λ t. le_z_yes t)
       (λ t. le_z_no t)
 
@@ -264,9 +261,9 @@ pub record Flattest (S : List Constraint) (f : Functional) (d : Ray) : Type 0 wh
   pub candidate : Candidate S d
   pub flattest : (e : Ray) → Recedes S e → Candidate S e → pos 0 <ᶻ along f e → pos 0 ≤ᶻ cross d e
 
-abbrev pub Gains : List Constraint → Functional → Gain → Type 0
-Gains S f gain.Nowhere = (d : Ray) → Recedes S d → along f d ≤ᶻ pos 0
-Gains S f (gain.Along d) = Flattest S f d
+abbrev pub Gains : List Constraint → Functional → Option Ray → Type 0
+Gains S f None = (d : Ray) → Recedes S d → along f d ≤ᶻ pos 0
+Gains S f (Some d) = Flattest S f d
 
 module _ (S : List Constraint) (f : Functional) (quadrant : Quadrant S) where
   module _ (lo hi : Ray) (w : Wedged S lo hi) where
@@ -308,13 +305,13 @@ module _ (S : List Constraint) (f : Functional) (quadrant : Quadrant S) where
         (T (not x) → along f lo ≤ᶻ pos 0) →
         (T y → pos 0 <ᶻ along f hi) →
         (T (not y) → along f hi ≤ᶻ pos 0) →
-        Gains S f (elim x [ true ↦ gain.Along lo | false ↦ elim y [ true ↦ gain.Along hi | false ↦ gain.Nowhere ] ])
+        Gains S f (elim x [ true ↦ Some lo | false ↦ elim y [ true ↦ Some hi | false ↦ None ] ])
     wedge_gains true y a b c d = lo_gains (a tt)
     wedge_gains false true a b c d = hi-gains (b tt) (c tt)
     wedge_gains false false a b c d = none-gains (b tt) (d tt)
 
-  pub gaining-gains : (cone : Cone) → Spans S cone → Gains S f (gaining f cone)
-  gaining-gains Empty s = λ d r. le_of_eq (along-null f d (s d r))
-  gaining-gains (Wedge lo hi) w =
+  pub gaining-gains : (rays : Option (Ray × Ray)) → Spans S rays → Gains S f (gaining f rays)
+  gaining-gains None s = λ d r. le_of_eq (along-null f d (s d r))
+  gaining-gains (Some (lo, hi)) w =
       wedge_gains lo hi w (lt_z (pos 0) (along f lo)) (lt_z (pos 0) (along f hi)) (λ t. lt_z_yes t) (λ t. lt_z_no t) (λ t. lt_z_yes t)
       (λ t. lt_z_no t)

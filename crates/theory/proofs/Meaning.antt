@@ -1,5 +1,6 @@
 -- What an outcome means, apart from any algorithm: a peak, a flattest ray, or no point at all. It holds of one outcome only, it depends
 -- only on which constraints are in the system, and the defined outcome has it.
+use Rattle.std.specs.Prelude.{Option, None, Some}
 use mathlib.Core.Path.{◌≡◌, refl, sym, ◌∙◌, ap, ap₂, subst}
 use mathlib.Core.List.Memᴰ
 use mathlib.Core.List.{List, [], ◌∷◌, Memᴰ}
@@ -26,9 +27,6 @@ use Rattle.lp.specs.Outcome.{reduce_ray, tie_order, gain_order}
 use Rattle.lp.specs.Outcome as defined
 use Rattle.lp.specs.Prefixes.{one_if}
 use Rattle.lp.specs.Document.{same, count, AlikeInRules}
-use Rattle.model.specs.declared.Cone.{Cone}
-use Rattle.model.specs.declared.Best.{Best}
-use Rattle.model.specs.declared.Best.TheVariants as best
 use Rattle.model.specs.declared.State.{State}
 use Rattle.model.specs.declared.State.TheVariants.{Ended, Going}
 use Rattle.model.specs.Step.{begin, walk, said, said_ray}
@@ -158,26 +156,26 @@ module _ (S S' : List Constraint) (to : (r : Constraint) → Memᴰ r S → Mem�
 
 module _ (t : Tie) (good : GoodTie t) (floors : Floors) (f : Functional) where
   standing_means :
-      (S : List Constraint) (s : Point) (cone : Cone) (b : Best) →
-      Standing t f S s cone b →
-      Means t f S (said f (Going s cone b))
-  standing_means S s cone best.Open standing = go standing.optimum
+      (S : List Constraint) (s : Point) (rays : Option (Ray × Ray)) (b : Option Point) →
+      Standing t f S s rays b →
+      Means t f S (said f (Going s rays b))
+  standing_means S s rays None standing = go standing.optimum
     where
-      go : BestStands t f S cone best.Open → Means t f S (said f (Going s cone best.Open))
+      go : BestStands t f S rays None → Means t f S (said f (Going s rays None))
       go (d, e) =
           subst (λ g. Means t f S (said_ray s g)) (sym e)
           (record {
             start = standing.start;
             along-ray = d;
-            flattest = gains-along S f cone standing.quadrant standing.spans d e;
+            flattest = gains-along S f rays standing.quadrant standing.spans d e;
             divided = refl;
           })
-  standing_means S s cone (best.At v) standing =
-      record { peak = standing.optimum.0; no_gain = gains-nowhere S f cone standing.quadrant standing.spans standing.optimum.1 }
+  standing_means S s rays (Some v) standing =
+      record { peak = standing.optimum.0; no_gain = gains-nowhere S f rays standing.quadrant standing.spans standing.optimum.1 }
 
   state_means : (rules : List Constraint) (x : State) → Stands t good floors f rules x → Means t f (system floors rules) (said f x)
   state_means rules (Ended p c) o = over-infeasible t good floors f rules p c o
-  state_means rules (Going s cone b) standing = standing_means (system floors rules) s cone b standing
+  state_means rules (Going s rays b) standing = standing_means (system floors rules) s rays b standing
 
   -- the walk's last state
   pub walk-stands : (rules : List Constraint) → Agrees t good floors f [] rules (begin floors f) (walk t floors f rules)

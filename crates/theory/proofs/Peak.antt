@@ -1,5 +1,6 @@
 -- The peak of a system in an order: the feasible point that no feasible point is above, a vertex in lowest terms. It stays where the next
 -- constraint is kept; otherwise the tightest point on that constraint's line is the next peak, if there is a feasible point at all.
+use Rattle.std.specs.Prelude.{Option, None, Some}
 use mathlib.Core.Path.{◌≡◌, refl, sym, ◌∙◌, ap, subst}
 use mathlib.Core.List.{List, [], ◌∷◌, Memᴰ}
 use mathlib.Core.Bool.{Bool, true, false, not}
@@ -15,8 +16,7 @@ use Rattle.lp.specs.declared.Point.{Point}
 use Rattle.lp.specs.declared.Ray.{Ray}
 use Rattle.lp.specs.Program.{slack, rise, Keeps, Feasible}
 use Rattle.lp.specs.Outcome.{above, det, meet, reduce}
-use Rattle.model.specs.declared.Found.{Found}
-use Rattle.model.specs.declared.Found.TheVariants as found
+use Rattle.model.specs.declared.Met.{Met}
 use Rattle.model.specs.Scan.{facing, direction, tightest}
 use Rattle.model.specs.Step.{found_point, tightest_point}
 use Rattle.theory.proofs.Solver.{equal, nn_by, C, P, slackᵖ, detᵖ}
@@ -142,16 +142,16 @@ module _ (S S' : List Constraint) (h : Constraint) (ext : Extends S h S') where
         (w : Point) →
         Feasible S' w →
         Peak (Up fs) S' (tightest_point fs S h)
-    peak-moves v hv kept great breaks falls w fw = go (tightest l 0 S found.Nothing) (scan_finds S l)
+    peak-moves v hv kept great breaks falls w fw = go (tightest l 0 S None) (scan_finds S l)
       where
-        go : (f : Found) → Outcome_of_scan S l f → Peak (Up fs) S' (found_point f)
-        go found.Nothing away =
+        go : (f : Option Met) → Outcome_of_scan S l f → Peak (Up fs) S' (found_point f)
+        go None away =
             clash_ℤ breaks (flat-constraint (no_line falls away) v w hv fw.proper (feasible-keeps-new S S' h ext w fw))
-        go (found.At j k p) (tight, e, a) =
+        go (Some found) (tight, e, a) =
             subst (λ z. Peak (Up fs) S' (reduce z)) (sym e)
-            (lowest-peak (Up fs) O side k tight.member tight.crosses
-            (step_keeps (Up fs) O S h v hv kept great breaks side k walked-up tight w (feasible_shrinks S S' h ext w fw)
+            (lowest-peak (Up fs) O side found.entry tight.member tight.crosses
+            (step_keeps (Up fs) O S h v hv kept great breaks side found.entry walked-up tight w (feasible_shrinks S S' h ext w fw)
             (feasible-keeps-new S S' h ext w fw))
-            (step-on (Up fs) O S h v hv kept great breaks side k walked-up tight)
-            (λ u fu. step-below (Up fs) O S h v hv kept great breaks side k walked-up tight u (feasible_shrinks S S' h ext u fu)
+            (step-on (Up fs) O S h v hv kept great breaks side found.entry walked-up tight)
+            (λ u fu. step-below (Up fs) O S h v hv kept great breaks side found.entry walked-up tight u (feasible_shrinks S S' h ext u fu)
             (feasible-keeps-new S S' h ext u fu)))

@@ -1,4 +1,5 @@
 -- The place at which the walk ends is the defined one.
+use Rattle.std.specs.Prelude.{Option, Result, Ok, Err}
 use mathlib.Core.Path.{◌≡◌, sym, ◌∙◌, ap, subst}
 use mathlib.Core.List.{List, [], ◌∷◌, ◌++◌}
 use mathlib.Core.Bool.{Bool, true, false}
@@ -14,10 +15,7 @@ use Rattle.lp.specs.declared.Certificate.{Certificate}
 use Rattle.lp.specs.Program.{system}
 use Rattle.lp.specs.Outcome.{outcome, keeps, gain_order}
 use Rattle.lp.specs.Prefixes.{is_infeasible, place_from}
-use Rattle.model.specs.declared.Restart.{Restart}
-use Rattle.model.specs.declared.Restart.TheVariants.{Moved, Failed}
-use Rattle.model.specs.declared.Cone.{Cone}
-use Rattle.model.specs.declared.Best.{Best}
+use Rattle.lp.specs.declared.Ray.{Ray}
 use Rattle.model.specs.declared.State.{State}
 use Rattle.model.specs.declared.State.TheVariants.{Ended, Going}
 use Rattle.model.specs.declared.Walk.{Walk}
@@ -45,29 +43,29 @@ module _ (t : Tie) (good : GoodTie t) (floors : Floors) (f : Functional) where
   place_here done (h ∷ rest) e = ap (λ b. elim b [ true ↦ length done | false ↦ place_from t floors f (done ++ (h ∷ [])) rest ]) e
 
   going-feasible :
-      (done : List Constraint) (s : Point) (cone : Cone) (b : Best) →
-      Standing t f (system floors done) s cone b →
+      (done : List Constraint) (s : Point) (rays : Option (Ray × Ray)) (b : Option Point) →
+      Standing t f (system floors done) s rays b →
       infeasible done ≡ false
-  going-feasible done s cone b standing =
-      sym (ap is_infeasible (state_says t good floors f done (Going s cone b) standing))
-      ∙ feasible-by_state t good floors f (system floors done) s cone b standing.optimum
+  going-feasible done s rays b standing =
+      sym (ap is_infeasible (state_says t good floors f done (Going s rays b) standing))
+      ∙ feasible-by_state t good floors f (system floors done) s rays b standing.optimum
 
   pub walk-place :
-      (done rest : List Constraint) (w : Walk) (s : Point) (cone : Cone) (b : Best) →
-      w.state ≡ Going s cone b →
+      (done rest : List Constraint) (w : Walk) (s : Point) (rays : Option (Ray × Ray)) (b : Option Point) →
+      w.state ≡ Going s rays b →
       Stands t good floors f done w.state →
       place_of (walk_from t f (system floors done) (length (system floors done)) rest w).state ≡ place_from t floors f done rest
-  walk-place done [] w s cone b e stands =
+  walk-place done [] w s rays b e stands =
       ap place_of e ∙ sym (ap (λ b. elim b [ true ↦ length done | false ↦ 0 ])
-      (going-feasible done s cone b (subst (Stands t good floors f done) e stands)))
-  walk-place done (h ∷ rest) w s cone b e stands =
+      (going-feasible done s rays b (subst (Stands t good floors f done) e stands)))
+  walk-place done (h ∷ rest) w s rays b e stands =
       subst (λ n. place_of (walk_from t f (system floors (done ++ (h ∷ []))) n rest w₁).state
       ≡ place_from t floors f (done ++ (h ∷ [])) rest) count
-      (go (elim (keeps h s) [ true ↦ Moved s | false ↦ restart t (system floors done) (length (system floors done)) h ])
+      (go (elim (keeps h s) [ true ↦ Ok s | false ↦ restart t (system floors done) (length (system floors done)) h ])
       (ap (λ x. (stepped t f (system floors done) (length (system floors done)) h w.moves w.opened w.restarts x).state) e)
-      (λ s' cone' b' e'. walk-place (done ++ (h ∷ [])) rest w₁ s' cone' b' e' stands₁))
+      (λ s' rays' b' e'. walk-place (done ++ (h ∷ [])) rest w₁ s' rays' b' e' stands₁))
       ∙ sym (ap (λ b. elim b [ true ↦ length done | false ↦ place_from t floors f (done ++ (h ∷ [])) rest ])
-      (going-feasible done s cone b (subst (Stands t good floors f done) e stands)))
+      (going-feasible done s rays b (subst (Stands t good floors f done) e stands)))
     where
       w₁ : Walk
       w₁ = step t f (system floors done) (length (system floors done)) h w
@@ -81,21 +79,21 @@ module _ (t : Tie) (good : GoodTie t) (floors : Floors) (f : Functional) where
       here : length (system floors done) - 1 ≡ length (done ++ (h ∷ []))
       here = omega (arith, length-append done (h ∷ []))
 
-      Settles : State → Restart → Type 0
+      Settles : State → Result Point Certificate → Type 0
       Settles x r =
-          x ≡ (settled t f (system floors done) (length (system floors done)) h cone b w.moves w.opened (recounted w.restarts h
+          x ≡ (settled t f (system floors done) (length (system floors done)) h rays b w.moves w.opened (recounted w.restarts h
           s) r).state
 
       go :
-          (r : Restart) →
+          (r : Result Point Certificate) →
           Settles w₁.state r →
-          ((s' : Point) (cone' : Cone) (b' : Best) → w₁.state ≡ Going s' cone' b' →
+          ((s' : Point) (rays' : Option (Ray × Ray)) (b' : Option Point) → w₁.state ≡ Going s' rays' b' →
           place_of (walk_from t f (system floors (done ++ (h ∷ []))) (length (system floors (done ++ (h ∷ [])))) rest w₁).state
           ≡ place_from t floors f (done ++ (h ∷ [])) rest) →
           place_of (walk_from t f (system floors (done ++ (h ∷ []))) (length (system floors (done ++ (h ∷ [])))) rest w₁).state
           ≡ place_from t floors f (done ++ (h ∷ [])) rest
-      go (Moved s') q ih = ih s' (narrow h cone) (improved (gain_order f t) f (system floors done) h (narrow h cone) b) q
-      go (Failed c) q ih =
+      go (Ok s') q ih = ih s' (narrow h rays) (improved (gain_order f t) f (system floors done) h (narrow h rays) b) q
+      go (Err c) q ih =
           ap place_of (ended-stays t f (system floors (done ++ (h ∷ []))) (length (system floors (done ++ (h ∷ [])))) rest w₁
           (length (system floors done) - 1) c q)
           ∙ here

@@ -1,5 +1,6 @@
 -- The start point when a constraint breaks it: it moves to the tightest point on that constraint's line, or a certificate shows that no
 -- point is left.
+use Rattle.std.specs.Prelude.{Option, None, Some, Result, Ok, Err}
 use mathlib.Core.Path.{◌≡◌, refl, sym, ◌∙◌, ap, subst}
 use mathlib.Core.List.{List, [], ◌∷◌, ◌++◌, Memᴰ}
 use mathlib.Core.Bool.{Bool, true, false, not, ◌&&◌}
@@ -18,12 +19,8 @@ use Rattle.lp.specs.declared.Tie.{Tie}
 use Rattle.lp.specs.Program.{slack, Keeps}
 use Rattle.lp.specs.Outcome.{above, det, meet, reduce, tie_order}
 use Rattle.lp.specs.Certificate.{is_zero}
-use Rattle.model.specs.declared.Found.{Found}
-use Rattle.model.specs.declared.Found.TheVariants as found
-use Rattle.model.specs.declared.Broken.{Broken}
-use Rattle.model.specs.declared.Broken.TheVariants as broken
-use Rattle.model.specs.declared.Restart.{Restart}
-use Rattle.model.specs.declared.Restart.TheVariants.{Moved, Failed}
+use Rattle.lp.specs.declared.Certificate.{Certificate}
+use Rattle.model.specs.declared.Met.{Met}
 use Rattle.model.specs.Scan.{facing, direction, tightest, first_broken}
 use Rattle.model.specs.Step.{alone, checked, resettled, restart}
 use Rattle.theory.proofs.Solver.{nn_by, pos-by, C, P, slackᵖ, detᵖ}
@@ -38,9 +35,9 @@ use Rattle.theory.proofs.Ties.{GoodTie, tie-upward}
 use Rattle.theory.proofs.Peak.{Peak, Falls, lowest-peak, walked-up, no_line}
 use Rattle.theory.proofs.Conflict.{Certified, conflict-certified, alone-certified}
 
-abbrev pub Restarted : Tie → List Constraint → Restart → Type 0
-Restarted t S (Moved s) = Peak (Up (tie_order t)) S s
-Restarted t S (Failed c) = Certified S c
+abbrev pub Restarted : Tie → List Constraint → Result Point Certificate → Type 0
+Restarted t S (Ok s) = Peak (Up (tie_order t)) S s
+Restarted t S (Err c) = Certified S c
 
 module _ (t : Tie) (good : GoodTie t) (S : List Constraint) (h : Constraint) (s : Point) (peak : Peak (Up (tie_order t)) S s)
     (breaks : slack h s <ᶻ pos 0) (falls : Falls (Up (tie_order t)) (S ++ (h ∷ []))) where
@@ -90,9 +87,9 @@ module _ (t : Tie) (good : GoodTie t) (S : List Constraint) (h : Constraint) (s 
         go (inl z) = nn_by (C ∷ C ∷ []) (λ l m. detᵖ l m ≐ ⊝ detᵖ m l) refl (facing side h) m (neg_nn z)
         go (inr c) = clash_ℤ b (tight.tightest m i c)
 
-    checked-sound : (b : Broken) → Outcome_of_check S p S b → Restarted t S' (checked side (length S) h j k p b)
-    checked-sound broken.Nowhere kept = moved kept
-    checked-sound (broken.At i m) (at-m, b) =
+    checked-sound : (b : Option (ℕ × Constraint)) → Outcome_of_check S p S b → Restarted t S' (checked side (length S) h j k p b)
+    checked-sound None kept = moved kept
+    checked-sound (Some (i, m)) (at-m, b) =
         conflict-certified S h side j k i m at-k at-m s proper breaks (peak.feasible.kept k tight.member)
         (peak.feasible.kept m (at-member S i m at-m)) tight.crosses (not-met m (at-member S i m at-m) b) b
 
@@ -101,10 +98,10 @@ module _ (t : Tie) (good : GoodTie t) (S : List Constraint) (h : Constraint) (s 
     where
       resettle :
           T (not (is_zero h.a && is_zero h.b)) →
-          (f : Found) →
+          (f : Option Met) →
           Outcome_of_scan S (facing side h) f →
           Restarted t S' (resettled S side (length S) h f)
-      resettle n found.Nothing away =
+      resettle n None away =
           absurd (T_not (is_zero h.a && is_zero h.b) n
           (and_both (is_zero h.a) (is_zero h.b) (zero_test a-zero) (zero_test null.no_dx)))
         where
@@ -116,22 +113,23 @@ module _ (t : Tie) (good : GoodTie t) (S : List Constraint) (h : Constraint) (s 
 
           zero_test : {z : ℤ} → z ≡ pos 0 → T (is_zero z)
           zero_test e = subst (λ z. T (is_zero z)) (sym e) tt
-      resettle n (found.At j k q) (tight, e, a) =
-          subst (λ z. Restarted t S' (checked side (length S) h j k z (first_broken z 0 S))) (sym e)
-          (checked-sound j k tight a (first_broken (meet k (facing side h)) 0 S) (check-finds S (meet k (facing side h))))
+      resettle n (Some found) (tight, e, a) =
+          subst (λ z. Restarted t S' (checked side (length S) h found.index found.entry z (first_broken z 0 S))) (sym e)
+          (checked-sound found.index found.entry tight a (first_broken (meet found.entry (facing side h)) 0 S)
+          (check-finds S (meet found.entry (facing side h))))
 
       go :
           (b : Bool) →
           (T b → T (is_zero h.a && is_zero h.b)) →
           (T (not b) → T (not (is_zero h.a && is_zero h.b))) →
           Restarted t S' (elim b [
-            | true ↦ Failed (alone (length S))
+            | true ↦ Err (alone (length S))
             | false ↦ resettled S side (length S) h
-                (tightest (facing side h) 0 S found.Nothing)
+                (tightest (facing side h) 0 S None)
           ])
       go true y n =
           alone-certified S h (is-zero h.a (and_left (is_zero h.a) (is_zero h.b) (y tt)))
           (is-zero h.b (and_right (is_zero h.a) (is_zero h.b) (y tt)))
           (negative (is-zero h.a (and_left (is_zero h.a) (is_zero h.b) (y tt)))
           (is-zero h.b (and_right (is_zero h.a) (is_zero h.b) (y tt))))
-      go false y n = resettle (n tt) (tightest (facing side h) 0 S found.Nothing) (scan_finds S (facing side h))
+      go false y n = resettle (n tt) (tightest (facing side h) 0 S None) (scan_finds S (facing side h))

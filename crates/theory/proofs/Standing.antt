@@ -1,6 +1,7 @@
 -- What the walk holds after each prefix, while feasible points are left: the start point is the peak of the tie's order, the cone spans
 -- the rays, and the optimum is the peak of the gains' order, or some ray gains. One more constraint keeps that so, or yields a
 -- certificate.
+use Rattle.std.specs.Prelude.{Option, None, Some, Ok}
 use mathlib.Core.Path.{◌≡◌, refl, subst}
 use mathlib.Core.List.{List, [], ◌∷◌, ◌++◌}
 use mathlib.Core.Bool.{Bool, true, false, not}
@@ -19,12 +20,6 @@ use Rattle.lp.specs.declared.Ray.{Ray}
 use Rattle.lp.specs.declared.Tie.{Tie}
 use Rattle.lp.specs.Program.{point, slack, Keeps, along, rise}
 use Rattle.lp.specs.Outcome.{keeps, tie_order, gain_order}
-use Rattle.model.specs.declared.Restart.TheVariants.{Moved}
-use Rattle.model.specs.declared.Cone.{Cone}
-use Rattle.model.specs.declared.Gain.{Gain}
-use Rattle.model.specs.declared.Gain.TheVariants as gain
-use Rattle.model.specs.declared.Best.{Best}
-use Rattle.model.specs.declared.Best.TheVariants as best
 use Rattle.model.specs.Step.{restart, narrow, gaining, tightest_point, reopened, improved}
 use Rattle.theory.proofs.Solver.{nn_by, pos-by, C, P, R, F, riseᵖ, alongᵖ}
 use Rattle.theory.proofs.Extension.{Extends, extended, for-extended}
@@ -35,35 +30,36 @@ use Rattle.theory.proofs.Ties.{GoodTie, gain-upward, tie-falls, gain-falls}
 use Rattle.theory.proofs.Peak.{Peak, Falls, peak-stays, peak-moves}
 use Rattle.theory.proofs.Restart.{Restarted, restart-sound}
 
-abbrev pub BestStands : Tie → Functional → List Constraint → Cone → Best → Type 0
-BestStands t f S cone best.Open = (d : Ray) × (gaining f cone ≡ gain.Along d)
-BestStands t f S cone (best.At v) = Peak (Up (gain_order f t)) S v × (gaining f cone ≡ gain.Nowhere)
+abbrev pub BestStands : Tie → Functional → List Constraint → Option (Ray × Ray) → Option Point → Type 0
+BestStands t f S rays None = (d : Ray) × (gaining f rays ≡ Some d)
+BestStands t f S rays (Some v) = Peak (Up (gain_order f t)) S v × (gaining f rays ≡ None)
 
-pub record Standing (t : Tie) (f : Functional) (S : List Constraint) (s : Point) (cone : Cone) (b : Best) : Type 0 where
+pub record Standing (t : Tie) (f : Functional) (S : List Constraint) (s : Point)
+    (rays : Option (Ray × Ray)) (b : Option Point) : Type 0 where
   pub quadrant : Quadrant S
   pub start : Peak (Up (tie_order t)) S s
-  pub spans : Spans S cone
-  pub optimum : BestStands t f S cone b
+  pub spans : Spans S rays
+  pub optimum : BestStands t f S rays b
 
 -- what the gaining ray says, at each of its two values
 pub gains-along :
-    (S : List Constraint) (f : Functional) (cone : Cone) →
+    (S : List Constraint) (f : Functional) (rays : Option (Ray × Ray)) →
     Quadrant S →
-    Spans S cone →
+    Spans S rays →
     (d : Ray) →
-    gaining f cone ≡ gain.Along d →
+    gaining f rays ≡ Some d →
     Flattest S f d
-gains-along S f cone q s d e = subst (Gains S f) e (gaining-gains S f q cone s)
+gains-along S f rays q s d e = subst (Gains S f) e (gaining-gains S f q rays s)
 
 pub gains-nowhere :
-    (S : List Constraint) (f : Functional) (cone : Cone) →
+    (S : List Constraint) (f : Functional) (rays : Option (Ray × Ray)) →
     Quadrant S →
-    Spans S cone →
-    gaining f cone ≡ gain.Nowhere →
+    Spans S rays →
+    gaining f rays ≡ None →
     (d : Ray) →
     Recedes S d →
     along f d ≤ᶻ pos 0
-gains-nowhere S f cone q s e = subst (Gains S f) e (gaining-gains S f q cone s)
+gains-nowhere S f rays q s e = subst (Gains S f) e (gaining-gains S f q rays s)
 
 -- ---- a ray as a point with denominator 0
 
@@ -88,16 +84,17 @@ module _ (S : List Constraint) (f : Functional) (t : Tie) (d : Ray) where
 
 -- ---- one more constraint
 
-module _ (t : Tie) (good : GoodTie t) (f : Functional) (S : List Constraint) (h : Constraint) (s : Point) (cone : Cone) (b : Best)
-    (standing : Standing t f S s cone b) where
+module _ (t : Tie) (good : GoodTie t) (f : Functional) (S : List Constraint) (h : Constraint)
+    (s : Point) (rays : Option (Ray × Ray)) (b : Option Point)
+    (standing : Standing t f S s rays b) where
   abbrev S' : List Constraint
   S' = S ++ (h ∷ [])
 
   ext : Extends S h S'
   ext = extended S h
 
-  abbrev cone' : Cone
-  cone' = narrow h cone
+  abbrev rays' : Option (Ray × Ray)
+  rays' = narrow h rays
 
   recedes-old : (d : Ray) → Recedes S' d → Recedes S d
   recedes-old d r c i = r c (ext.old c i)
@@ -105,25 +102,25 @@ module _ (t : Tie) (good : GoodTie t) (f : Functional) (S : List Constraint) (h 
   quadrant' : Quadrant S'
   quadrant' d r = standing.quadrant d (recedes-old d r)
 
-  spans' : Spans S' cone'
-  spans' = narrow-spans S S' h ext standing.quadrant cone standing.spans
+  spans' : Spans S' rays'
+  spans' = narrow-spans S S' h ext standing.quadrant rays standing.spans
 
   pub tie_falls' : Falls (Up (tie_order t)) S'
   tie_falls' d r = tie-falls t good d (quadrant' d r).0 (quadrant' d r).1
 
-  gain_falls' : gaining f cone' ≡ gain.Nowhere → Falls (Up (gain_order f t)) S'
+  gain_falls' : gaining f rays' ≡ None → Falls (Up (gain_order f t)) S'
   gain_falls' e d r =
-      gain-falls t good f d (quadrant' d r).0 (quadrant' d r).1 (gains-nowhere S' f cone' quadrant' spans' e d r)
+      gain-falls t good f d (quadrant' d r).0 (quadrant' d r).1 (gains-nowhere S' f rays' quadrant' spans' e d r)
 
   -- the start point is kept, moves, or is lost
-  pub start-step : Restarted t S' (elim (keeps h s) [ true ↦ Moved s | false ↦ restart t S (length S) h ])
+  pub start-step : Restarted t S' (elim (keeps h s) [ true ↦ Ok s | false ↦ restart t S (length S) h ])
   start-step = go (keeps h s) (λ u. le_z_yes u) (λ u. le_z_no u)
     where
       go :
           (k : Bool) →
           (T k → Keeps h s) →
           (T (not k) → slack h s <ᶻ pos 0) →
-          Restarted t S' (elim k [ true ↦ Moved s | false ↦ restart t S (length S) h ])
+          Restarted t S' (elim k [ true ↦ Ok s | false ↦ restart t S (length S) h ])
       go true y n = peak-stays S S' h ext (Up (tie_order t)) s standing.start (y tt)
       go false y n = restart-sound t good S h s standing.start (n tt) tie_falls'
 
@@ -132,8 +129,8 @@ module _ (t : Tie) (good : GoodTie t) (f : Functional) (S : List Constraint) (h 
     -- from unbounded to optimal: the old gaining ray is cut off by h
     closing :
         (d : Ray) →
-        gaining f cone ≡ gain.Along d →
-        gaining f cone' ≡ gain.Nowhere →
+        gaining f rays ≡ Some d →
+        gaining f rays' ≡ None →
         Peak (Up (gain_order f t)) S' (tightest_point (gain_order f t) S h)
     closing d e e' =
         peak-moves S S' h ext (gain_order f t) (gain-upward t good f) (far S f t d) (nn_nat 0)
@@ -141,50 +138,50 @@ module _ (t : Tie) (good : GoodTie t) (f : Functional) (S : List Constraint) (h 
         s' start'.feasible
       where
         flat : Flattest S f d
-        flat = gains-along S f cone standing.quadrant standing.spans d e
+        flat = gains-along S f rays standing.quadrant standing.spans d e
 
         cut : pos 0 <ᶻ rise h d
         cut = go (le_or_lt (rise h d) (pos 0))
           where
             go : (rise h d ≤ᶻ pos 0) ⊎ (pos 0 <ᶻ rise h d) → pos 0 <ᶻ rise h d
             go (inl z) =
-                clash_ℤ flat.gains (gains-nowhere S' f cone' quadrant' spans' e' d
+                clash_ℤ flat.gains (gains-nowhere S' f rays' quadrant' spans' e' d
                 (for-extended S S' h ext (λ r. rise r d ≤ᶻ pos 0) flat.recedes z))
             go (inr p) = p
 
     open_step :
         (d : Ray) →
-        gaining f cone ≡ gain.Along d →
-        (g : Gain) →
-        gaining f cone' ≡ g →
-        BestStands t f S' cone' (reopened (gain_order f t) S h g)
-    open_step d e (gain.Along d') e' = (d', e')
-    open_step d e gain.Nowhere e' = (closing d e e', e')
+        gaining f rays ≡ Some d →
+        (g : Option Ray) →
+        gaining f rays' ≡ g →
+        BestStands t f S' rays' (reopened (gain_order f t) S h g)
+    open_step d e (Some d') e' = (d', e')
+    open_step d e None e' = (closing d e e', e')
 
     -- a bounded system stays bounded
-    still-nowhere : gaining f cone ≡ gain.Nowhere → (g : Gain) → gaining f cone' ≡ g → gaining f cone' ≡ gain.Nowhere
-    still-nowhere e (gain.Along d) e' =
-        clash_ℤ flat.gains (gains-nowhere S f cone standing.quadrant standing.spans e d (recedes-old d flat.recedes))
+    still-nowhere : gaining f rays ≡ None → (g : Option Ray) → gaining f rays' ≡ g → gaining f rays' ≡ None
+    still-nowhere e (Some d) e' =
+        clash_ℤ flat.gains (gains-nowhere S f rays standing.quadrant standing.spans e d (recedes-old d flat.recedes))
       where
         flat : Flattest S' f d
-        flat = gains-along S' f cone' quadrant' spans' d e'
-    still-nowhere e gain.Nowhere e' = e'
+        flat = gains-along S' f rays' quadrant' spans' d e'
+    still-nowhere e None e' = e'
 
     bounded-step :
         (v : Point) →
         Peak (Up (gain_order f t)) S v →
-        gaining f cone ≡ gain.Nowhere →
-        BestStands t f S' cone' (elim (keeps h v) [ true ↦ best.At v | false ↦ best.At (tightest_point (gain_order f t) S h) ])
+        gaining f rays ≡ None →
+        BestStands t f S' rays' (elim (keeps h v) [ true ↦ Some v | false ↦ Some (tightest_point (gain_order f t) S h) ])
     bounded-step v peak e = go (keeps h v) (λ u. le_z_yes u) (λ u. le_z_no u)
       where
-        nowhere : gaining f cone' ≡ gain.Nowhere
-        nowhere = still-nowhere e (gaining f cone') refl
+        nowhere : gaining f rays' ≡ None
+        nowhere = still-nowhere e (gaining f rays') refl
 
         go :
             (k : Bool) →
             (T k → Keeps h v) →
             (T (not k) → slack h v <ᶻ pos 0) →
-            BestStands t f S' cone' (elim k [ true ↦ best.At v | false ↦ best.At (tightest_point (gain_order f t) S h) ])
+            BestStands t f S' rays' (elim k [ true ↦ Some v | false ↦ Some (tightest_point (gain_order f t) S h) ])
         go true y n = (peak-stays S S' h ext (Up (gain_order f t)) v peak (y tt), nowhere)
         go false y n = (
           peak-moves S S' h ext (gain_order f t) (gain-upward t good f) v (pos_nn peak.feasible.proper) peak.feasible.kept
@@ -192,9 +189,9 @@ module _ (t : Tie) (good : GoodTie t) (f : Functional) (S : List Constraint) (h 
           nowhere,
         )
 
-    best-step : (b : Best) → BestStands t f S cone b → BestStands t f S' cone' (improved (gain_order f t) f S h cone' b)
-    best-step best.Open (d, e) = open_step d e (gaining f cone') refl
-    best-step (best.At v) (peak, e) = bounded-step v peak e
+    best-step : (b : Option Point) → BestStands t f S rays b → BestStands t f S' rays' (improved (gain_order f t) f S h rays' b)
+    best-step None (d, e) = open_step d e (gaining f rays') refl
+    best-step (Some v) (peak, e) = bounded-step v peak e
 
-    pub standing_step : Standing t f S' s' cone' (improved (gain_order f t) f S h cone' b)
+    pub standing_step : Standing t f S' s' rays' (improved (gain_order f t) f S h rays' b)
     standing_step = record { quadrant = quadrant'; start = start'; spans = spans'; optimum = best-step b standing.optimum }

@@ -1,5 +1,6 @@
 -- The start point along the walk: after each prefix it is the defined one, or none, its count is the defined one, and it is worked out
 -- again exactly as often as the count says. Where no rule breaks it, whatever stands in the place of the working out is never asked.
+use Rattle.std.specs.Prelude.{Option, Result, Ok, Err}
 use mathlib.Core.Path.{◌≡◌, refl, sym, ◌∙◌, ap, subst}
 use mathlib.Core.List.{List, [], ◌∷◌, ◌++◌, append-nil, append_assoc}
 use mathlib.Core.Bool.{Bool, true, false, not, true≢false}
@@ -22,10 +23,7 @@ use Rattle.lp.specs.Outcome.{keeps, decide}
 use Rattle.lp.specs.Outcome as defined
 use Rattle.lp.specs.Prefixes.{one_if, is_unbounded}
 use Rattle.lp.specs.Start.{Start, none, at, first_of, start_of, is_lost, restarts_from, restarts}
-use Rattle.model.specs.declared.Restart.{Restart}
-use Rattle.model.specs.declared.Restart.TheVariants.{Moved, Failed}
-use Rattle.model.specs.declared.Cone.{Cone}
-use Rattle.model.specs.declared.Best.{Best}
+use Rattle.lp.specs.declared.Certificate.{Certificate}
 use Rattle.model.specs.declared.State.{State}
 use Rattle.model.specs.declared.State.TheVariants.{Ended, Going}
 use Rattle.model.specs.declared.Walk.{Walk}
@@ -40,15 +38,15 @@ use Rattle.theory.proofs.Theorems.{FirstPoint}
 -- ---- how often the start point is worked out
 
 -- the step with r in the place of what `restart` gives
-abbrev pub stepped_with : Restart → Tie → Functional → List Constraint → ℕ → Constraint → ℕ → ℕ → ℕ → State → Walk
+abbrev pub stepped_with : Result Point Certificate → Tie → Functional → List Constraint → ℕ → Constraint → ℕ → ℕ → ℕ → State → Walk
 stepped_with r t f S n h moves opened restarts (Ended p c) =
     record { state = Ended p c; moves = moves; opened = opened; restarts = restarts }
-stepped_with r t f S n h moves opened restarts (Going s cone b) =
-    settled t f S n h cone b moves opened (recounted restarts h s) (elim (keeps h s) [ true ↦ Moved s | false ↦ r ])
+stepped_with r t f S n h moves opened restarts (Going s rays b) =
+    settled t f S n h rays b moves opened (recounted restarts h s) (elim (keeps h s) [ true ↦ Ok s | false ↦ r ])
 
 -- the walk with R in the place of `restart`
 abbrev pub walk_from_with :
-    (List Constraint → ℕ → Constraint → Restart) →
+    (List Constraint → ℕ → Constraint → Result Point Certificate) →
     Tie →
     Functional →
     List Constraint →
@@ -67,17 +65,18 @@ pub record Logged : Type 0 where
 
 -- the step with its uses of `restart` written down. Where the start point is kept (true) it goes by that one; else by what `restart`
 -- gives, and only there, beside it, stands a 1
-abbrev pub logged_settled : Tie → Functional → List Constraint → ℕ → Constraint → Cone → Best → ℕ → ℕ → ℕ → Point → Bool → Logged
-logged_settled t f S n h cone b moves opened restarts s true =
-    record { walk = settled t f S n h cone b moves opened restarts (Moved s); uses = 0 }
-logged_settled t f S n h cone b moves opened restarts s false =
-    record { walk = settled t f S n h cone b moves opened restarts (restart t S n h); uses = 1 }
+abbrev pub logged_settled :
+    Tie → Functional → List Constraint → ℕ → Constraint → Option (Ray × Ray) → Option Point → ℕ → ℕ → ℕ → Point → Bool → Logged
+logged_settled t f S n h rays b moves opened restarts s true =
+    record { walk = settled t f S n h rays b moves opened restarts (Ok s); uses = 0 }
+logged_settled t f S n h rays b moves opened restarts s false =
+    record { walk = settled t f S n h rays b moves opened restarts (restart t S n h); uses = 1 }
 
 abbrev pub logged_stepped : Tie → Functional → List Constraint → ℕ → Constraint → ℕ → ℕ → ℕ → State → Logged
 logged_stepped t f S n h moves opened restarts (Ended p c) =
     record { walk = record { state = Ended p c; moves = moves; opened = opened; restarts = restarts }; uses = 0 }
-logged_stepped t f S n h moves opened restarts (Going s cone b) =
-    logged_settled t f S n h cone b moves opened (recounted restarts h s) s (keeps h s)
+logged_stepped t f S n h moves opened restarts (Going s rays b) =
+    logged_settled t f S n h rays b moves opened (recounted restarts h s) s (keeps h s)
 
 abbrev pub logged_step : Tie → Functional → List Constraint → ℕ → Constraint → Walk → Logged
 logged_step t f S n h w = logged_stepped t f S n h w.moves w.opened w.restarts w.state
@@ -100,17 +99,17 @@ module _ (t : Tie) (f : Functional) where
   logged-step S n h w = go w.state
     where
       settle :
-          (k : ℕ) (s : Point) (cone : Cone) (b : Best) (u : Bool) →
-          (logged_settled t f S n h cone b w.moves w.opened k s u).walk
-          ≡ settled t f S n h cone b w.moves w.opened k (elim u [ true ↦ Moved s | false ↦ restart t S n h ])
-      settle k s cone b true = refl
-      settle k s cone b false = refl
+          (k : ℕ) (s : Point) (rays : Option (Ray × Ray)) (b : Option Point) (u : Bool) →
+          (logged_settled t f S n h rays b w.moves w.opened k s u).walk
+          ≡ settled t f S n h rays b w.moves w.opened k (elim u [ true ↦ Ok s | false ↦ restart t S n h ])
+      settle k s rays b true = refl
+      settle k s rays b false = refl
 
       go :
           (x : State) →
           (logged_stepped t f S n h w.moves w.opened w.restarts x).walk ≡ stepped t f S n h w.moves w.opened w.restarts x
       go (Ended p c) = refl
-      go (Going s cone b) = settle (recounted w.restarts h s) s cone b (keeps h s)
+      go (Going s rays b) = settle (recounted w.restarts h s) s rays b (keeps h s)
 
   pub logged_walk :
       (S : List Constraint) (n : ℕ) (rest : List Constraint) (w : Walk) →
@@ -127,14 +126,14 @@ module _ (t : Tie) (f : Functional) where
   used_if_lost S n h w = go w.state
     where
       once :
-          (k : ℕ) (s : Point) (cone : Cone) (b : Best) (u : Bool) →
-          (logged_settled t f S n h cone b w.moves w.opened k s u).uses ≡ one_if (not u)
-      once k s cone b true = refl
-      once k s cone b false = refl
+          (k : ℕ) (s : Point) (rays : Option (Ray × Ray)) (b : Option Point) (u : Bool) →
+          (logged_settled t f S n h rays b w.moves w.opened k s u).uses ≡ one_if (not u)
+      once k s rays b true = refl
+      once k s rays b false = refl
 
       go : (x : State) → (logged_stepped t f S n h w.moves w.opened w.restarts x).uses ≡ one_if (is_lost (start_held x) h)
       go (Ended p c) = refl
-      go (Going s cone b) = once (recounted w.restarts h s) s cone b (keeps h s)
+      go (Going s rays b) = once (recounted w.restarts h s) s rays b (keeps h s)
 
   workings-on :
       (S : List Constraint) (n : ℕ) (h : Constraint) (rest : List Constraint) (w : Walk) →
@@ -149,19 +148,19 @@ module _ (t : Tie) (f : Functional) where
       (S : List Constraint) (n : ℕ) (h : Constraint) (m o k : ℕ) (x : State) →
       stepped t f S n h m o k x ≡ stepped_with (restart t S n h) t f S n h m o k x
   stepped-is S n h m o k (Ended p c) = refl
-  stepped-is S n h m o k (Going s cone b) = refl
+  stepped-is S n h m o k (Going s rays b) = refl
 
   pub lost_worked_out :
-      (S : List Constraint) (n : ℕ) (h : Constraint) (m o k : ℕ) (s : Point) (cone : Cone) (b : Best) →
+      (S : List Constraint) (n : ℕ) (h : Constraint) (m o k : ℕ) (s : Point) (rays : Option (Ray × Ray)) (b : Option Point) →
       is_lost (at s) h ≡ true →
-      stepped t f S n h m o k (Going s cone b) ≡ settled t f S n h cone b m o (k + 1) (restart t S n h)
-  lost_worked_out S n h m o k s cone b = go (keeps h s)
+      stepped t f S n h m o k (Going s rays b) ≡ settled t f S n h rays b m o (k + 1) (restart t S n h)
+  lost_worked_out S n h m o k s rays b = go (keeps h s)
     where
       go :
           (u : Bool) →
           not u ≡ true →
-          settled t f S n h cone b m o (k + one_if (not u)) (elim u [ true ↦ Moved s | false ↦ restart t S n h ])
-          ≡ settled t f S n h cone b m o (k + 1) (restart t S n h)
+          settled t f S n h rays b m o (k + one_if (not u)) (elim u [ true ↦ Ok s | false ↦ restart t S n h ])
+          ≡ settled t f S n h rays b m o (k + 1) (restart t S n h)
       go true e = absurd (true≢false (sym e))
       go false e = refl
 
@@ -169,27 +168,27 @@ module _ (t : Tie) (f : Functional) where
   pub kept-not_worked_out :
       (S : List Constraint) (n : ℕ) (h : Constraint) (m o k : ℕ) (x : State) →
       is_lost (start_held x) h ≡ false →
-      (r : Restart) →
+      (r : Result Point Certificate) →
       stepped t f S n h m o k x ≡ stepped_with r t f S n h m o k x
   kept-not_worked_out S n h m o k (Ended p c) e r = refl
-  kept-not_worked_out S n h m o k (Going s cone b) e r = go (keeps h s) e
+  kept-not_worked_out S n h m o k (Going s rays b) e r = go (keeps h s) e
     where
       go :
           (u : Bool) →
           not u ≡ false →
-          settled t f S n h cone b m o (k + one_if (not u)) (elim u [ true ↦ Moved s | false ↦ restart t S n h ])
-          ≡ settled t f S n h cone b m o (k + one_if (not u)) (elim u [ true ↦ Moved s | false ↦ r ])
+          settled t f S n h rays b m o (k + one_if (not u)) (elim u [ true ↦ Ok s | false ↦ restart t S n h ])
+          ≡ settled t f S n h rays b m o (k + one_if (not u)) (elim u [ true ↦ Ok s | false ↦ r ])
       go true e = refl
       go false e = absurd (true≢false e)
 
   -- a step that keeps the start point has it as it was, and counts nothing
   pub kept-stays :
-      (S : List Constraint) (n : ℕ) (h : Constraint) (m o k : ℕ) (s : Point) (cone : Cone) (b : Best) →
+      (S : List Constraint) (n : ℕ) (h : Constraint) (m o k : ℕ) (s : Point) (rays : Option (Ray × Ray)) (b : Option Point) →
       keeps h s ≡ true →
-      stepped t f S n h m o k (Going s cone b) ≡ settled t f S n h cone b m o k (Moved s)
-  kept-stays S n h m o k s cone b e =
-      ap (λ u. settled t f S n h cone b m o (k + one_if (not u)) (elim u [ true ↦ Moved s | false ↦ restart t S n h ])) e
-      ∙ ap (λ (j : ℕ). settled t f S n h cone b m o j (Moved s)) (nothing-more k)
+      stepped t f S n h m o k (Going s rays b) ≡ settled t f S n h rays b m o k (Ok s)
+  kept-stays S n h m o k s rays b e =
+      ap (λ u. settled t f S n h rays b m o (k + one_if (not u)) (elim u [ true ↦ Ok s | false ↦ restart t S n h ])) e
+      ∙ ap (λ (j : ℕ). settled t f S n h rays b m o j (Ok s)) (nothing-more k)
     where
       nothing-more : (k : ℕ) → k + 0 ≡ k
       nothing-more k = omega arith
@@ -201,17 +200,17 @@ module _ (t : Tie) (f : Functional) where
   step_counts S n h w = go w.state
     where
       settle :
-          (s : Point) (cone : Cone) (b : Best) (r : Restart) →
-          (settled t f S n h cone b w.moves w.opened (recounted w.restarts h s) r).restarts ≡ recounted w.restarts h s
-      settle s cone b (Moved s') = refl
-      settle s cone b (Failed c) = refl
+          (s : Point) (rays : Option (Ray × Ray)) (b : Option Point) (r : Result Point Certificate) →
+          (settled t f S n h rays b w.moves w.opened (recounted w.restarts h s) r).restarts ≡ recounted w.restarts h s
+      settle s rays b (Ok s') = refl
+      settle s rays b (Err c) = refl
 
       nothing-more : (m : ℕ) → m ≡ m + 0
       nothing-more m = omega arith
 
       go : (x : State) → (stepped t f S n h w.moves w.opened w.restarts x).restarts ≡ w.restarts + one_if (is_lost (start_held x) h)
       go (Ended p c) = nothing-more w.restarts
-      go (Going s cone b) = settle s cone b (elim (keeps h s) [ true ↦ Moved s | false ↦ restart t S n h ])
+      go (Going s rays b) = settle s rays b (elim (keeps h s) [ true ↦ Ok s | false ↦ restart t S n h ])
 
   -- the count is how often `restart` is used
   pub worked_out_counted :
@@ -232,7 +231,7 @@ module _ (t : Tie) (f : Functional) where
 
   -- with no rule that breaks the start point, the walk is the same whatever stands in the place of `restart`: no pass is made for it
   pub never_worked_out :
-      (R : List Constraint → ℕ → Constraint → Restart) (S : List Constraint) (n : ℕ) (rest : List Constraint) (w : Walk) →
+      (R : List Constraint → ℕ → Constraint → Result Point Certificate) (S : List Constraint) (n : ℕ) (rest : List Constraint) (w : Walk) →
       workings t f S n rest w ≡ 0 →
       walk_from t f S n rest w ≡ walk_from_with R t f S n rest w
   never_worked_out R S n [] w e = refl
@@ -317,7 +316,7 @@ module _ (t : Tie) (good : GoodTie t) (floors : Floors) (f : Functional) where
   pub unbroken_never_worked_out :
       (rules : List Constraint) →
       restarts t floors rules ≡ 0 →
-      (R : List Constraint → ℕ → Constraint → Restart) →
+      (R : List Constraint → ℕ → Constraint → Result Point Certificate) →
       walk t floors f rules ≡ walk_from_with R t f (system floors []) 2 rules (begin floors f)
   unbroken_never_worked_out rules e R =
       never_worked_out t f R (system floors []) 2 rules (begin floors f) ((walk-starts rules).worked_out ∙ e)
@@ -344,11 +343,11 @@ module _ (t : Tie) (good : GoodTie t) (floors : Floors) (f : Functional) where
       where
         go : (x : State) → Stands t good floors f rules x → start_of t floors rules ≡ none → Infeasible (system floors rules)
         go (Ended p c) o e = over-infeasible t good floors f rules p c o
-        go (Going s cone b) standing e = absurd (none-not-at s (sym e ∙ sym (state_starts t good floors f rules (Going s cone b) standing)))
+        go (Going s rays b) standing e = absurd (none-not-at s (sym e ∙ sym (state_starts t good floors f rules (Going s rays b) standing)))
 
         back : (x : State) → Stands t good floors f rules x → Infeasible (system floors rules) → start_of t floors rules ≡ none
         back (Ended p c) o h = sym (state_starts t good floors f rules (Ended p c) o)
-        back (Going s cone b) standing h = absurd (h s standing.start.feasible)
+        back (Going s rays b) standing h = absurd (h s standing.start.feasible)
 
     -- else the allowed pair that is first by the tie, reduced
     pub at_first : (s : Point) → start_of t floors rules ≡ at s → FirstPoint t good floors f rules s
@@ -356,8 +355,8 @@ module _ (t : Tie) (good : GoodTie t) (floors : Floors) (f : Functional) where
       where
         go : (x : State) → Stands t good floors f rules x → start_of t floors rules ≡ at s → FirstPoint t good floors f rules s
         go (Ended p c) o e = absurd (none-not-at s (state_starts t good floors f rules (Ended p c) o ∙ e))
-        go (Going u cone b) standing e =
-            subst (FirstPoint t good floors f rules) (ap point-in (state_starts t good floors f rules (Going u cone b) standing ∙ e))
+        go (Going u rays b) standing e =
+            subst (FirstPoint t good floors f rules) (ap point-in (state_starts t good floors f rules (Going u rays b) standing ∙ e))
             (record {
               feasible = standing.start.feasible;
               first = standing.start.greatest;

@@ -1,5 +1,6 @@
 -- The theorems that docs/PROMISES.md cites, for every tie that serves, every floors, objective and list of constraints, over integers of
 -- any size.
+use Rattle.std.specs.Prelude.{Option, Some}
 use mathlib.Core.Path.{◌≡◌, refl, sym, ◌∙◌, ap, ap₂, subst}
 use mathlib.Core.List.Memᴰ
 use mathlib.Core.List.{List, [], ◌∷◌, ◌++◌, append-nil, append_assoc}
@@ -35,9 +36,6 @@ use Rattle.lp.specs.Prefixes.{one_if, is_infeasible, is_unbounded, is_broken, mo
 use Rattle.lp.specs.Certificate.{named}
 use Rattle.model.specs.declared.State.{State}
 use Rattle.model.specs.declared.State.TheVariants.{Ended, Going}
-use Rattle.model.specs.declared.Cone.{Cone}
-use Rattle.model.specs.declared.Cone.TheVariants.{Wedge}
-use Rattle.model.specs.declared.Best.{Best}
 use Rattle.model.specs.Step.{begin, walk, said, place_of, gaining, is_open, opening as first-best}
 use Rattle.theory.proofs.Solver.{equal, nn_by, pos-by, C, F, R, P, Z, riseᵖ, alongᵖ, crossᵖ, gainᵖ, betweenᵖ}
 use Rattle.theory.proofs.Direction.{AtMost, ray_path, times}
@@ -311,7 +309,7 @@ module _ (t : Tie) (good : GoodTie t) (floors : Floors) (f : Functional) where
         where
           below : (j : ℕ) → j < p → p ≤ length rules → j ≤ length rules
           below j h w = omega arith
-      go (Going s cone b) e standing = absurd (none s standing.start.feasible)
+      go (Going s rays b) e standing = absurd (none s standing.start.feasible)
 
   -- ---- 5. bounds of the counts
 
@@ -370,10 +368,10 @@ module _ (t : Tie) (good : GoodTie t) (floors : Floors) (f : Functional) where
       corner : Point
       corner = point floors.lx floors.ly (pos 1)
 
-      axes : Cone
-      axes = Wedge (ray (pos 1) (pos 0)) (ray (pos 0) (pos 1))
+      axes : Option (Ray × Ray)
+      axes = Some (ray (pos 1) (pos 0), ray (pos 0) (pos 1))
 
-      corner-best : Best
+      corner-best : Option Point
       corner-best = first-best f corner axes (gaining f axes)
 
       first : (n : ℕ) → 0 + n ≡ n

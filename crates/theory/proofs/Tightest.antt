@@ -1,4 +1,5 @@
 -- The scans of the model find what they are named for: the tightest point on a line, and the first entry that a point breaks.
+use Rattle.std.specs.Prelude.{Option, None, Some}
 use mathlib.Core.Path.{◌≡◌, refl, sym, subst}
 use mathlib.Core.List.Memᴰ
 use mathlib.Core.List.{List, [], ◌∷◌, Memᴰ}
@@ -15,11 +16,8 @@ use Rattle.lp.specs.declared.Constraint.{Constraint}
 use Rattle.lp.specs.declared.Point.{Point}
 use Rattle.lp.specs.Program.{slack, Keeps}
 use Rattle.lp.specs.Outcome.{det, meet, keeps}
-use Rattle.model.specs.declared.Found.{Found}
-use Rattle.model.specs.declared.Found.TheVariants as found
-use Rattle.model.specs.declared.Broken.{Broken}
-use Rattle.model.specs.declared.Broken.TheVariants as broken
-use Rattle.model.specs.Scan.{tighter, tightest, first_broken}
+use Rattle.model.specs.declared.Met.{Met}
+use Rattle.model.specs.Scan.{met, tighter, tightest, first_broken}
 use Rattle.theory.proofs.Lists.{At, at-member, for-members}
 use Rattle.theory.proofs.Line.{meet-on-first, nearer_keeps}
 use Rattle.theory.proofs.Step.{Tight}
@@ -32,9 +30,9 @@ pub record Nearest (l : Constraint) (Seen : Constraint → Type 0) (k : Constrai
   pub crosses : pos 0 <ᶻ det k l
   pub nearest : (m : Constraint) → Seen m → pos 0 <ᶻ det m l → Keeps m (meet k l)
 
-abbrev pub Scanned : Constraint → (Constraint → Type 0) → Found → Type 0
-Scanned l Seen found.Nothing = (m : Constraint) → Seen m → det m l ≤ᶻ pos 0
-Scanned l Seen (found.At j k p) = Nearest l Seen k p
+abbrev pub Scanned : Constraint → (Constraint → Type 0) → Option Met → Type 0
+Scanned l Seen None = (m : Constraint) → Seen m → det m l ≤ᶻ pos 0
+Scanned l Seen (Some found) = Nearest l Seen found.entry found.point
 
 module _ (l : Constraint) (Seen : Constraint → Type 0) (i : ℕ) (x : Constraint) where
   abbrev Seen' : Constraint → Type 0
@@ -47,8 +45,8 @@ module _ (l : Constraint) (Seen : Constraint → Type 0) (i : ℕ) (x : Constrai
       (b : Bool) →
       (T b → pos 0 <ᶻ det x l) →
       (T (not b) → det x l ≤ᶻ pos 0) →
-      Scanned l Seen found.Nothing →
-      Scanned l Seen' (elim b [ true ↦ found.At i x (meet x l) | false ↦ found.Nothing ])
+      Scanned l Seen None →
+      Scanned l Seen' (elim b [ true ↦ Some (met i x (meet x l)) | false ↦ None ])
   first_found true y n f =
       record { seen = inr refl; point = refl; crosses = y tt; nearest = λ m. ⊎_elim (λ s c. clash_ℤ c (f m s)) (λ e c. on-own-line m e) }
   first_found false y n f = λ m. ⊎_elim (f m) (λ e. subst (λ z. det z l ≤ᶻ pos 0) (sym e) (n tt))
@@ -82,30 +80,32 @@ module _ (l : Constraint) (Seen : Constraint → Type 0) (i : ℕ) (x : Constrai
         (T (not b) → det x l ≤ᶻ pos 0) →
         (T c → Keeps x p) →
         (T (not c) → slack x p <ᶻ pos 0) →
-        Scanned l Seen' (elim b [ true ↦ elim c [ true ↦ found.At j k p | false ↦ found.At i x (meet x l) ] | false ↦ found.At j k p ])
+        Scanned l Seen'
+        (elim b [ true ↦ elim c [ true ↦ Some (met j k p) | false ↦ Some (met i x (meet x l)) ] | false ↦ Some (met j k p) ])
     next-found true true yb nb yc nc = still-nearest (λ d. yc tt)
     next-found true false yb nb yc nc = now_nearest (yb tt) (nc tt)
     next-found false c yb nb yc nc = still-nearest (λ d. clash_ℤ d (nb tt))
 
-  tighter-scanned : (f : Found) → Scanned l Seen f → Scanned l Seen' (tighter l i x f)
-  tighter-scanned found.Nothing s = first_found (lt_z (pos 0) (det x l)) (λ t. lt_z_yes t) (λ t. lt_z_no t) s
-  tighter-scanned (found.At j k p) s =
-      next-found j k p s (lt_z (pos 0) (det x l)) (keeps x p) (λ t. lt_z_yes t) (λ t. lt_z_no t) (λ t. le_z_yes t) (λ t. le_z_no t)
+  tighter-scanned : (f : Option Met) → Scanned l Seen f → Scanned l Seen' (tighter l i x f)
+  tighter-scanned None s = first_found (lt_z (pos 0) (det x l)) (λ t. lt_z_yes t) (λ t. lt_z_no t) s
+  tighter-scanned (Some found) s =
+      next-found found.index found.entry found.point s (lt_z (pos 0) (det x l)) (keeps x found.point)
+      (λ t. lt_z_yes t) (λ t. lt_z_no t) (λ t. le_z_yes t) (λ t. le_z_no t)
 
 -- what was seen may be said in another way
 rescan :
     (l : Constraint) (Seen Seen' : Constraint → Type 0) →
     ((m : Constraint) → Seen m → Seen' m) →
     ((m : Constraint) → Seen' m → Seen m) →
-    (f : Found) →
+    (f : Option Met) →
     Scanned l Seen f →
     Scanned l Seen' f
-rescan l Seen Seen' to from found.Nothing s = λ m i. s m (from m i)
-rescan l Seen Seen' to from (found.At j k p) s =
-    record { seen = to k s.seen; point = s.point; crosses = s.crosses; nearest = λ m i. s.nearest m (from m i) }
+rescan l Seen Seen' to from None s = λ m i. s m (from m i)
+rescan l Seen Seen' to from (Some found) s =
+    record { seen = to found.entry s.seen; point = s.point; crosses = s.crosses; nearest = λ m i. s.nearest m (from m i) }
 
 pub tightest-scanned :
-    (l : Constraint) (Seen : Constraint → Type 0) (i : ℕ) (rest : List Constraint) (f : Found) →
+    (l : Constraint) (Seen : Constraint → Type 0) (i : ℕ) (rest : List Constraint) (f : Option Met) →
     Scanned l Seen f →
     Scanned l (λ m. Seen m ⊎ Memᴰ m rest) (tightest l i rest f)
 tightest-scanned l Seen i [] f s =
@@ -118,32 +118,32 @@ tightest-scanned l Seen i (x ∷ rest) f s =
     (tightest-scanned l (λ m. Seen m ⊎ (m ≡ x)) (suc i) rest (tighter l i x f) (tighter-scanned l Seen i x f s))
 
 -- over a whole system: either no entry is met along the line, or the tightest one is found
-abbrev pub Outcome_of_scan : List Constraint → Constraint → Found → Type 0
-Outcome_of_scan S l found.Nothing = (m : Constraint) → Memᴰ m S → det m l ≤ᶻ pos 0
-Outcome_of_scan S l (found.At j k p) = Tight S l k × (p ≡ meet k l) × At S j k
+abbrev pub Outcome_of_scan : List Constraint → Constraint → Option Met → Type 0
+Outcome_of_scan S l None = (m : Constraint) → Memᴰ m S → det m l ≤ᶻ pos 0
+Outcome_of_scan S l (Some found) = Tight S l found.entry × (found.point ≡ meet found.entry l) × At S found.index found.entry
 
 -- ---- indexes
 
-abbrev Indexed : List Constraint → Found → Type 0
-Indexed S found.Nothing = Unit {0}
-Indexed S (found.At j k p) = At S j k
+abbrev Indexed : List Constraint → Option Met → Type 0
+Indexed S None = Unit {0}
+Indexed S (Some found) = At S found.index found.entry
 
 tighter_indexed :
     (S : List Constraint) (l : Constraint) (i : ℕ) (x : Constraint) →
     At S i x →
-    (f : Found) →
+    (f : Option Met) →
     Indexed S f →
     Indexed S (tighter l i x f)
-tighter_indexed S l i x a found.Nothing s = go (lt_z (pos 0) (det x l))
+tighter_indexed S l i x a None s = go (lt_z (pos 0) (det x l))
   where
-    go : (b : Bool) → Indexed S (elim b [ true ↦ found.At i x (meet x l) | false ↦ found.Nothing ])
+    go : (b : Bool) → Indexed S (elim b [ true ↦ Some (met i x (meet x l)) | false ↦ None ])
     go true = a
     go false = tt
-tighter_indexed S l i x a (found.At j k p) s = go (lt_z (pos 0) (det x l)) (keeps x p)
+tighter_indexed S l i x a (Some found) s = go (lt_z (pos 0) (det x l)) (keeps x found.point)
   where
     go :
         (b c : Bool) →
-        Indexed S (elim b [ true ↦ elim c [ true ↦ found.At j k p | false ↦ found.At i x (meet x l) ] | false ↦ found.At j k p ])
+        Indexed S (elim b [ true ↦ elim c [ true ↦ Some found | false ↦ Some (met i x (meet x l)) ] | false ↦ Some found ])
     go true true = s
     go true false = a
     go false c = s
@@ -173,7 +173,7 @@ suffix_all S n x a = subst (λ k. At S k x) none a
 tightest_indexed :
     (S : List Constraint) (l : Constraint) (i : ℕ) (rest : List Constraint) →
     Suffix S i rest →
-    (f : Found) →
+    (f : Option Met) →
     Indexed S f →
     Indexed S (tightest l i rest f)
 tightest_indexed S l i [] suffix f s = s
@@ -181,24 +181,24 @@ tightest_indexed S l i (x ∷ rest) suffix f s =
     tightest_indexed S l (suc i) rest (suffix_tail S i x rest suffix) (tighter l i x f)
     (tighter_indexed S l i x (suffix_head S i x rest suffix) f s)
 
-pub scan_finds : (S : List Constraint) (l : Constraint) → Outcome_of_scan S l (tightest l 0 S found.Nothing)
+pub scan_finds : (S : List Constraint) (l : Constraint) → Outcome_of_scan S l (tightest l 0 S None)
 scan_finds S l =
-    go (tightest l 0 S found.Nothing) (tightest-scanned l (λ m. ⊥) 0 S found.Nothing (λ m e. absurd e))
-    (tightest_indexed S l 0 S (suffix_all S) found.Nothing tt)
+    go (tightest l 0 S None) (tightest-scanned l (λ m. ⊥) 0 S None (λ m e. absurd e))
+    (tightest_indexed S l 0 S (suffix_all S) None tt)
   where
-    go : (f : Found) → Scanned l (λ m. ⊥ ⊎ Memᴰ m S) f → Indexed S f → Outcome_of_scan S l f
-    go found.Nothing s a = λ m i. s m (inr i)
-    go (found.At j k p) s a = (
-      record { member = at-member S j k a; crosses = s.crosses; tightest = λ m i. s.nearest m (inr i) },
+    go : (f : Option Met) → Scanned l (λ m. ⊥ ⊎ Memᴰ m S) f → Indexed S f → Outcome_of_scan S l f
+    go None s a = λ m i. s m (inr i)
+    go (Some found) s a = (
+      record { member = at-member S found.index found.entry a; crosses = s.crosses; tightest = λ m i. s.nearest m (inr i) },
       s.point,
       a,
     )
 
 -- ---- the first entry that is broken
 
-abbrev pub Outcome_of_check : List Constraint → Point → List Constraint → Broken → Type 0
-Outcome_of_check S v rest broken.Nowhere = (m : Constraint) → Memᴰ m rest → Keeps m v
-Outcome_of_check S v rest (broken.At i m) = At S i m × (slack m v <ᶻ pos 0)
+abbrev pub Outcome_of_check : List Constraint → Point → List Constraint → Option (ℕ × Constraint) → Type 0
+Outcome_of_check S v rest None = (m : Constraint) → Memᴰ m rest → Keeps m v
+Outcome_of_check S v rest (Some (i, m)) = At S i m × (slack m v <ᶻ pos 0)
 
 check-from :
     (S : List Constraint) (v : Point) (i : ℕ) (rest : List Constraint) →
@@ -209,17 +209,17 @@ check-from S v i (x ∷ rest) suffix =
     go (keeps x v) (λ t. le_z_yes t) (λ t. le_z_no t) (first_broken v (suc i) rest)
     (check-from S v (suc i) rest (suffix_tail S i x rest suffix))
   where
-    passed : Keeps x v → (b : Broken) → Outcome_of_check S v rest b → Outcome_of_check S v (x ∷ rest) b
-    passed k broken.Nowhere f = for-members (λ m. Keeps m v) x rest k f
-    passed k (broken.At n m) f = f
+    passed : Keeps x v → (b : Option (ℕ × Constraint)) → Outcome_of_check S v rest b → Outcome_of_check S v (x ∷ rest) b
+    passed k None f = for-members (λ m. Keeps m v) x rest k f
+    passed k (Some (n, m)) f = f
 
     go :
         (c : Bool) →
         (T c → Keeps x v) →
         (T (not c) → slack x v <ᶻ pos 0) →
-        (b : Broken) →
+        (b : Option (ℕ × Constraint)) →
         Outcome_of_check S v rest b →
-        Outcome_of_check S v (x ∷ rest) (elim c [ true ↦ b | false ↦ broken.At i x ])
+        Outcome_of_check S v (x ∷ rest) (elim c [ true ↦ b | false ↦ Some (i, x) ])
     go true y n b f = passed (y tt) b f
     go false y n b f = (suffix_head S i x rest suffix, n tt)
 

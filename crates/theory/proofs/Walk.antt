@@ -1,4 +1,5 @@
 -- The walk is the definition: after every prefix its state says the defined outcome, and its place and counts are the defined ones.
+use Rattle.std.specs.Prelude.{Option, None, Some, Result, Ok, Err}
 use mathlib.Core.Path.{◌≡◌, refl, sym, ◌∙◌, ap, ap₂, subst}
 use mathlib.Core.List.Memᴰ
 use mathlib.Core.List.{List, [], ◌∷◌, ◌++◌, append-nil, append_assoc, Memᴰ}
@@ -20,13 +21,8 @@ use Rattle.lp.specs.Textbook.{Infeasible}
 use Rattle.lp.specs.Outcome.{keeps, reduce_ray, tie_order, gain_order, decide, outcome_of}
 use Rattle.lp.specs.Outcome as defined
 use Rattle.lp.specs.Prefixes.{one_if, is_infeasible, is_unbounded, is_broken, moves_from, open_from}
-use Rattle.lp.specs.Start.{none, at, first_of, start_in, start_of, is_lost, restarts_from}
+use Rattle.lp.specs.Start.{at, first_of, start_in, start_of, is_lost, restarts_from}
 use Rattle.lp.specs.Certificate.{named}
-use Rattle.model.specs.declared.Restart.{Restart}
-use Rattle.model.specs.declared.Restart.TheVariants.{Moved, Failed}
-use Rattle.model.specs.declared.Cone.{Cone}
-use Rattle.model.specs.declared.Best.{Best}
-use Rattle.model.specs.declared.Best.TheVariants as best
 use Rattle.model.specs.declared.State.{State}
 use Rattle.model.specs.declared.State.TheVariants.{Ended, Going}
 use Rattle.model.specs.declared.Walk.{Walk}
@@ -54,7 +50,7 @@ pub record Over (floors : Floors) (done : List Constraint) (p : ℕ) (c : Certif
 module _ (t : Tie) (good : GoodTie t) (floors : Floors) (f : Functional) where
   abbrev pub Stands : List Constraint → State → Type 0
   Stands done (Ended p c) = Over floors done p c
-  Stands done (Going s cone b) = Standing t f (system floors done) s cone b
+  Stands done (Going s rays b) = Standing t f (system floors done) s rays b
 
   -- ---- it says the defined outcome
 
@@ -92,42 +88,44 @@ module _ (t : Tie) (good : GoodTie t) (floors : Floors) (f : Functional) where
   said-infeasible S h = ap (λ l. decide t f l (lawful_rays S f)) (none_allowed S h)
 
   said_standing :
-      (S : List Constraint) (s : Point) (cone : Cone) (b : Best) →
-      Standing t f S s cone b →
-      said f (Going s cone b) ≡ outcome_of t f S
-  said_standing S s cone b standing = go (allowed_vertices S) refl b standing.optimum
+      (S : List Constraint) (s : Point) (rays : Option (Ray × Ray)) (b : Option Point) →
+      Standing t f S s rays b →
+      said f (Going s rays b) ≡ outcome_of t f S
+  said_standing S s rays b standing = go (allowed_vertices S) refl b standing.optimum
     where
       open_said :
           (v : Point) (vs : List Point) →
           allowed_vertices S ≡ v ∷ vs →
           (d : Ray) →
           Flattest S f d →
-          (rays : List Ray) →
-          lawful_rays S f ≡ rays →
-          outcome.Unbounded s (reduce_ray d) ≡ decide t f (v ∷ vs) rays
+          (lawful : List Ray) →
+          lawful_rays S f ≡ lawful →
+          outcome.Unbounded s (reduce_ray d) ≡ decide t f (v ∷ vs) lawful
       open_said v vs e d flat [] r = absurd (Memᴰ.not-nil (subst (λ l. Memᴰ d l) r (flattest-listed S f d flat)))
       open_said v vs e d flat (x ∷ xs) r =
           ap₂ (λ y z. outcome.Unbounded y z) (sym (peak-picked S (tie_order t) (tie-upward t good) s standing.start v vs e))
           (sym (flattest-picked S f standing.quadrant d flat x xs r))
 
-      go : (l : List Point) → allowed_vertices S ≡ l → (b : Best) → BestStands t f S cone b → said f (Going s cone b) ≡ outcome_of t f S
+      go :
+          (l : List Point) → allowed_vertices S ≡ l → (b : Option Point) → BestStands t f S rays b →
+          said f (Going s rays b) ≡ outcome_of t f S
       go [] e b o =
           absurd (Memᴰ.not-nil
           (subst (λ l. Memᴰ s l) e (feasible-listed S s standing.start.vertex standing.start.feasible)))
-      go (v ∷ vs) e best.Open (d, g) =
+      go (v ∷ vs) e None (d, g) =
           ap (said_ray s) g
-          ∙ open_said v vs e d (gains-along S f cone standing.quadrant standing.spans d g) (lawful_rays S f) refl
+          ∙ open_said v vs e d (gains-along S f rays standing.quadrant standing.spans d g) (lawful_rays S f) refl
           ∙ ap (λ l. decide t f l (lawful_rays S f)) (sym e)
-      go (v ∷ vs) e (best.At w) (peak, g) =
+      go (v ∷ vs) e (Some w) (peak, g) =
           ap (λ z. outcome.Optimal z) (sym (peak-picked S (gain_order f t) (gain-upward t good f) w peak v vs e))
-          ∙ sym (ap₂ (λ l m. decide t f l m) e (no_lawful_rays S f (gains-nowhere S f cone standing.quadrant standing.spans g)))
+          ∙ sym (ap₂ (λ l m. decide t f l m) e (no_lawful_rays S f (gains-nowhere S f rays standing.quadrant standing.spans g)))
 
   pub state_says :
       (done : List Constraint) (x : State) →
       Stands done x →
       said f x ≡ defined.outcome t floors f done
   state_says done (Ended p c) o = sym (said-infeasible (system floors done) (over-infeasible done p c o))
-  state_says done (Going s cone b) standing = said_standing (system floors done) s cone b standing
+  state_says done (Going s rays b) standing = said_standing (system floors done) s rays b standing
 
   -- ---- and it holds the defined start point
 
@@ -143,7 +141,7 @@ module _ (t : Tie) (good : GoodTie t) (floors : Floors) (f : Functional) where
       Stands done x →
       start_held x ≡ start_of t floors done
   state_starts done (Ended p c) o = sym (ap (first_of t) (none_allowed (system floors done) (over-infeasible done p c o)))
-  state_starts done (Going s cone b) standing = start_standing (system floors done) s standing.start
+  state_starts done (Going s rays b) standing = start_standing (system floors done) s standing.start
 
   -- ---- one more constraint
 
@@ -179,15 +177,15 @@ module _ (t : Tie) (good : GoodTie t) (floors : Floors) (f : Functional) where
   stands-step done h w = go w.state
     where
       settle :
-          (s : Point) (cone : Cone) (b : Best) →
-          Standing t f (system floors done) s cone b →
-          (r : Restart) →
+          (s : Point) (rays : Option (Ray × Ray)) (b : Option Point) →
+          Standing t f (system floors done) s rays b →
+          (r : Result Point Certificate) →
           Restarted t (system floors done ++ (h ∷ [])) r →
           Stands (done ++ (h ∷ []))
-          (settled t f (system floors done) (length (system floors done)) h cone b w.moves w.opened (recounted w.restarts h s)
+          (settled t f (system floors done) (length (system floors done)) h rays b w.moves w.opened (recounted w.restarts h s)
           r).state
-      settle s cone b standing (Moved s') peak = standing_step t good f (system floors done) h s cone b standing s' peak
-      settle s cone b standing (Failed c) o = over_now done h c o
+      settle s rays b standing (Ok s') peak = standing_step t good f (system floors done) h s rays b standing s' peak
+      settle s rays b standing (Err c) o = over_now done h c o
 
       go :
           (x : State) →
@@ -195,38 +193,38 @@ module _ (t : Tie) (good : GoodTie t) (floors : Floors) (f : Functional) where
           Stands (done ++ (h ∷ []))
           (stepped t f (system floors done) (length (system floors done)) h w.moves w.opened w.restarts x).state
       go (Ended p c) o = over-longer done h p c o
-      go (Going s cone b) standing =
-          settle s cone b standing (elim (keeps h s)
-          [ true ↦ Moved s | false ↦ restart t (system floors done) (length (system floors done)) h ])
-          (start-step t good f (system floors done) h s cone b standing)
+      go (Going s rays b) standing =
+          settle s rays b standing (elim (keeps h s)
+          [ true ↦ Ok s | false ↦ restart t (system floors done) (length (system floors done)) h ])
+          (start-step t good f (system floors done) h s rays b standing)
 
   -- ---- counts of one step
 
   -- what is asked of the outcome is known of the state
   broken-by_state :
-      (S : List Constraint) (h : Constraint) (s : Point) (cone : Cone) (b : Best) →
-      BestStands t f S cone b →
-      is_broken (said f (Going s cone b)) h ≡ breaks h b
-  broken-by_state S h s cone best.Open (d, e) = ap (λ g. is_broken (said_ray s g) h) e
-  broken-by_state S h s cone (best.At v) o = flip (keeps h v)
+      (S : List Constraint) (h : Constraint) (s : Point) (rays : Option (Ray × Ray)) (b : Option Point) →
+      BestStands t f S rays b →
+      is_broken (said f (Going s rays b)) h ≡ breaks h b
+  broken-by_state S h s rays None (d, e) = ap (λ g. is_broken (said_ray s g) h) e
+  broken-by_state S h s rays (Some v) o = flip (keeps h v)
     where
       flip : (k : Bool) → not k ≡ elim k [ true ↦ false | false ↦ true ]
       flip true = refl
       flip false = refl
 
   pub open_by_state :
-      (S : List Constraint) (s : Point) (cone : Cone) (b : Best) →
-      BestStands t f S cone b →
-      is_unbounded (said f (Going s cone b)) ≡ is_open b
-  open_by_state S s cone best.Open (d, e) = ap (λ g. is_unbounded (said_ray s g)) e
-  open_by_state S s cone (best.At v) o = refl
+      (S : List Constraint) (s : Point) (rays : Option (Ray × Ray)) (b : Option Point) →
+      BestStands t f S rays b →
+      is_unbounded (said f (Going s rays b)) ≡ is_open b
+  open_by_state S s rays None (d, e) = ap (λ g. is_unbounded (said_ray s g)) e
+  open_by_state S s rays (Some v) o = refl
 
   pub feasible-by_state :
-      (S : List Constraint) (s : Point) (cone : Cone) (b : Best) →
-      BestStands t f S cone b →
-      is_infeasible (said f (Going s cone b)) ≡ false
-  feasible-by_state S s cone best.Open (d, e) = ap (λ g. is_infeasible (said_ray s g)) e
-  feasible-by_state S s cone (best.At v) o = refl
+      (S : List Constraint) (s : Point) (rays : Option (Ray × Ray)) (b : Option Point) →
+      BestStands t f S rays b →
+      is_infeasible (said f (Going s rays b)) ≡ false
+  feasible-by_state S s rays None (d, e) = ap (λ g. is_infeasible (said_ray s g)) e
+  feasible-by_state S s rays (Some v) o = refl
 
   module _ (done : List Constraint) (h : Constraint) (w : Walk) where
     abbrev next : Walk
@@ -236,11 +234,11 @@ module _ (t : Tie) (good : GoodTie t) (floors : Floors) (f : Functional) where
     step-moves stands = go w.state stands
       where
         settle :
-            (s : Point) (cone : Cone) (b : Best) (r : Restart) →
-            (settled t f (system floors done) (length (system floors done)) h cone b w.moves w.opened (recounted w.restarts h
+            (s : Point) (rays : Option (Ray × Ray)) (b : Option Point) (r : Result Point Certificate) →
+            (settled t f (system floors done) (length (system floors done)) h rays b w.moves w.opened (recounted w.restarts h
             s) r).moves ≡ w.moves + one_if (breaks h b)
-        settle s cone b (Moved s') = refl
-        settle s cone b (Failed c) = refl
+        settle s rays b (Ok s') = refl
+        settle s rays b (Err c) = refl
 
         go :
             (x : State) →
@@ -252,10 +250,10 @@ module _ (t : Tie) (good : GoodTie t) (floors : Floors) (f : Functional) where
           where
             nothing-more : (m : ℕ) → m ≡ m + 0
             nothing-more m = omega arith
-        go (Going s cone b) standing =
-            settle s cone b (elim (keeps h s) [ true ↦ Moved s | false ↦ restart t (system floors done) (length (system floors done)) h ])
-            ∙ ap (λ z. w.moves + one_if z) (sym (broken-by_state (system floors done) h s cone b standing.optimum)
-            ∙ ap (λ z. is_broken z h) (state_says done (Going s cone b) standing))
+        go (Going s rays b) standing =
+            settle s rays b (elim (keeps h s) [ true ↦ Ok s | false ↦ restart t (system floors done) (length (system floors done)) h ])
+            ∙ ap (λ z. w.moves + one_if z) (sym (broken-by_state (system floors done) h s rays b standing.optimum)
+            ∙ ap (λ z. is_broken z h) (state_says done (Going s rays b) standing))
 
     step-opened : Stands done w.state → next.opened ≡ w.opened + one_if (is_unbounded (defined.outcome t floors f (done ++ (h ∷ []))))
     step-opened stands =
@@ -266,20 +264,20 @@ module _ (t : Tie) (good : GoodTie t) (floors : Floors) (f : Functional) where
         none m = omega arith
 
         settle :
-            (s : Point) (cone : Cone) (b : Best) →
-            Standing t f (system floors done) s cone b →
-            (r : Restart) →
+            (s : Point) (rays : Option (Ray × Ray)) (b : Option Point) →
+            Standing t f (system floors done) s rays b →
+            (r : Result Point Certificate) →
             Restarted t (system floors done ++ (h ∷ [])) r →
-            (settled t f (system floors done) (length (system floors done)) h cone b w.moves w.opened (recounted w.restarts h
+            (settled t f (system floors done) (length (system floors done)) h rays b w.moves w.opened (recounted w.restarts h
             s) r).opened ≡ w.opened + one_if (is_unbounded
-            (said f (settled t f (system floors done) (length (system floors done)) h cone b w.moves w.opened
+            (said f (settled t f (system floors done) (length (system floors done)) h rays b w.moves w.opened
             (recounted w.restarts h s) r).state))
-        settle s cone b standing (Moved s') peak =
+        settle s rays b standing (Ok s') peak =
             ap (λ z. w.opened + one_if z)
-            (sym (open_by_state (system floors done ++ (h ∷ [])) s' (narrow h cone)
-            (improved (gain_order f t) f (system floors done) h (narrow h cone) b)
-            (standing_step t good f (system floors done) h s cone b standing s' peak).optimum))
-        settle s cone b standing (Failed c) o = none w.opened
+            (sym (open_by_state (system floors done ++ (h ∷ [])) s' (narrow h rays)
+            (improved (gain_order f t) f (system floors done) h (narrow h rays) b)
+            (standing_step t good f (system floors done) h s rays b standing s' peak).optimum))
+        settle s rays b standing (Err c) o = none w.opened
 
         go :
             (x : State) →
@@ -288,10 +286,10 @@ module _ (t : Tie) (good : GoodTie t) (floors : Floors) (f : Functional) where
             ≡ w.opened + one_if (is_unbounded
             (said f (stepped t f (system floors done) (length (system floors done)) h w.moves w.opened w.restarts x).state))
         go (Ended p c) o = none w.opened
-        go (Going s cone b) standing =
-            settle s cone b standing (elim (keeps h s)
-            [ true ↦ Moved s | false ↦ restart t (system floors done) (length (system floors done)) h ])
-            (start-step t good f (system floors done) h s cone b standing)
+        go (Going s rays b) standing =
+            settle s rays b standing (elim (keeps h s)
+            [ true ↦ Ok s | false ↦ restart t (system floors done) (length (system floors done)) h ])
+            (start-step t good f (system floors done) h s rays b standing)
 
     -- the start point is counted where it is lost
     step-restarts : Stands done w.state → next.restarts ≡ w.restarts + one_if (is_lost (start_of t floors done) h)
@@ -301,19 +299,19 @@ module _ (t : Tie) (good : GoodTie t) (floors : Floors) (f : Functional) where
         nothing-more m = omega arith
 
         settle :
-            (s : Point) (cone : Cone) (b : Best) (r : Restart) →
-            (settled t f (system floors done) (length (system floors done)) h cone b w.moves w.opened (recounted w.restarts h
+            (s : Point) (rays : Option (Ray × Ray)) (b : Option Point) (r : Result Point Certificate) →
+            (settled t f (system floors done) (length (system floors done)) h rays b w.moves w.opened (recounted w.restarts h
             s) r).restarts ≡ recounted w.restarts h s
-        settle s cone b (Moved s') = refl
-        settle s cone b (Failed c) = refl
+        settle s rays b (Ok s') = refl
+        settle s rays b (Err c) = refl
 
         go :
             (x : State) →
             (stepped t f (system floors done) (length (system floors done)) h w.moves w.opened w.restarts x).restarts
             ≡ w.restarts + one_if (is_lost (start_held x) h)
         go (Ended p c) = nothing-more w.restarts
-        go (Going s cone b) =
-            settle s cone b (elim (keeps h s) [ true ↦ Moved s | false ↦ restart t (system floors done) (length (system floors done)) h ])
+        go (Going s rays b) =
+            settle s rays b (elim (keeps h s) [ true ↦ Ok s | false ↦ restart t (system floors done) (length (system floors done)) h ])
 
   -- ---- the whole walk
 

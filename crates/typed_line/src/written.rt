@@ -25,8 +25,11 @@ fn append_typed(t: Typed, out: &mut [u8]) -> usize
     ensures { Appended out.old 0 (typed_fields t) 88 out.new result }
 {
     match t {
-        Typed::Rule(w) => append_rule(w, out),
-        Typed::Refused(refusal) => append_refused(refusal.number, refusal.at, out, 0),
+        Ok(w) => append_rule(w, out),
+        Err(flaw) => {
+            let refusal = flaw.refusal();
+            append_refused(refusal.number, refusal.at, out, 0)
+        }
     }
 }
 

@@ -1,31 +1,14 @@
--- Bytes of a text, spaces and digits: what the loops of tokens.rt keep, and numbers that stop growing beyond the limit.
+-- Bytes of a text and spaces: what the loop of tokens.rt keeps.
 use mathlib.Core.Path.{◌≡◌, refl, ap, sym, ◌∙◌}
-use mathlib.Core.Bool.{Bool, true, false, cond, ◌&&◌}
-use mathlib.Core.List.{List, [], ◌∷◌}
-use Prim.Native.Nat.{ℕ, ◌+◌, ◌*◌, ◌-◌, ◌≤◌, ◌<◌}
-use native.Mathlib.Numerals.{add-one}
+use mathlib.Core.List.{List, ◌∷◌}
+use Prim.Native.Nat.{ℕ, ◌+◌, ◌≤◌, ◌<◌}
 use native.Mathlib.Omega.{arith}
-use lib.Dec.{leb}
 use lib.ListN.{length, drop, get_or, drop_of_length-le}
-use lib.Seq.{drop-cons}
-use borrow.Author.Tests.{leb-true, leb-false, lt-leb, eq-eqb, ne_eqb}
-use Rattle.forms.specs.declared.Value.TheVariants.{Beyond}
-use Rattle.text.specs.Number.{value_from}
-use Rattle.forms.specs.Value.{limit, numeral}
-use Rattle.language.specs.Parser.{first, tail, digit, skip, run, past}
-use Rattle.typed_rules.specs.Limits.{grown, capped}
-use Rattle.typed_rules.specs.Promises.{Skips, Lexes, Runs}
+use borrow.Author.Tests.{eq-eqb, ne_eqb}
+use Rattle.language.specs.Parser.{first, tail, skip}
 use Rattle.language.proofs.Spaces.{skip_nil}
-use Rattle.language.proofs.Digits.{run-digit, past-digit, run-other, past-other, run_none, past-none}
-
-pub here : (s : List ℕ) (i : ℕ) → i < length s → drop i s ≡ get_or s i 0 ∷ drop (i + 1) s
-here s i h = drop-cons s i 0 h ∙ ap (λ (k : ℕ). get_or s i 0 ∷ drop k s) (sym (add-one i))
-
-pub first-here : (s : List ℕ) (i : ℕ) → i < length s → get_or s i 0 ≡ first (drop i s)
-first-here s i h = sym (ap first (here s i h))
-
-pub first-end : (s : List ℕ) (i : ℕ) → length s ≤ i → 0 ≡ first (drop i s)
-first-end s i h = sym (ap first (drop_of_length-le s h))
+use Rattle.scanning.proofs.Places.{here, first-here, first-end}
+use Rattle.typed_rules.specs.Promises.{Skips, Lexes}
 
 -- ---- spaces
 
@@ -69,12 +52,14 @@ skip_stop s at i h e k =
       high = k.high;
     }
 
-pub skip-end : (s : List ℕ) (at i : ℕ) → length s ≤ i → Skipping s at i → Skips s at i
+pub skip-end : (s : List ℕ) (at i : ℕ) → length s ≤ i → Skipping s at i → Skips s at (length s)
 skip-end s at i h k =
     record {
-      same = drop_of_length-le s h ∙ sym skip_nil ∙ sym (ap skip (drop_of_length-le s h)) ∙ k.same;
-      low = k.low;
-      high = k.high;
+      same =
+          drop_of_length-le s {i = length s} (omega arith)
+          ∙ sym skip_nil ∙ sym (ap skip (drop_of_length-le s h)) ∙ k.same;
+      low = omega (arith, k.low, k.high);
+      high = omega arith;
     }
 
 -- ---- the next item
@@ -108,96 +93,3 @@ lex-end s at start h k =
       high = k.high;
       falls = λ z. absurd (omega (arith, z));
     }
-
--- ---- numbers that stop growing
-
-value_from-beyond : (n : ℕ) (s : List ℕ) → limit < n → numeral (value_from n s) ≡ Beyond 15
-unfolding numeral value_from
-value_from-beyond n [] h = rw (lt-leb n limit h)
-value_from-beyond n (d ∷ s) h = value_from-beyond (n * 10 + (d - 48)) s (omega arith)
-
-capped-beyond : (n : ℕ) (s : List ℕ) → limit < n → numeral (capped n s) ≡ Beyond 15
-unfolding numeral capped
-capped-beyond n [] h = rw (lt-leb n limit h)
-capped-beyond n (d ∷ s) h =
-    ap (λ m. numeral (capped m s)) (ap (λ t. cond t (n * 10 + (d - 48)) n) (lt-leb n limit h)) ∙ capped-beyond n s h
-
-pub capped-numeral : (n : ℕ) (s : List ℕ) → numeral (capped n s) ≡ numeral (value_from n s)
-unfolding value_from capped
-capped-numeral n [] = refl
-capped-numeral n (d ∷ s) = go (leb n limit) refl (capped-numeral (n * 10 + (d - 48)) s)
-  where
-    go : (t : Bool) →
-        leb n limit ≡ t →
-        numeral (capped (n * 10 + (d - 48)) s) ≡ numeral (value_from (n * 10 + (d - 48)) s) →
-        numeral (capped (cond t (n * 10 + (d - 48)) n) s) ≡ numeral (value_from (n * 10 + (d - 48)) s)
-    go true e h = h
-    go false e h =
-        let k = leb-false n limit e in
-        capped-beyond n s k ∙ sym (value_from-beyond (n * 10 + (d - 48)) s (omega (arith, k)))
-
--- ---- digits
-
-pub record Running (text : List ℕ) (at number i : ℕ) : Type 0 where
-  pub same : capped number (run (drop i text)) ≡ capped 0 (run (drop at text))
-  pub goes_on : past (drop i text) ≡ past (drop at text)
-  pub count : i + length (run (drop i text)) ≡ at + length (run (drop at text))
-  pub high : i ≤ length text
-
-pub run-start : (s : List ℕ) (at : ℕ) → at ≤ length s → Running s at 0 at
-run-start s at h = record { same = refl; goes_on = refl; count = refl; high = h }
-
-capped_cons : (n d : ℕ) (s : List ℕ) → capped n (d ∷ s) ≡ capped (grown n d) s
-unfolding capped
-capped_cons n d s = refl
-
-capped-none : (n : ℕ) → capped n [] ≡ n
-unfolding capped
-capped-none n = refl
-
-pub run_more : (s : List ℕ) (at number i m : ℕ) →
-    i < length s →
-    digit (get_or s i 0) ≡ true →
-    m ≡ grown number (get_or s i 0) →
-    Running s at number i →
-    Running s at m (i + 1)
-run_more s at number i m h t e k =
-    let r : run (drop i s) ≡ get_or s i 0 ∷ run (drop (i + 1) s) = ap run (here s i h) ∙ run-digit (get_or s i 0) (drop (i + 1) s) t in
-    record {
-      same =
-          ap (λ (n : ℕ). capped n (run (drop (i + 1) s))) e ∙ sym (capped_cons number (get_or s i 0) (run (drop (i + 1) s)))
-          ∙ sym (ap (capped number) r) ∙ k.same;
-      goes_on = sym (past-digit (get_or s i 0) (drop (i + 1) s) t) ∙ sym (ap past (here s i h)) ∙ k.goes_on;
-      count = omega (arith, ap length r, k.count);
-      high = omega arith;
-    }
-
-stopped : (s : List ℕ) (at number i : ℕ) →
-    run (drop i s) ≡ [] →
-    past (drop i s) ≡ drop i s →
-    Running s at number i →
-    Runs s at (record { number = number; end = i })
-stopped s at number i r p k =
-    record {
-      same = ap numeral (sym (capped-none number) ∙ sym (ap (capped number) r) ∙ k.same) ∙ capped-numeral 0 (run (drop at s));
-      goes_on = sym p ∙ k.goes_on;
-      count = omega (arith, ap length r, k.count);
-      high = k.high;
-    }
-
-pub run-stop : (s : List ℕ) (at number i : ℕ) →
-    i < length s →
-    digit (get_or s i 0) ≡ false →
-    Running s at number i →
-    Runs s at (record { number = number; end = i })
-run-stop s at number i h t k =
-    stopped s at number i (ap run (here s i h) ∙ run-other (get_or s i 0) (drop (i + 1) s) t)
-    (ap past (here s i h) ∙ past-other (get_or s i 0) (drop (i + 1) s) t ∙ sym (here s i h)) k
-
-pub run_end : (s : List ℕ) (at number i : ℕ) →
-    length s ≤ i →
-    Running s at number i →
-    Runs s at (record { number = number; end = i })
-run_end s at number i h k =
-    stopped s at number i (ap run (drop_of_length-le s h) ∙ run_none)
-    (ap past (drop_of_length-le s h) ∙ past-none ∙ sym (drop_of_length-le s h)) k

@@ -5,12 +5,11 @@ use mathlib.Core.List.{List}
 use Prim.Native.Nat.{ℕ, zero, suc, ◌<◌}
 use native.Mathlib.Omega.{arith}
 use lib.ListN.{drop}
-use Rattle.forms.specs.declared.Value.{Value}
 use Rattle.typed_rules.specs.declared.Lexed.{Lexed}
-use Rattle.typed_rules.specs.declared.Step.{Step}
-use Rattle.typed_rules.specs.declared.Step.TheVariants.{Got, Fail}
+use Rattle.std.specs.Prelude.{Some, None}
+use Rattle.forms.specs.Value.{Value}
 use Rattle.language.specs.Parser.{Parsed, fail, got, bind, lead}
-use Rattle.typed_rules.specs.Promises.{Lexes, valued, view, Reached, Enough, ReadsPart, Follows, ReadsOn, ReadsFactors, ReadsTerms}
+use Rattle.typed_rules.specs.Promises.{Step, Lexes, valued, view, Reached, Enough, ReadsPart, Follows, ReadsOn, ReadsFactors, ReadsTerms}
 use Rattle.language.proofs.Steps.{factors-end, terms-end}
 use Rattle.language.proofs.Chain.{Chain, Begins, Joins, terms, sides}
 use Rattle.typed_rules.proofs.Parsed.{inv_got, inv_fail}
@@ -30,7 +29,7 @@ ReadsMore c text at depth v r = ReadsOn c.worth-whole c.more text at depth v r
 
 module _ {A B : Type 0} {c : Chain A B} (o : Begins c) {text : List ℕ} {at depth : ℕ} {s : Step} where
   pub reads_whole : {r : Step} {v : Value} {n : ℕ} →
-      s ≡ Got v n →
+      s ≡ Some (v, n) →
       ReadsItem c text at depth s →
       ReadsMore c text n depth v r →
       ReadsWhole c text at depth r
@@ -46,7 +45,7 @@ module _ {A B : Type 0} {c : Chain A B} (o : Begins c) {text : List ℕ} {at dep
           (o.step k depth (drop at text) ∙ ap (λ (z : Parsed A). bind z (λ a w. c.more k depth (c.one a) w)) q.1)
           ∙ g.same k (omega (arith, h, p.low, p.high)) (c.one q.0) (o.worth q.0 ∙ q.2)
 
-  pub whole_fails : s ≡ Fail → ReadsItem c text at depth s → ReadsWhole c text at depth Fail
+  pub whole_fails : s ≡ None → ReadsItem c text at depth s → ReadsWhole c text at depth None
   whole_fails e f = record { same = same; moved = tt }
     where
       same : (k : ℕ) → Enough text at (suc c.extra) k → valued c.worth-whole (c.whole_by k depth (drop at text)) ≡ fail
@@ -74,7 +73,7 @@ module _ {A B : Type 0} {c : Chain A B} {byte : ℕ} {join : B → ℕ → A →
   item-fuel k h = spent text at l.next c.extra k falls x.high (omega (arith, j.few)) h
 
   pub reads-joined : {depth : ℕ} {s r : Step} {v w u : Value} {n : ℕ} →
-      s ≡ Got w n →
+      s ≡ Some (w, n) →
       ReadsItem c text l.next depth s →
       u ≡ op v w →
       ReadsMore c text n depth u r →
@@ -99,9 +98,9 @@ module _ {A B : Type 0} {c : Chain A B} {byte : ℕ} {join : B → ℕ → A →
           (j.worth t i q.0 ∙ ap (λ (o : Value). op o (c.worth-item q.0)) z ∙ ap (op v) q.2 ∙ sym y)
 
   pub joined_fails : {depth : ℕ} {s : Step} {v : Value} →
-      s ≡ Fail →
+      s ≡ None →
       ReadsItem c text l.next depth s →
-      ReadsMore c text at depth v Fail
+      ReadsMore c text at depth v None
   joined_fails {depth} {v = v} e f = record { same = same; moved = tt }
     where
       same : (k : ℕ) →
@@ -120,7 +119,7 @@ module _ {A B : Type 0} {c : Chain A B} {byte : ℕ} {join : B → ℕ → A →
 stops : {A B : Type 0} (c : Chain A B) {text : List ℕ} {at depth : ℕ} {v : Value} →
     Follows text at v →
     ((k : ℕ) (b : B) → c.more (suc k) depth b (drop at text) ≡ got b (drop at text)) →
-    ReadsMore c text at depth v (Got v at)
+    ReadsMore c text at depth v (Some (v, at))
 stops {A} {B} c {text} {at} {depth} {v} o f =
     record { same = same; moved = record { small = o.small; low = omega arith; high = o.high } }
   where
@@ -133,11 +132,11 @@ stops {A} {B} c {text} {at} {depth} {v} o f =
     same (suc k) h b z = ap (valued c.worth-whole) (f k b) ∙ ap (λ (o : Value). got o (drop at text)) z
 
 module _ {text : List ℕ} {at depth : ℕ} {l : Lexed} {v : Value} (x : Lexes text at l) where
-  pub factors-stop : (l.byte ≡ 42 → ⊥) → Follows text at v → ReadsFactors text at depth v (Got v at)
+  pub factors-stop : (l.byte ≡ 42 → ⊥) → Follows text at v → ReadsFactors text at depth v (Some (v, at))
   factors-stop b o = stops terms o (λ k t. factors-end k depth (drop at text) t (other x 42 b))
 
   pub terms-stop : (l.byte ≡ 43 → ⊥) →
       (l.byte ≡ 45 → ⊥) →
       Follows text at v →
-      ReadsTerms text at depth v (Got v at)
+      ReadsTerms text at depth v (Some (v, at))
   terms-stop b d o = stops sides o (λ k t. terms-end k depth (drop at text) t (other x 43 b) (other x 45 d))

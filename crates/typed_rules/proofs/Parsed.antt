@@ -3,7 +3,7 @@ use mathlib.Core.Path.{◌≡◌, refl, sym}
 use mathlib.Core.List.{List}
 use Prim.Native.Nat.{ℕ}
 use native.Mathlib.Omega.{arith}
-use Rattle.forms.specs.declared.Value.{Value}
+use Rattle.forms.specs.Value.{Value}
 use Rattle.language.specs.Parser.{Parsed, fail, got}
 use Rattle.typed_rules.specs.Promises.{valued}
 

@@ -8,15 +8,13 @@ use native.Mathlib.Omega.{arith}
 use lib.Dec.{eqb}
 use lib.ListN.{length, drop}
 use borrow.Author.Tests.{ne_eqb}
-use Rattle.forms.specs.declared.Value.{Value}
 use Rattle.typed_rules.specs.declared.Lexed.{Lexed}
-use Rattle.typed_rules.specs.declared.Step.{Step}
-use Rattle.typed_rules.specs.declared.Step.TheVariants.{Got, Fail}
+use Rattle.std.specs.Prelude.{Some, None}
 use Rattle.language.specs.Parser.{next}
-use Rattle.forms.specs.Value.{held}
+use Rattle.forms.specs.Value.{Value, held}
 use Rattle.forms.specs.Small.{Small}
 use Rattle.forms.proofs.Held.{held_both}
-use Rattle.typed_rules.specs.Promises.{Lexes, Reached, Moved, Enough, Follows, SmallStep, Placed}
+use Rattle.typed_rules.specs.Promises.{Step, Lexes, Reached, Moved, Enough, Follows, SmallStep, Placed}
 
 -- ---- how far
 
@@ -24,25 +22,25 @@ pub moved_on : (text : List ℕ) (low high : ℕ) (r : Step) →
     low ≤ high →
     Moved text high r →
     Moved text low r
-moved_on text low high (Got v n) h m = record { small = m.small; low = omega (arith, m.low); high = m.high }
-moved_on text low high Fail h m = tt
+moved_on text low high (Some (v, n)) h m = record { small = m.small; low = omega (arith, m.low); high = m.high }
+moved_on text low high None h m = tt
 
 pub small-step : (text : List ℕ) (low : ℕ) (r : Step) → Moved text low r → SmallStep r
-small-step text low (Got v n) m = m.small
-small-step text low Fail m = tt
+small-step text low (Some (v, n)) m = m.small
+small-step text low None m = tt
 
 pub placed : (text : List ℕ) (low : ℕ) (r : Step) → Moved text low r → Placed text r
-placed text low (Got v n) m = m.high
-placed text low Fail m = tt
+placed text low (Some (v, n)) m = m.high
+placed text low None m = tt
 
 pub reached : (text : List ℕ) (low : ℕ) {r : Step} {v : Value} {n : ℕ} →
-    r ≡ Got v n →
+    r ≡ Some (v, n) →
     Moved text low r →
     Reached text low v n
 reached text low e m = subst (Moved text low) e m
 
 pub follows : (text : List ℕ) (low : ℕ) {r : Step} {v : Value} {n : ℕ} →
-    r ≡ Got v n →
+    r ≡ Some (v, n) →
     Moved text low r →
     Follows text n v
 follows text low e m =
@@ -85,7 +83,7 @@ call_next {text} {at} {l} m x e b h = (omega (arith, lower (length text) at l.ne
 
 -- after the first item
 pub call_first : (text : List ℕ) (at m : ℕ) {s : Step} {v : Value} {n t : ℕ} →
-    s ≡ Got v n →
+    s ≡ Some (v, n) →
     Moved text (suc at) s →
     Left text at m ≡ t →
     (Left text n 0 < t) × Follows text n v
@@ -96,7 +94,7 @@ call_first text at m {n = n} e w h =
 -- after the next byte and an item, with the value of both
 pub call_more : {text : List ℕ} {at : ℕ} {l : Lexed} {s : Step} {v u : Value} {n t : ℕ} →
     Lexes text at l →
-    s ≡ Got v n →
+    s ≡ Some (v, n) →
     Moved text (suc l.next) s →
     Left text at 0 ≡ t →
     0 < l.byte →
@@ -110,7 +108,7 @@ call_more {text} {at} {l} {n = n} x e w h b k =
 -- the values of both are within the limit, so that an operation on them is the plain one
 pub plainly : {A : Type 0} (op : Value → Value → A) (text : List ℕ) (low : ℕ) {s : Step} {v w : Value} {n : ℕ} {r : A} →
     Small v →
-    s ≡ Got w n →
+    s ≡ Some (w, n) →
     Moved text low s →
     r ≡ op (held v) (held w) →
     r ≡ op v w

@@ -10,18 +10,18 @@ use lib.IntN.{pos}
 use lib.ListN.{length, drop}
 use borrow.Author.Tests.{le-leb, lt-leb}
 use Rattle.ints.proofs.Machine.{within-numeral}
-use Rattle.forms.specs.declared.Value.{Value}
-use Rattle.forms.specs.declared.Value.TheVariants.{Linear, Beyond}
 use Rattle.typed_rules.specs.declared.Lexed.{Lexed}
-use Rattle.typed_rules.specs.declared.Digits.{Digits}
-use Rattle.typed_rules.specs.declared.Step.{Step}
-use Rattle.typed_rules.specs.declared.Step.TheVariants.{Got, Fail}
+use Rattle.scanning.specs.declared.Run.{Run}
+use Rattle.scanning.specs.Runs.{Runs}
+use Rattle.scanning.proofs.Places.{capped-alike}
+use Rattle.std.specs.Prelude.{Ok, Err, Some, None}
+use Rattle.forms.specs.declared.Flaw.TheVariants.{Size}
 use Rattle.language.specs.Grammar.{Factor, Side, number, minus, group}
-use Rattle.forms.specs.Value.{form, numeral, negated}
+use Rattle.forms.specs.Value.{Value, limit, form, numeral, negated}
 use Rattle.language.specs.Value.{value_factor, value_side}
 use Rattle.language.specs.Parser.{Parsed, fail, got, bind, first, digit, lead, run, past, next, beyond, inner, closed, number_at, factor_by, side_by}
 use Rattle.forms.specs.Small.{Small, Valued}
-use Rattle.typed_rules.specs.Promises.{Lexes, Runs, valued, view, Moved, Enough, ReadsFactor, ReadsSide, ReadsNumber, opposed_of, closing, Onward, Closes}
+use Rattle.typed_rules.specs.Promises.{Step, Lexes, valued, view, Moved, Enough, ReadsFactor, ReadsSide, ReadsNumber, opposed_of, closing, Onward, Closes}
 use Rattle.forms.proofs.Values.{negated-small}
 use Rattle.language.proofs.Digits.{run-some}
 use Rattle.typed_rules.proofs.Places.{moved_on, spent, other}
@@ -29,41 +29,46 @@ use Rattle.language.proofs.Steps.{factor-digit, factor-x, factor-y, factor-minus
 
 -- ---- numbers
 
-pub number-yes : {text : List ℕ} {at : ℕ} {l : Digits} {w : Value} →
-    Runs text at l →
-    l.end - at ≤ 10 →
-    Valued (numeral l.number) w →
-    ReadsNumber text at (Got w l.end)
-unfolding value_factor
-number-yes {text} {at} {l} {w} d h v =
-    record {
-      same = λ i.
-          ap (λ (t : Bool). valued value_factor (cond t (got (number i (run (drop at text))) (past (drop at text))) fail))
-          (le-leb (length (run (drop at text))) 10 (omega (arith, d.count)))
-          ∙ ap (λ (x : Value). got x (past (drop at text))) (sym (v.same ∙ d.same))
-          ∙ ap (got w) (sym d.goes_on);
-      moved = record { small = v.small; low = omega (arith, d.count); high = d.high };
-    }
+-- beyond the limit one number is as good as another
+too_large : (n : ℕ) → limit < n → numeral n ≡ Err Size
+unfolding numeral
+too_large n h = rw (lt-leb n limit h)
 
-pub number_no : {text : List ℕ} {at : ℕ} {l : Digits} →
-    Runs text at l →
-    10 < l.end - at →
-    ReadsNumber text at Fail
-number_no {text} {at} {l} d h =
-    record {
-      same =
-          λ i. ap (λ (t : Bool). valued value_factor (cond t (got (number i (run (drop at text))) (past (drop at text))) fail))
-          (lt-leb (length (run (drop at text))) 10 (omega (arith, d.count)));
-      moved = tt;
-    }
+module _ {text : List ℕ} {at : ℕ} {l : Run} (h : at ≤ length text) (d : Runs limit text at l) where
+  pub number-yes : {w : Value} →
+      l.end - at ≤ 10 →
+      Valued (numeral l.number) w →
+      ReadsNumber text at (Some (w, l.end))
+  unfolding value_factor
+  number-yes {w} k v =
+      let s = run (drop at text) in
+      let same = ap numeral d.number ∙ capped-alike numeral limit (Err Size) too_large 0 s in
+      record {
+        same = λ i.
+            ap (λ (t : Bool). valued value_factor (cond t (got (number i s) (past (drop at text))) fail))
+            (le-leb (length s) 10 (omega (arith, d.count h)))
+            ∙ ap (λ (x : Value). got x (past (drop at text))) (sym (v.same ∙ same))
+            ∙ ap (got w) (sym d.goes.goes_on);
+        moved = record { small = v.small; low = omega (arith, d.count h); high = d.goes.high };
+      }
+
+  pub number_no : 10 < l.end - at → ReadsNumber text at None
+  number_no k =
+      let s = run (drop at text) in
+      record {
+        same =
+            λ i. ap (λ (t : Bool). valued value_factor (cond t (got (number i s) (past (drop at text))) fail))
+            (lt-leb (length s) 10 (omega (arith, d.count h)));
+        moved = tt;
+      }
 
 -- ---- the parenthesis after a side
 
 pub closed-yes : {text : List ℕ} {s : Step} {v : Value} {n : ℕ} {l : Lexed} →
-    s ≡ Got v n →
+    s ≡ Some (v, n) →
     Lexes text n l →
     l.byte ≡ 41 →
-    Closes text s (Got v l.next)
+    Closes text s (Some (v, l.next))
 closed-yes {v = v} e x b =
     rw e
     (record {
@@ -72,10 +77,10 @@ closed-yes {v = v} e x b =
     })
 
 pub closed_no : {text : List ℕ} {s : Step} {v : Value} {n : ℕ} {l : Lexed} →
-    s ≡ Got v n →
+    s ≡ Some (v, n) →
     Lexes text n l →
     (l.byte ≡ 41 → ⊥) →
-    Closes text s Fail
+    Closes text s None
 closed_no {text} {v = v} {n = n} e x b =
     rw e
     (record {
@@ -83,7 +88,7 @@ closed_no {text} {v = v} {n = n} e x b =
       onward = tt;
     })
 
-pub closed-fail : {text : List ℕ} {s : Step} → s ≡ Fail → Closes text s Fail
+pub closed-fail : {text : List ℕ} {s : Step} → s ≡ None → Closes text s None
 closed-fail e = rw e (record { same = refl; onward = tt })
 
 -- ---- factors
@@ -97,20 +102,20 @@ minus-all i fail = refl
 minus-all i (got f r) = refl
 
 opposed-view : (text : List ℕ) (r : Step) → negating (view text r) ≡ view text (opposed_of r)
-opposed-view text (Got v n) = refl
-opposed-view text Fail = refl
+opposed-view text (Some (v, n)) = refl
+opposed-view text None = refl
 
 small-negated : (v : Value) → Small v → Small (negated v)
 unfolding negated
-small-negated (Linear f) h = negated-small h refl
-small-negated (Beyond n) h = tt
+small-negated (Ok f) h = negated-small h refl
+small-negated (Err n) h = tt
 
 opposed-moved : (text : List ℕ) (low high : ℕ) (r : Step) →
     low ≤ high →
     Moved text high r →
     Moved text low (opposed_of r)
-opposed-moved text low high (Got v n) h m = record { small = small-negated v m.small; low = omega (arith, m.low); high = m.high }
-opposed-moved text low high Fail h m = tt
+opposed-moved text low high (Some (v, n)) h m = record { small = small-negated v m.small; low = omega (arith, m.low); high = m.high }
+opposed-moved text low high None h m = tt
 
 closed_all : (i : ℕ) (p : Parsed Side) → valued value_factor (bind p (λ a r. closed i a r)) ≡ closing (valued value_side p)
 unfolding value_factor
@@ -126,11 +131,11 @@ closed-moved : (text : List ℕ) (low high : ℕ) (s r : Step) →
     Moved text high s →
     Onward s r (length text) →
     Moved text low r
-closed-moved text low high (Got v n) (Got w m) h k o =
+closed-moved text low high (Some (v, n)) (Some (w, m)) h k o =
     record { small = subst Small (sym o.0) k.small; low = omega (arith, k.low, o.1); high = o.2 }
-closed-moved text low high (Got v n) Fail h k o = tt
-closed-moved text low high Fail (Got w m) h k o = absurd o
-closed-moved text low high Fail Fail h k o = tt
+closed-moved text low high (Some (v, n)) None h k o = tt
+closed-moved text low high None (Some (w, m)) h k o = absurd o
+closed-moved text low high None None h k o = tt
 
 inner-pos : (d : ℕ) → (d ≡ 0 → ⊥) → (f : ℕ → Parsed Side) → inner d f ≡ f (d - 1)
 inner-pos zero h f = absurd (h refl)
@@ -165,22 +170,22 @@ module _ {text : List ℕ} {at : ℕ} {l : Lexed} (x : Lexes text at l) {depth :
       Small v →
       0 < l.byte →
       ((k : ℕ) → valued value_factor (factor_by (suc k) depth (drop at text)) ≡ got v (beyond (drop at text))) →
-      ReadsFactor text at depth (Got v l.next)
+      ReadsFactor text at depth (Some (v, l.next))
   reads_rate v h b f =
-      reads-factor text at depth (Got v l.next) (λ k e. f k ∙ ap (got v) (sym x.goes_on))
+      reads-factor text at depth (Some (v, l.next)) (λ k e. f k ∙ ap (got v) (sym x.goes_on))
       (record { small = h; low = x.falls b; high = x.high })
 
-  pub reads-x : l.byte ≡ 120 → ReadsFactor text at depth (Got (Linear (form (pos 1) (pos 0) (pos 0))) l.next)
+  pub reads-x : l.byte ≡ 120 → ReadsFactor text at depth (Some (Ok (form (pos 1) (pos 0) (pos 0)), l.next))
   unfolding value_factor
   reads-x b =
-      reads_rate (Linear (form (pos 1) (pos 0) (pos 0)))
+      reads_rate (Ok (form (pos 1) (pos 0) (pos 0)))
       (record { a = within-numeral tt; b = within-numeral tt; c = within-numeral tt }) (omega (arith, b))
       (λ k. ap (valued value_factor) (factor-x k depth (drop at text) (sym x.same ∙ b)))
 
-  pub reads_y : l.byte ≡ 121 → ReadsFactor text at depth (Got (Linear (form (pos 0) (pos 1) (pos 0))) l.next)
+  pub reads_y : l.byte ≡ 121 → ReadsFactor text at depth (Some (Ok (form (pos 0) (pos 1) (pos 0)), l.next))
   unfolding value_factor
   reads_y b =
-      reads_rate (Linear (form (pos 0) (pos 1) (pos 0)))
+      reads_rate (Ok (form (pos 0) (pos 1) (pos 0)))
       (record { a = within-numeral tt; b = within-numeral tt; c = within-numeral tt }) (omega (arith, b))
       (λ k. ap (valued value_factor) (factor-y k depth (drop at text) (sym x.same ∙ b)))
 
@@ -217,9 +222,9 @@ module _ {text : List ℕ} {at : ℕ} {l : Lexed} (x : Lexes text at l) {depth :
       ∙ c.same)
       (closed-moved text (suc at) (suc l.next) s r (omega (arith, x.falls (omega (arith, b)))) f.moved c.onward)
 
-  pub reads_deep : l.byte ≡ 40 → depth ≡ 0 → ReadsFactor text at depth Fail
+  pub reads_deep : l.byte ≡ 40 → depth ≡ 0 → ReadsFactor text at depth None
   reads_deep b h =
-      reads-factor text at depth Fail
+      reads-factor text at depth None
       (λ k _.
       ap (valued value_factor)
       (factor-group k depth (drop at text) (sym x.same ∙ b)
@@ -232,9 +237,9 @@ module _ {text : List ℕ} {at : ℕ} {l : Lexed} (x : Lexes text at l) {depth :
       (l.byte ≡ 121 → ⊥) →
       (l.byte ≡ 45 → ⊥) →
       (l.byte ≡ 40 → ⊥) →
-      ReadsFactor text at depth Fail
+      ReadsFactor text at depth None
   reads_other a b c d e =
-      reads-factor text at depth Fail
+      reads-factor text at depth None
       (λ k _. ap (valued value_factor)
       (factor-other k depth (drop at text) (ap digit (sym x.same) ∙ a) (other x 120 b) (other x 121 c) (other x 45 d) (other x 40 e)))
       tt

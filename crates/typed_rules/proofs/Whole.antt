@@ -7,18 +7,16 @@ use native.Mathlib.Omega.{arith}
 use lib.Dec.{ltb, eqb}
 use lib.ListN.{length, drop, length-drop, drop_of_length-le, get_or}
 use borrow.Author.Tests.{ltb-true, ltb-false, ne_eqb}
-use Rattle.forms.specs.declared.Value.{Value}
 use Rattle.typed_rules.specs.declared.Lexed.{Lexed}
-use Rattle.typed_rules.specs.declared.Step.{Step}
-use Rattle.typed_rules.specs.declared.Step.TheVariants.{Got, Fail}
-use Rattle.forms.specs.declared.Typed.{Typed}
+use Rattle.std.specs.Prelude.{Some, None}
 use Rattle.language.specs.Grammar.{Side, Relation, Rule, at_most, at_least}
-use Rattle.forms.specs.Value.{conclude, no_rule}
+use Rattle.forms.specs.declared.Flaw.TheVariants.{Text}
+use Rattle.forms.specs.Value.{Value, Typed, conclude, no_rule}
 use Rattle.language.specs.Value.{kind_of, value_side, value_rule}
 use Rattle.language.specs.Parser.{Parsed, fail, got, bind, first, tail, lead, skip, next, beyond, side_of, ended, right_of, relation_of, parse, judged}
-use Rattle.typed_rules.specs.Promises.{Skips, Lexes, valued, view, ReadsSide, JudgesRight, Judges}
+use Rattle.typed_rules.specs.Promises.{Step, Skips, Lexes, valued, view, ReadsSide, JudgesRight, Judges}
 use Rattle.language.proofs.Rules.{rule, right-got, right-none, right-other, relation-most, relation-least, relation-other}
-use Rattle.typed_rules.proofs.Bytes.{here}
+use Rattle.scanning.proofs.Places.{here}
 use Rattle.typed_rules.proofs.Parsed.{inv_got, inv_fail}
 use Rattle.typed_rules.proofs.Places.{other}
 
@@ -49,7 +47,7 @@ module _ (text : List ℕ) (at : ℕ) {b : ℕ} (x : b ≡ first (drop at text))
   -- a right side of the value w, with the text after its spaces
   right-reads : {s : Step} {w : Value} {n e : ℕ} (rest : List ℕ) →
       ReadsSide text (at + 1) 8 s →
-      s ≡ Got w n →
+      s ≡ Some (w, n) →
       Skips text n e →
       drop e text ≡ rest →
       (a : Side) (i : ℕ) (k : Relation) →
@@ -65,11 +63,11 @@ module _ (text : List ℕ) (at : ℕ) {b : ℕ} (x : b ≡ first (drop at text))
 module _ {text : List ℕ} {at kind : ℕ} {v : Value} {b : ℕ} (x : b ≡ first (drop at text)) where
   pub right-more : {s : Step} {w : Value} {n e : ℕ} →
       b ≡ 61 →
-      s ≡ Got w n →
+      s ≡ Some (w, n) →
       ReadsSide text (at + 1) 8 s →
       Skips text n e →
       e < length text →
-      JudgesRight text at kind v (no_rule 13)
+      JudgesRight text at kind v (no_rule Text)
   right-more {e = e} y g f k h =
       record {
         same = λ a i r p q. sym
@@ -78,7 +76,7 @@ module _ {text : List ℕ} {at kind : ℕ} {v : Value} {b : ℕ} (x : b ≡ firs
 
   pub right-ends : {s : Step} {w : Value} {n e : ℕ} {t : Typed} →
       b ≡ 61 →
-      s ≡ Got w n →
+      s ≡ Some (w, n) →
       ReadsSide text (at + 1) 8 s →
       Skips text n e →
       length text ≤ e →
@@ -98,9 +96,9 @@ module _ {text : List ℕ} {at kind : ℕ} {v : Value} {b : ℕ} (x : b ≡ firs
 
   pub right_fails : {s : Step} →
       b ≡ 61 →
-      s ≡ Fail →
+      s ≡ None →
       ReadsSide text (at + 1) 8 s →
-      JudgesRight text at kind v (no_rule 13)
+      JudgesRight text at kind v (no_rule Text)
   right_fails {s} y g f =
       record {
         same = λ a i r p q.
@@ -108,7 +106,7 @@ module _ {text : List ℕ} {at kind : ℕ} {v : Value} {b : ℕ} (x : b ≡ firs
             sym (ap judged (right-none a i r (drop at text) (equals text at x y) (ap side_of (sym (right-tail text at x y)) ∙ z)));
       }
 
-  pub right_no : (b ≡ 61 → ⊥) → JudgesRight text at kind v (no_rule 13)
+  pub right_no : (b ≡ 61 → ⊥) → JudgesRight text at kind v (no_rule Text)
   right_no y =
       record { same = λ a i r p q. sym (ap judged (right-other a i r (drop at text) (ap (λ (z : ℕ). eqb z 61) (sym x) ∙ ne_eqb b 61 y))) }
 
@@ -139,13 +137,13 @@ module _ {text : List ℕ} {at : ℕ} {v : Value} {l : Lexed} (x : Lexes text at
       Judges text at v t
   judges-least b = judges at_least (λ a. relation-least a (drop at text) (sym x.same ∙ b))
 
-  pub judges-other : (l.byte ≡ 60 → ⊥) → (l.byte ≡ 62 → ⊥) → Judges text at v (no_rule 13)
+  pub judges-other : (l.byte ≡ 60 → ⊥) → (l.byte ≡ 62 → ⊥) → Judges text at v (no_rule Text)
   judges-other b c = record { same = λ a y. sym (ap judged (relation-other a (drop at text) (other x 60 b) (other x 62 c))) }
 
 -- ---- the whole
 
 pub text-got : {text : List ℕ} {s : Step} {v : Value} {n : ℕ} {t : Typed} →
-    s ≡ Got v n →
+    s ≡ Some (v, n) →
     ReadsSide text 0 8 s →
     Judges text n v t →
     t ≡ judged (parse text)
@@ -155,9 +153,9 @@ text-got {text} {s} g f j =
     j.same z.0 z.2 ∙ sym (ap (λ (p : Parsed Side). judged (bind p (λ a r. relation_of a r))) z.1)
 
 pub text_fails : {text : List ℕ} {s : Step} →
-    s ≡ Fail →
+    s ≡ None →
     ReadsSide text 0 8 s →
-    no_rule 13 ≡ judged (parse text)
+    no_rule Text ≡ judged (parse text)
 unfolding parse
 text_fails {text} {s} g f =
     let z = inv_fail value_side (side_of (drop 0 text)) (side-of text 0 s f ∙ ap (view text) g) in

@@ -1,17 +1,11 @@
 -- What the private functions promise. A place in the text stands for the text from there on.
-use Rattle.std.specs.Prelude.{◌≡◌, cond, List, ℕ, suc, ◌+◌, ◌*◌, ◌-◌, ◌≤◌, ◌<◌, eqb, length, drop}
-use Rattle.forms.specs.declared.Value.{Value}
+use Rattle.std.specs.Prelude.{◌≡◌, cond, List, ℕ, suc, ◌+◌, ◌*◌, ◌-◌, ◌≤◌, ◌<◌, eqb, length, drop, Option, Some, None}
 use Rattle.typed_rules.specs.declared.Lexed.{Lexed}
-use Rattle.typed_rules.specs.declared.Digits.{Digits}
-use Rattle.typed_rules.specs.declared.Step.{Step}
-use Rattle.typed_rules.specs.declared.Step.TheVariants.{Got, Fail}
-use Rattle.forms.specs.declared.Typed.{Typed}
 use Rattle.forms.specs.Small.{Small}
 use Rattle.language.specs.Grammar.{Side, Relation}
-use Rattle.text.specs.Number.{value_from}
-use Rattle.forms.specs.Value.{numeral, negated}
+use Rattle.forms.specs.Value.{Value, Typed, negated}
 use Rattle.language.specs.Value.{value_factor, value_term, value_side, kind_of}
-use Rattle.language.specs.Parser.{Parsed, fail, got, skip, run, past, next, beyond, bind, number_at, factor_by, term_by, more_factors, side_by, more_terms, relation_of, right_of, judged}
+use Rattle.language.specs.Parser.{Parsed, fail, got, skip, run, next, beyond, bind, number_at, factor_by, term_by, more_factors, side_by, more_terms, relation_of, right_of, judged}
 
 -- ---- bytes
 
@@ -29,22 +23,20 @@ pub record Lexes (text : List ℕ) (at : ℕ) (r : Lexed) : Type 0 where
   pub high : r.next ≤ length text
   pub falls : 0 < r.byte → at < r.next
 
-pub record Runs (text : List ℕ) (at : ℕ) (r : Digits) : Type 0 where
-  pub same : numeral r.number ≡ numeral (value_from 0 (run (drop at text)))
-  pub goes_on : drop r.end text ≡ past (drop at text)
-  pub count : r.end ≡ at + length (run (drop at text))
-  pub high : r.end ≤ length text
-
 -- ---- readers
 
 abbrev pub valued : {A : Type 0} → (A → Value) → Parsed A → Parsed Value
 valued v fail = fail
 valued v (got a r) = got (v a) r
 
+-- what a reader found: a value and the place after it, or nothing of the language
+abbrev pub Step : Type 0
+Step = Option (Value × ℕ)
+
 -- what a step says of the text
 abbrev pub view : List ℕ → Step → Parsed Value
-view text (Got v n) = got v (drop n text)
-view text Fail = fail
+view text (Some (v, n)) = got v (drop n text)
+view text None = fail
 
 pub record Reached (text : List ℕ) (from : ℕ) (v : Value) (n : ℕ) : Type 0 where
   pub small : Small v
@@ -52,8 +44,8 @@ pub record Reached (text : List ℕ) (from : ℕ) (v : Value) (n : ℕ) : Type 0
   pub high : n ≤ length text
 
 abbrev pub Moved : List ℕ → ℕ → Step → Type 0
-Moved text low (Got v n) = Reached text low v n
-Moved text low Fail = Unit {0}
+Moved text low (Some (v, n)) = Reached text low v n
+Moved text low None = Unit {0}
 
 -- three units of fuel for each byte that is left, and so many more, are enough
 abbrev pub Enough : List ℕ → ℕ → ℕ → ℕ → Type 0
@@ -99,26 +91,26 @@ pub record ReadsNumber (text : List ℕ) (at : ℕ) (r : Step) : Type 0 where
   pub moved : Moved text (at + length (run (drop at text))) r
 
 abbrev pub SmallStep : Step → Type 0
-SmallStep (Got v n) = Small v
-SmallStep Fail = Unit {0}
+SmallStep (Some (v, n)) = Small v
+SmallStep None = Unit {0}
 
 abbrev pub opposed_of : Step → Step
-opposed_of (Got v n) = Got (negated v) n
-opposed_of Fail = Fail
+opposed_of (Some (v, n)) = Some (negated v, n)
+opposed_of None = None
 
 abbrev pub Placed : List ℕ → Step → Type 0
-Placed text (Got v n) = n ≤ length text
-Placed text Fail = Unit {0}
+Placed text (Some (v, n)) = n ≤ length text
+Placed text None = Unit {0}
 
 -- the text after a parenthesis that must come next
 abbrev pub closing : Parsed Value → Parsed Value
 closing p = bind p (λ v r. cond (eqb (next r) 41) (got v (beyond r)) fail)
 
 abbrev pub Onward : Step → Step → ℕ → Type 0
-Onward (Got v n) (Got w m) len = (w ≡ v) × (n < m) × (m ≤ len)
-Onward (Got v n) Fail len = Unit {0}
-Onward Fail (Got w m) len = ⊥
-Onward Fail Fail len = Unit {0}
+Onward (Some (v, n)) (Some (w, m)) len = (w ≡ v) × (n < m) × (m ≤ len)
+Onward (Some (v, n)) None len = Unit {0}
+Onward None (Some (w, m)) len = ⊥
+Onward None None len = Unit {0}
 
 pub record Closes (text : List ℕ) (s r : Step) : Type 0 where
   pub same : closing (view text s) ≡ view text r

@@ -9,8 +9,7 @@ mod tokens;
 ghost use Rattle.std.specs.Prelude.{◌≡◌};
 ghost use Rattle.language.specs.Parser.{answer};
 
-use answers::Refusal;
-use forms::{Typed, Value};
+use forms::{Flaw, Typed, Value};
 use readers::read_text;
 
 // The first byte that is no space, or 0 at the end; where it stands, and where the text goes on after it.
@@ -21,19 +20,8 @@ pub struct Lexed {
     pub next: usize,
 }
 
-// A run of digits: its number, or some number beyond the limit, and where it ends.
-#[derive(Clone, Copy)]
-pub struct Digits {
-    pub number: usize,
-    pub end: usize,
-}
-
 // What a reader found: a value and where the text goes on, or nothing of the language.
-#[derive(Clone, Copy)]
-pub enum Step {
-    Got(Value, usize),
-    Fail,
-}
+type Step = Option<(Value, usize)>;
 
 // What a text reads as.
 pub fn read_rule(text: &[u8]) -> Typed
@@ -42,6 +30,6 @@ pub fn read_rule(text: &[u8]) -> Typed
     if text.len() <= 120 {
         read_text(text)
     } else {
-        Typed::Refused(Refusal { number: 13, at: 0 })
+        Err(Flaw::Text)
     }
 }

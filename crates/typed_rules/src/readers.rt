@@ -5,23 +5,23 @@ ghost use Rattle.language.specs.Parser.{parse, judged};
 ghost use Rattle.typed_rules.specs.Promises.{ReadsNumber, SmallStep, opposed_of, Placed, Closes, Follows, ReadsFactor, ReadsTerm, ReadsSide, ReadsFactors, ReadsTerms, Judges, JudgesRight};
 
 use crate::Step;
-use crate::tokens::{byte_at, digit, digits, lex, skip};
-use answers::Refusal;
+use crate::tokens::{lex, skip};
 use form_products::product;
 use form_sums::{conclude, difference, negated, sum};
-use forms::{Form, Typed, Value, numeral};
+use forms::{Flaw, Form, Typed, Value, numeral};
+use scanning::{byte_at, digit, digits};
 
 // A number of at most 10 digits.
 fn number(text: &[u8], at: usize) -> Step
     requires { at ≤ length text.now }
     ensures { ReadsNumber text.now at result }
 {
-    let run = digits(text, at);
+    let run = digits(text, at, 1000000000);
     let end = run.end;
     if end - at <= 10 {
-        Step::Got(numeral(run.number), end)
+        Some((numeral(run.number as usize), end))
     } else {
-        Step::Fail
+        None
     }
 }
 
@@ -30,10 +30,8 @@ fn opposed(s: Step) -> Step
     requires { SmallStep s }
     ensures { result ≡ opposed_of s }
 {
-    match s {
-        Step::Got(v, n) => Step::Got(negated(v), n),
-        Step::Fail => Step::Fail,
-    }
+    let (v, n) = s?;
+    Some((negated(v), n))
 }
 
 // The parenthesis after a side.
@@ -41,16 +39,12 @@ fn closed(text: &[u8], s: Step) -> Step
     requires { Placed text.now s }
     ensures { Closes text.now s result }
 {
-    match s {
-        Step::Got(v, at) => {
-            let l = lex(text, at);
-            if l.byte == 41 {
-                Step::Got(v, l.next)
-            } else {
-                Step::Fail
-            }
-        }
-        Step::Fail => Step::Fail,
+    let (v, at) = s?;
+    let l = lex(text, at);
+    if l.byte == 41 {
+        Some((v, l.next))
+    } else {
+        None
     }
 }
 
@@ -65,19 +59,19 @@ fn factor(text: &[u8], at: usize, depth: usize) -> Step
     if digit(b) {
         number(text, l.start)
     } else if b == 120 {
-        Step::Got(Value::Linear(Form { a: 1, b: 0, c: 0 }), l.next)
+        Some((Ok(Form { a: 1, b: 0, c: 0 }), l.next))
     } else if b == 121 {
-        Step::Got(Value::Linear(Form { a: 0, b: 1, c: 0 }), l.next)
+        Some((Ok(Form { a: 0, b: 1, c: 0 }), l.next))
     } else if b == 45 {
         opposed(factor(text, l.next, depth))
     } else if b == 40 {
         if depth == 0 {
-            Step::Fail
+            None
         } else {
             closed(text, side(text, l.next, depth - 1))
         }
     } else {
-        Step::Fail
+        None
     }
 }
 
@@ -87,10 +81,8 @@ fn term(text: &[u8], at: usize, depth: usize) -> Step
     requires { at ≤ length text.now }
     ensures { ReadsTerm text.now at depth result }
 {
-    match factor(text, at, depth) {
-        Step::Got(v, n) => factors(text, n, depth, v),
-        Step::Fail => Step::Fail,
-    }
+    let (v, n) = factor(text, at, depth)?;
+    factors(text, n, depth, v)
 }
 
 // What follows factors whose product is v.
@@ -101,12 +93,10 @@ fn factors(text: &[u8], at: usize, depth: usize, v: Value) -> Step
 {
     let l = lex(text, at);
     if l.byte == 42 {
-        match factor(text, l.next, depth) {
-            Step::Got(w, n) => factors(text, n, depth, product(v, w)),
-            Step::Fail => Step::Fail,
-        }
+        let (w, n) = factor(text, l.next, depth)?;
+        factors(text, n, depth, product(v, w))
     } else {
-        Step::Got(v, at)
+        Some((v, at))
     }
 }
 
@@ -116,10 +106,8 @@ fn side(text: &[u8], at: usize, depth: usize) -> Step
     requires { at ≤ length text.now }
     ensures { ReadsSide text.now at depth result }
 {
-    match term(text, at, depth) {
-        Step::Got(v, n) => terms(text, n, depth, v),
-        Step::Fail => Step::Fail,
-    }
+    let (v, n) = term(text, at, depth)?;
+    terms(text, n, depth, v)
 }
 
 // What follows terms whose sum is v.
@@ -130,17 +118,13 @@ fn terms(text: &[u8], at: usize, depth: usize, v: Value) -> Step
 {
     let l = lex(text, at);
     if l.byte == 43 {
-        match term(text, l.next, depth) {
-            Step::Got(w, n) => terms(text, n, depth, sum(v, w)),
-            Step::Fail => Step::Fail,
-        }
+        let (w, n) = term(text, l.next, depth)?;
+        terms(text, n, depth, sum(v, w))
     } else if l.byte == 45 {
-        match term(text, l.next, depth) {
-            Step::Got(w, n) => terms(text, n, depth, difference(v, w)),
-            Step::Fail => Step::Fail,
-        }
+        let (w, n) = term(text, l.next, depth)?;
+        terms(text, n, depth, difference(v, w))
     } else {
-        Step::Got(v, at)
+        Some((v, at))
     }
 }
 
@@ -149,20 +133,16 @@ fn right(text: &[u8], at: usize, kind: usize, v: Value) -> Typed
     requires { Follows text.now at v }
     ensures { JudgesRight text.now at kind v result }
 {
-    if byte_at(text, at) == 61 {
-        match side(text, at + 1, 8) {
-            Step::Got(w, n) => {
-                let end = skip(text, n);
-                if end < text.len() {
-                    Typed::Refused(Refusal { number: 13, at: 0 })
-                } else {
-                    conclude(kind, v, w)
-                }
-            }
-            Step::Fail => Typed::Refused(Refusal { number: 13, at: 0 }),
-        }
+    if byte_at(text, at) != 61 {
+        return Err(Flaw::Text);
+    }
+    let Some((w, n)) = side(text, at + 1, 8) else {
+        return Err(Flaw::Text);
+    };
+    if skip(text, n) < text.len() {
+        Err(Flaw::Text)
     } else {
-        Typed::Refused(Refusal { number: 13, at: 0 })
+        conclude(kind, v, w)
     }
 }
 
@@ -177,7 +157,7 @@ fn relation(text: &[u8], at: usize, v: Value) -> Typed
     } else if l.byte == 62 {
         right(text, l.next, 2, v)
     } else {
-        Typed::Refused(Refusal { number: 13, at: 0 })
+        Err(Flaw::Text)
     }
 }
 
@@ -185,8 +165,8 @@ fn relation(text: &[u8], at: usize, v: Value) -> Typed
 pub fn read_text(text: &[u8]) -> Typed
     ensures { result ≡ judged (parse text.now) }
 {
-    match side(text, 0, 8) {
-        Step::Got(v, n) => relation(text, n, v),
-        Step::Fail => Typed::Refused(Refusal { number: 13, at: 0 }),
-    }
+    let Some((v, n)) = side(text, 0, 8) else {
+        return Err(Flaw::Text);
+    };
+    relation(text, n, v)
 }

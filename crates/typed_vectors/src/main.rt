@@ -2,22 +2,7 @@
 
 #![tactic(auto)]
 
-ghost use Rattle.std.specs.Prelude.{◌≤◌, length};
-
 use std::io;
-
-// Where the line that begins at a place ends: at its line feed, or at the end.
-fn line_end(input: &[u8], at: usize) -> usize
-    requires { at ≤ length input.now }
-    ensures { (at ≤ result) × (result ≤ length input.now) }
-{
-    for i in at..input.len() {
-        if input[i] == 10 {
-            return i;
-        }
-    }
-    input.len()
-}
 
 fn show(rt: &HostRuntime, text: &[u8]) -> io::Result<()> {
     let mut line = [0u8; 96];
@@ -26,11 +11,8 @@ fn show(rt: &HostRuntime, text: &[u8]) -> io::Result<()> {
 }
 
 fn show_all(rt: &HostRuntime, input: &[u8]) -> io::Result<()> {
-    let mut at = 0;
-    while at < input.len() {
-        let end = line_end(input, at);
-        show(rt, &input[at..end])?;
-        at = end + 1;
+    for line in input.split_inclusive(|b| *b == b'\n') {
+        show(rt, line.strip_suffix(b"\n").unwrap_or(line))?;
     }
     Ok(())
 }

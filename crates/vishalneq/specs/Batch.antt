@@ -7,6 +7,4 @@ use Rattle.handed.specs.Told.{told_of}
 
 pub record BatchWritten (s objectives before after : List ℕ) (count : ℕ) : Type 0 where
   pub output : after ≡ output_of (batch_of (read_of v2 s) objectives (length before)) before
-  pub told :
-      count
-      ≡ told_of (batched_of (batch_of (read_of v2 s) objectives (length before))).refusal (batched_of (batch_of (read_of v2 s) objectives (length before))).filled
+  pub told : count ≡ told_of (batched_of (batch_of (read_of v2 s) objectives (length before)))

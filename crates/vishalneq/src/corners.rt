@@ -9,6 +9,8 @@ use handed::told;
 pub fn vishalneq_corners(book: &[u8], out: &mut [u8]) -> usize
     ensures { CornersWritten book.now out.old out.new result }
 {
-    let answer = cornering::corners(book, out);
-    told(answer.refusal, 0) + answer.count
+    match cornering::corners(book, out) {
+        Ok(count) => count,
+        Err(unlisted) => told(Err(unlisted.refusal)) + unlisted.count,
+    }
 }

@@ -9,7 +9,6 @@ ghost use Rattle.handed.specs.Told.{verdict_told};
 ghost use Rattle.vishalneq.specs.Exchange.{SlipWritten};
 
 use handed::{told, verdict_told};
-use slips::Written;
 
 // What the checker says of a slip of 14 numbers.
 pub fn vishalneq_check(book: &[u8], slip: &[i64]) -> usize
@@ -24,7 +23,7 @@ pub fn vishalneq_slip(book: &[u8], out: &mut [i64]) -> usize
     ensures { SlipWritten book.now out.old out.new result }
 {
     match slips::slip_of(book) {
-        Written::Refused(refusal) => told(refusal, 0),
-        Written::Given(slip) => slip_numbers::put_slip(slip, out),
+        Err(refusal) => told(Err(refusal)),
+        Ok(slip) => slip_numbers::put_slip(slip, out),
     }
 }

@@ -9,5 +9,5 @@ pub fn vishalneq_batch(book: &[u8], objectives: &[u8], out: &mut [u8]) -> usize
     ensures { BatchWritten book.now objectives.now out.old out.new result }
 {
     let answer = batching::batch(book, objectives, out);
-    told(answer.refusal, answer.filled)
+    told(answer)
 }

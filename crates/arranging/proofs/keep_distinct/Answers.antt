@@ -1,6 +1,5 @@
 -- `arranging::keep_distinct` meets its contract: after each turn, those before place i are kept or dropped.
 use native.Mathlib.Omega.{arith}
-use Prim.Native.Nat.{◌-◌}
 use Rattle.sorting.specs.Keys.{comes_at}
 use Rattle.arranging.proofs.Steps.{keeping_start, keeping_steps, keeping_on, keeping_end, none_kept}
 use Rattle.arranging.proofs.keep_distinct.Goals as goal
@@ -14,28 +13,16 @@ loop-i-init c = let a = c.args in keeping_start (comes_at a.keys.now) a.run.now 
 pub keep_next-k-requires : goal.keep_next-k-requires
 keep_next-k-requires c =
     let a = c.args in
-    keeping_steps (comes_at a.keys.now) c.loop-i.invariant c.loop-i-test.true
-
-pub overflow_add-i : goal.overflow_add-i
-overflow_add-i c = let w = c.loop-i.invariant.within in omega arith
-
-pub loop-i-smaller : goal.loop-i-smaller
-loop-i-smaller c =
-    let w = c.loop-i.invariant.within in
-    let s = c.loop-i.invariant.same in
-    omega (arith, c.loop-i-test.true)
+    keeping_steps (comes_at a.keys.now) c.loop-i.invariant (omega arith)
 
 pub loop-i-preserved : goal.loop-i-preserved
 loop-i-preserved c =
     let six = c in
     let a = six.args in
     keeping_on (comes_at a.keys.now) c.loop-i.invariant
-    c.loop-i-test.true c.keep_next-k.ensures
-
-pub shape_of-run : goal.shape_of-run
-shape_of-run c = c.loop-i.invariant.same
+    (omega arith) c.keep_next-k.ensures
 
 pub returns : goal.returns
 returns c =
     let a = c.args in
-    keeping_end (comes_at a.keys.now) c.loop-i.invariant c.loop-i-test.false
+    keeping_end (comes_at a.keys.now) c.loop-i.invariant (omega arith)

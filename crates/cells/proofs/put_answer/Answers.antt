@@ -1,7 +1,7 @@
 -- `cells::put_answer` meets its contract: a number and a pair after it are an answer.
 use native.Mathlib.Omega.{arith}
 use Rattle.cells.specs.Cells.{answer_bytes}
-use Rattle.cells.proofs.Written.{answer-put, kept-short}
+use Rattle.cells.proofs.Written.{answer-put, kept-short, cell-written}
 use Rattle.cells.proofs.put_answer.Goals as goal
 
 pub returns-then-out-lt32 : goal.returns-then-out-lt32
@@ -22,7 +22,7 @@ returns c =
     let put = six.put in
     answer-put a.out.now a.at a.outcome a.v
     (omega arith)
-    six.cell.ensures
+    (cell-written a.outcome c.to_le_bytes.ensures)
     put.ensures
     put.auto.out
     c.put_point.ensures

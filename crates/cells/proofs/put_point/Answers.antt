@@ -20,11 +20,9 @@ returns c =
     let h = eighteen.struct_told-1.given in
     point-put a.out.now a.at a.v
     (omega arith)
-    (cell-read a.v.x h.0.1 eighteen.bits.ensures twelve.cell.ensures)
-    (cell-read a.v.y h.1.0.1 six.bits-2.ensures
-    six.cell-2.ensures)
-    (cell-read a.v.d h.1.1.0.1 c.bits-3.ensures
-    c.cell-3.ensures)
+    (cell-read a.v.x h.0.1 c.to_le_bytes.ensures)
+    (cell-read a.v.y h.1.0.1 c.to_le_bytes-2.ensures)
+    (cell-read a.v.d h.1.1.0.1 c.to_le_bytes-3.ensures)
     twelve.put.ensures
     six.put-2.ensures
     c.put-3.ensures

@@ -4,15 +4,15 @@ use Rattle.slip_reader.specs.Reading.{Reads}
 use Rattle.check_line.proofs.Answers.{checks_none, checks_given}
 use Rattle.check_line.proofs.check_line.Goals as goal
 
-pub returns-in-NoLine : goal.returns-in-NoLine
-returns-in-NoLine c =
+pub returns-in-None : goal.returns-in-None
+returns-in-None c =
     let start = c in
     checks_none start.args.book.now start.args.text.now
-    (subst (Reads start.args.text.now) c.in-NoLine.is c.read_slip.ensures) c.check_numbers.ensures
+    (subst (Reads start.args.text.now) c.in-None.is c.read_slip.ensures) c.check_numbers.ensures
 
-pub returns-in-Given : goal.returns-in-Given
-returns-in-Given c =
+pub returns-in-Some : goal.returns-in-Some
+returns-in-Some c =
     let start = c in
-    checks_given start.args.book.now start.args.text.now c.in-Given.s
-    (subst (Reads start.args.text.now) c.in-Given.is c.read_slip.ensures)
+    checks_given start.args.book.now start.args.text.now c.in-Some.s
+    (subst (Reads start.args.text.now) c.in-Some.is c.read_slip.ensures)
     c.check.ensures

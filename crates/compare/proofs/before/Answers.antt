@@ -29,6 +29,6 @@ returns-else-is_denominator c =
     let a = c.args in
     let v = c.struct_told-1.given in
     let w = c.struct_told-2-1.given in
-    out_of_range a.v.d a.w.d
+    c.if-is_denominator.false ∙ out_of_range a.v.d a.w.d
     (denominator-told a.v.d v.1.1.0.1 c.is_denominator.ensures)
     (denominator-told a.w.d w.1.1.0.1 c.is_denominator-2.ensures) (before a.v a.w) c.if-is_denominator.false

@@ -27,7 +27,7 @@ returns-else-is_denominator c =
     let s = c in
     let a = s.args in
     let f = s.ranges in
-    out_of_range a.d a.d2 (denominator-told a.d f.d.sfits c.is_denominator.ensures)
+    c.if-is_denominator.false ∙ out_of_range a.d a.d2 (denominator-told a.d f.d.sfits c.is_denominator.ensures)
     (denominator-told a.d2 f.d2.sfits c.is_denominator-2.ensures)
     (less a.x a.d a.x2 a.d2)
     c.if-is_denominator.false

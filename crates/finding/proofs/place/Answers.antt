@@ -10,7 +10,7 @@ pub overflow_cast-wanted : goal.overflow_cast-wanted
 overflow_cast-wanted c = omega (arith, mod-lt c.args.wanted {m = 65536} (omega arith))
 
 pub loop-i-init : goal.loop-i-init
-loop-i-init c = passed-wide (λ k. (c.type_inv.records k).fits) c.passed-i.ensures
+loop-i-init c = passed-wide (λ k. (c.type_inv.records k).fits) c.passed-start.ensures
 
 pub overflow_cast-records : goal.overflow_cast-records
 overflow_cast-records c = omega (arith, c.type_inv.records c.loop-i.i)

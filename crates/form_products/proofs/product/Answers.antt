@@ -1,17 +1,15 @@
--- `form_products::product` meets its contract. Two forms are joined, and a refusal goes through.
+-- `form_products::product` meets its contract. Two forms are joined, and a flaw goes through.
+use Rattle.std.proofs.lemmas.Result.{err_from_is_err_and}
 use Rattle.forms.specs.Value.{multiplied, product}
-use Rattle.forms.proofs.Values.{small_forms, combined, refused}
+use Rattle.forms.proofs.Values.{combined, refused}
 use Rattle.form_products.proofs.product.Goals as goal
 
-pub multiplied-requires : goal.multiplied-requires
-multiplied-requires c = small_forms c.paired.ensures c.in-Forms.is
-
-pub returns-in-Forms : goal.returns-in-Forms
+pub returns : goal.returns
 unfolding product
-returns-in-Forms c =
-    let forms = c in
-    combined forms.paired.ensures multiplied forms.in-Forms.is c.multiplied.ensures
+returns c = combined c.paired.ensures multiplied c.in_ok-f.was c.multiplied.ensures
 
-pub returns-in-First : goal.returns-in-First
+pub returns-in_err-f : goal.returns-in_err-f
 unfolding product
-returns-in-First c = combined c.paired.ensures multiplied c.in-First.is refused
+returns-in_err-f c =
+    let p = err_from_is_err_and c.from_residual.result c.from_residual.ensures.1 in
+    rw (p.1, p.2) (combined c.paired.ensures multiplied c.in_err-f.was refused)

@@ -1,18 +1,13 @@
--- `form_sums::conclude` meets its contract. Two sides make the rule, and a refusal goes through.
+-- `form_sums::conclude` meets its contract. Two sides make the rule, and a flaw goes through.
 use mathlib.Core.Path.{refl}
-use Rattle.forms.proofs.Values.{small_forms, concluded}
+use Rattle.std.proofs.lemmas.Result.{err_from_is_err_and}
+use Rattle.forms.proofs.Values.{concluded}
 use Rattle.form_sums.proofs.conclude.Goals as goal
 
-pub finished-requires : goal.finished-requires
-finished-requires c = small_forms c.paired.ensures c.in-Forms.is
+pub returns : goal.returns
+returns c = concluded c.paired.ensures c.args.kind c.in_ok-f.was c.finished.ensures
 
-pub returns-in-Forms : goal.returns-in-Forms
-returns-in-Forms c =
-    let forms = c in
-    let start = forms in
-    concluded forms.paired.ensures start.args.kind forms.in-Forms.is c.finished.ensures
-
-pub returns-in-First : goal.returns-in-First
-returns-in-First c =
-    let start = c in
-    concluded c.paired.ensures start.args.kind c.in-First.is refl
+pub returns-in_err-f : goal.returns-in_err-f
+returns-in_err-f c =
+    let p = err_from_is_err_and c.from_residual.result c.from_residual.ensures.1 in
+    rw (p.1, p.2) (concluded c.paired.ensures c.args.kind c.in_err-f.was refl)

@@ -1,21 +1,20 @@
--- `form_sums::sum` meets its contract. Two forms are joined, and a refusal goes through.
+-- `form_sums::sum` meets its contract. Two forms are joined, and a flaw goes through.
+use Rattle.std.proofs.lemmas.Result.{err_from_is_err_and}
 use Rattle.forms.specs.Value.{limited, add_forms, sum}
-use Rattle.forms.proofs.Values.{small_forms, combined, limited-form, refused}
+use Rattle.forms.proofs.Values.{combined, limited-form, refused}
 use Rattle.form_sums.proofs.sum.Goals as goal
 
-pub add_forms-requires : goal.add_forms-requires
-add_forms-requires c = small_forms c.paired.ensures c.in-Forms.is
-
-pub returns-in-Forms : goal.returns-in-Forms
+pub returns : goal.returns
 unfolding sum
-returns-in-Forms c =
-    let forms = c in
+returns c =
     combined
-    forms.paired.ensures
+    c.paired.ensures
     (λ f g. limited (add_forms f g))
-    forms.in-Forms.is
+    c.in_ok-f.was
     (limited-form c.add_forms.ensures c.limited.ensures)
 
-pub returns-in-First : goal.returns-in-First
+pub returns-in_err-f : goal.returns-in_err-f
 unfolding sum
-returns-in-First c = combined c.paired.ensures (λ f g. limited (add_forms f g)) c.in-First.is refused
+returns-in_err-f c =
+    let p = err_from_is_err_and c.from_residual.result c.from_residual.ensures.1 in
+    rw (p.1, p.2) (combined c.paired.ensures (λ f g. limited (add_forms f g)) c.in_err-f.was refused)

@@ -3,7 +3,7 @@ use mathlib.Core.Path.{refl}
 use Rattle.joining.proofs.Classes.{few-by-length}
 use Rattle.joining.proofs.join_few.Goals as goal
 
-pub join_short-requires : goal.join_short-requires
-join_short-requires c =
+pub join_sized-requires-clause-few : goal.join_sized-requires-clause-few
+join_sized-requires-clause-few c =
     let start = c in
     few-by-length start.args.site.now start.args.tenant.now 30 434 refl c.within.ensures c.if-within.true

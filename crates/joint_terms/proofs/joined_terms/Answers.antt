@@ -1,23 +1,26 @@
 -- `joint_terms::joined_terms` meets its contract: the tenant's objective, and of each floor the greater.
-use Rattle.joint_terms.proofs.Compared.{greater-read}
+use mathlib.Core.Path.{◌∙◌}
+use mir.Syntax.{w64}
+use mir.Val.{SFits}
+use borrow.Author.Rules.{rules}
+use Rattle.joint_terms.proofs.Compared.{read, greatest-is, greater-read}
 use Rattle.joint_terms.proofs.joined_terms.Goals as goal
 
 pub returns : goal.returns
 returns c =
-    let start = c in
-    let site = c.struct_told-1.given in
-    let tenant = c.struct_told-2-1.given in
-    let x = c.greater-lx in
-    let y = c.greater-ly in
+    let f = c.args.site.floors in
+    let g = c.args.tenant.floors in
+    let fx : SFits w64 f.lx = search rules in
+    let fy : SFits w64 f.ly = search rules in
+    let gx : SFits w64 g.lx = search rules in
+    let gy : SFits w64 g.ly = search rules in
+    let x : SFits w64 c.max-lx.result = search rules in
+    let y : SFits w64 c.max-ly.result = search rules in
     λ i. record {
-      objective = start.args.tenant.objective;
+      objective = c.args.tenant.objective;
       floors =
           record {
-            lx =
-                greater-read {y = start.args.site.floors.lx} {z = start.args.tenant.floors.lx} (record { sfits = site.0.1 }) (record { sfits = tenant.0.1 }) (record { sfits = x.type_inv })
-                x.ensures i;
-            ly =
-                greater-read {y = start.args.site.floors.ly} {z = start.args.tenant.floors.ly} (record { sfits = site.1.0.1 }) (record { sfits = tenant.1.0.1 }) (record { sfits = y.type_inv })
-                y.ensures i;
+            lx = greater-read fx gx x (c.max-lx.ensures.value ∙ greatest-is (read f.lx) (read g.lx)) i;
+            ly = greater-read fy gy y (c.max-ly.ensures.value ∙ greatest-is (read f.ly) (read g.ly)) i;
           };
     }

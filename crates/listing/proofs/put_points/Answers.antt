@@ -1,6 +1,5 @@
 -- `listing::put_points` meets its contract: after i turns the first i points are written.
 use native.Mathlib.Omega.{arith}
-use Prim.Native.Nat.{◌-◌}
 use Rattle.listing.proofs.Written.{putting_start, putting_on, putting_end}
 use Rattle.listing.proofs.put_points.Goals as goal
 
@@ -20,15 +19,6 @@ bounds-run-i c =
     let t = c in
     let a = t.loop-i.invariant.asked.all in
     omega (arith, t.loop-i-test.true)
-
-pub overflow_add-i : goal.overflow_add-i
-overflow_add-i c =
-    let t = c in
-    let a = t.loop-i.invariant.asked.all in
-    omega (arith, t.loop-i-test.true)
-
-pub loop-i-smaller : goal.loop-i-smaller
-loop-i-smaller c = let t = c.loop-i-test.true in omega arith
 
 pub loop-i-preserved : goal.loop-i-preserved
 loop-i-preserved c =

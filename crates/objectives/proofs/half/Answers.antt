@@ -1,14 +1,21 @@
 -- `objectives::half` meets its contract: two bytes make the number of two bytes (`two_bytes`).
-use mathlib.Core.Path.{◌∙◌, ap}
+use Prim.Native.Nat.{◌+◌, ◌*◌}
+use mathlib.Core.Path.{◌≡◌, ◌∙◌, ap}
+use native.Mathlib.Omega.{arith}
+use lib.ListN.{get_or}
 use mir.Syntax.{w16, w64}
-use mir.Facts.{to_z-of_z}
-use mir.Val.{to_z}
+use mir.Val.{SFits, to_z, of_z}
+use Rattle.std.proofs.lemmas.Int.{ints}
+use borrow.Author.Rules.{rules}
 use Rattle.records.proofs.Numbers.{two_bytes}
-use borrow.Author.Rules.{sfits_of}
+use Rattle.objectives.specs.Objectives.{half_at}
 use Rattle.objectives.proofs.half.Goals as goal
 
 pub returns : goal.returns
 returns c =
-    to_z-of_z {w = w64} (sfits_of c.signed.type_inv)
-    ∙ c.signed.ensures
-    ∙ ap (to_z w16) (two_bytes c.args.bytes.now c.args.at)
+    let s = c.args.bytes.now in
+    let at = c.args.at in
+    let sum : get_or s at 0 + get_or s (at + 1) 0 * 256 ≡ half_at s at = omega (arith, two_bytes s at) in
+    let fits : SFits w16 c.from_le_bytes.result = search rules in
+    let wide : to_z w64 (of_z w64 c.from.result) ≡ c.from_le_bytes.result = omega (arith, ints) in
+    wide ∙ c.from_le_bytes.ensures ∙ ap (to_z w16) sum

@@ -1,6 +1,5 @@
 -- `one_book::repacked` meets its contract: what the repacker answers, as one number.
 use mathlib.Core.Path.{◌∙◌, ap}
-use Rattle.repacker.specs.declared.Repacked.{Repacked}
 use Rattle.handed.specs.Told.{told_of}
 use Rattle.one_book.proofs.repacked.Goals as goal
 
@@ -9,5 +8,5 @@ returns c =
     let repacks = c.repack-answer.ensures in
     record {
       output = repacks.output;
-      told = c.told.ensures ∙ ap (λ (r : Repacked). told_of r.refusal r.filled) repacks.answer;
+      told = c.told.ensures ∙ ap told_of repacks.answer;
     }

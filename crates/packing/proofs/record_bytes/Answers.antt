@@ -4,5 +4,6 @@ use Rattle.packing.proofs.record_bytes.Goals as goal
 
 pub returns : goal.returns
 returns c =
-    fourteen c.args.link c.args.kind c.args.a c.args.b c.args.label c.args.c
-    c.ranges.link.fits c.ranges.kind.fits c.ranges.a.fits c.ranges.b.fits c.ranges.label.fits c.ranges.c.fits
+    let a = c.args in
+    fourteen a.link a.kind a.a a.b a.label a.c c.ranges.kind.fits c.to_le_bytes-link.ensures c.to_le_bytes-a.ensures
+    c.to_le_bytes-b.ensures c.to_le_bytes-label.ensures c.to_le_bytes-c.ensures

@@ -1,52 +1,21 @@
--- `rules::constraint` meets its contract: kind 2 turned round number by number, any other kind as written.
-use lib.Dec.{lit≤}
-use mir.Syntax.{w16, w32}
-use mir.Val.{SFits}
-use Rattle.signed.proofs.Widths.{widens, turns}
-use Rattle.rules.proofs.Planned.{at_least, at_most}
+-- `rules::constraint` meets its contract: kind 2 turned round number by number.
+use mathlib.Core.Path.{◌≡◌}
+use native.Mathlib.Omega.{arith}
+use lib.IntN.{pos, neg_ℤ, ◌-ℤ◌}
+use mir.Syntax.{w16, w32, w64}
+use mir.Val.{to_z, of_z, SFits}
+use Rattle.std.proofs.lemmas.Int.{ints}
 use borrow.Author.Rules.{rules}
+use borrow.Author.Tests.{eq-eqb}
 use Rattle.rules.proofs.constraint.Goals as goal
-
-pub overflow_cast-a : goal.overflow_cast-a
-overflow_cast-a c =
-    let f : SFits w16 c.args.rule.a = search rules in
-    widens w16 c.args.rule.a f (lit≤ tt)
-
-pub overflow_cast-b : goal.overflow_cast-b
-overflow_cast-b c =
-    let f : SFits w16 c.args.rule.b = search rules in
-    widens w16 c.args.rule.b f (lit≤ tt)
-
-pub overflow_cast-c : goal.overflow_cast-c
-overflow_cast-c c =
-    let f : SFits w32 c.args.rule.c = search rules in
-    widens w32 c.args.rule.c f (lit≤ tt)
-
-pub overflow_sub-result : goal.overflow_sub-result
-overflow_sub-result c =
-    let f : SFits w16 c.args.rule.a = search rules in
-    turns w16 c.args.rule.a f (lit≤ tt)
-
-pub overflow_sub-result-then-kind-eq2 : goal.overflow_sub-result-then-kind-eq2
-overflow_sub-result-then-kind-eq2 c =
-    let f : SFits w16 c.args.rule.b = search rules in
-    turns w16 c.args.rule.b f (lit≤ tt)
-
-pub overflow_sub-result-then-kind-eq2-2 : goal.overflow_sub-result-then-kind-eq2-2
-overflow_sub-result-then-kind-eq2-2 c =
-    let f : SFits w32 c.args.rule.c = search rules in
-    turns w32 c.args.rule.c f (lit≤ tt)
 
 pub returns-then-kind-eq2 : goal.returns-then-kind-eq2
 returns-then-kind-eq2 c =
-    let fa : SFits w16 c.args.rule.a = search rules in
-    let fb : SFits w16 c.args.rule.b = search rules in
-    let fc : SFits w32 c.args.rule.c = search rules in
-    at_least c.args.rule fa fb fc c.if-kind-eq2.true
-
-pub returns-else-kind-eq2 : goal.returns-else-kind-eq2
-returns-else-kind-eq2 c =
-    let fa : SFits w16 c.args.rule.a = search rules in
-    let fb : SFits w16 c.args.rule.b = search rules in
-    let fc : SFits w32 c.args.rule.c = search rules in
-    at_most c.args.rule fa fb fc c.if-kind-eq2.false
+    let r = c.args.rule in
+    let fa : SFits w16 r.a = search rules in
+    let fb : SFits w16 r.b = search rules in
+    let fc : SFits w32 r.c = search rules in
+    let a : to_z w64 (of_z w64 (pos 0 -ℤ to_z w64 (of_z w64 c.from-a.result))) ≡ neg_ℤ r.a = omega (arith, ints) in
+    let b : to_z w64 (of_z w64 (pos 0 -ℤ to_z w64 (of_z w64 c.from-b.result))) ≡ neg_ℤ r.b = omega (arith, ints) in
+    let k : to_z w64 (of_z w64 (pos 0 -ℤ to_z w64 (of_z w64 c.from-c.result))) ≡ neg_ℤ r.c = omega (arith, ints) in
+    rw (eq-eqb r.kind 2 c.if-kind-eq2.true) (λ i. record { a = a i; b = b i; c = k i })

@@ -1,36 +1,47 @@
 -- `session_lines::read_line` meets its contract: the first word chooses the step.
+use Rattle.session_lines.proofs.Spelling.{start-as, add-as, rule-as, back-as}
 use Rattle.session_lines.proofs.Choosing.{starts, adds, rules, goes_back, longer, other}
 use Rattle.session_lines.proofs.read_line.Goals as goal
 
-pub returns-then-begins : goal.returns-then-begins
-returns-then-begins c =
-    starts c.args.text.now c.begins.ensures c.if-begins.true
+pub returns-then-starts_with : goal.returns-then-starts_with
+returns-then-starts_with c =
+    let l = c.args.text.now in
+    starts l (start-as l c.starts_with.ensures.value) c.if-starts_with.true
     c.started.ensures
 
-pub returns-then-begins-2 : goal.returns-then-begins-2
-returns-then-begins-2 c =
-    adds c.args.text.now c.begins.ensures c.if-begins.false
-    c.begins-2.ensures c.if-begins-2.true c.typed.ensures
+pub returns-then-starts_with-2 : goal.returns-then-starts_with-2
+returns-then-starts_with-2 c =
+    let l = c.args.text.now in
+    adds l (start-as l c.starts_with.ensures.value) c.if-starts_with.false
+    (add-as l c.starts_with-2.ensures.value) c.if-starts_with-2.true c.typed.ensures
 
-pub returns-then-begins-3 : goal.returns-then-begins-3
-returns-then-begins-3 c =
-    rules c.args.text.now c.begins.ensures c.if-begins.false
-    c.begins-2.ensures c.if-begins-2.false c.begins-3.ensures c.if-begins-3.true c.added.ensures
+pub returns-then-starts_with-3 : goal.returns-then-starts_with-3
+returns-then-starts_with-3 c =
+    let l = c.args.text.now in
+    rules l (start-as l c.starts_with.ensures.value) c.if-starts_with.false
+    (add-as l c.starts_with-2.ensures.value) c.if-starts_with-2.false
+    (rule-as l c.starts_with-3.ensures.value) c.if-starts_with-3.true c.added.ensures
 
 pub returns-then-text-eq4 : goal.returns-then-text-eq4
 returns-then-text-eq4 c =
-    goes_back c.args.text.now c.begins.ensures c.if-begins.false
-    c.begins-2.ensures c.if-begins-2.false c.begins-3.ensures c.if-begins-3.false
-    c.begins-4.ensures c.if-begins-4.true c.if-text-eq4.true
+    let l = c.args.text.now in
+    goes_back l (start-as l c.starts_with.ensures.value) c.if-starts_with.false
+    (add-as l c.starts_with-2.ensures.value) c.if-starts_with-2.false
+    (rule-as l c.starts_with-3.ensures.value) c.if-starts_with-3.false
+    (back-as l c.starts_with-4.ensures.value) c.if-starts_with-4.true c.if-text-eq4.true
 
 pub returns-else-text-eq4 : goal.returns-else-text-eq4
 returns-else-text-eq4 c =
-    longer c.args.text.now c.begins.ensures c.if-begins.false
-    c.begins-2.ensures c.if-begins-2.false c.begins-3.ensures c.if-begins-3.false
-    c.begins-4.ensures c.if-begins-4.true c.if-text-eq4.false
+    let l = c.args.text.now in
+    longer l (start-as l c.starts_with.ensures.value) c.if-starts_with.false
+    (add-as l c.starts_with-2.ensures.value) c.if-starts_with-2.false
+    (rule-as l c.starts_with-3.ensures.value) c.if-starts_with-3.false
+    (back-as l c.starts_with-4.ensures.value) c.if-starts_with-4.true c.if-text-eq4.false
 
-pub returns-else-begins-4 : goal.returns-else-begins-4
-returns-else-begins-4 c =
-    other c.args.text.now c.begins.ensures c.if-begins.false
-    c.begins-2.ensures c.if-begins-2.false c.begins-3.ensures c.if-begins-3.false
-    c.begins-4.ensures c.if-begins-4.false
+pub returns-else-starts_with-4 : goal.returns-else-starts_with-4
+returns-else-starts_with-4 c =
+    let l = c.args.text.now in
+    other l (start-as l c.starts_with.ensures.value) c.if-starts_with.false
+    (add-as l c.starts_with-2.ensures.value) c.if-starts_with-2.false
+    (rule-as l c.starts_with-3.ensures.value) c.if-starts_with-3.false
+    (back-as l c.starts_with-4.ensures.value) c.if-starts_with-4.false

@@ -5,20 +5,20 @@ use Rattle.showing.specs.Showing.{row_for}
 use Rattle.showing.proofs.Rows.{shown-start, shown-length, shown-step, shown-end}
 use Rattle.showing.proofs.list.Goals as goal
 
-pub loop-i-init : goal.loop-i-init
-loop-i-init c =
+pub loop-index-init : goal.loop-index-init
+loop-index-init c =
     let start = c in
     shown-start (row_for (layout_of start.args.version) start.args.book.now start.args.v) start.args.records.now
     start.args.out.now start.requires
 
-pub loop-i-preserved : goal.loop-i-preserved
-loop-i-preserved c =
-    shown-step c.loop-i.invariant
-    c.loop-i-test.true c.row.ensures
+pub loop-index-preserved : goal.loop-index-preserved
+loop-index-preserved c =
+    shown-step c.loop-index.invariant
+    c.loop-index-test.true c.row.ensures
     c.append_row-at.ensures
 
 pub shape_of-out : goal.shape_of-out
-shape_of-out c = shown-length c.loop-i.invariant
+shape_of-out c = shown-length c.loop-index.invariant
 
 pub returns : goal.returns
-returns c = shown-end c.loop-i.invariant c.loop-i-test.false
+returns c = shown-end c.loop-index.invariant c.loop-index-test.false

@@ -15,5 +15,5 @@ opening_in-first-requires c = record { room = omega (arith, c.if-numbers-ne14.fa
 pub returns : goal.returns
 returns c =
     fourteen_are c.args.numbers.now c.if-numbers-ne14.false
-    (c.in_order.ensures ∙ ap (λ z. ranges (pos 1) z (pos 3)) (number_read c.args.numbers.now
+    (c.within.ensures ∙ ap (λ z. ranges (pos 1) z (pos 3)) (number_read c.args.numbers.now
     c.struct_told-1.given.0.1 c.opening_in-first.ensures))

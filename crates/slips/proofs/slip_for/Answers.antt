@@ -20,7 +20,7 @@ returns-in-Infeasible c =
 pub returns-in-Unbounded : goal.returns-in-Unbounded
 returns-in-Unbounded c =
     let s = c in
-    unlimited-slip s.args.book.now s.args.plan s.requires c.in-Unbounded.field-0 c.in-Unbounded.field-1 c.in-Unbounded.is c.no_weights.ensures
+    unlimited-slip s.args.book.now s.args.plan s.requires c.in-Unbounded.field-0 c.in-Unbounded.field-1 c.in-Unbounded.is c.nothing.ensures
 
 pub returns-in-Optimal : goal.returns-in-Optimal
 returns-in-Optimal c =

@@ -4,12 +4,12 @@ use Rattle.slips.proofs.slip_of.Goals as goal
 
 pub slip_for-requires : goal.slip_for-requires
 slip_for-requires c = plans_of c.args.book.now
-    c.plan.ensures c.in-Planned.is
+    c.plan.ensures c.in-Ok.is
 
-pub returns-in-Refused : goal.returns-in-Refused
-returns-in-Refused c = refused-writes c.args.book.now c.plan.ensures
-    c.in-Refused.is
+pub returns-in-Err : goal.returns-in-Err
+returns-in-Err c = refused-writes c.args.book.now c.plan.ensures
+    c.in-Err.is
 
-pub returns-in-Planned : goal.returns-in-Planned
-returns-in-Planned c = given-writes c.args.book.now
-    c.plan.ensures c.in-Planned.is c.slip_for.ensures
+pub returns-in-Ok : goal.returns-in-Ok
+returns-in-Ok c = given-writes c.args.book.now
+    c.plan.ensures c.in-Ok.is c.slip_for.ensures

@@ -7,8 +7,8 @@ taken-requires c =
     begun-session c.args.p c.args.q c.args.lx c.args.ly c.ranges.p c.ranges.q c.ranges.lx
     c.ranges.ly c.lawful_objective.ensures c.if-lawful_objective.true c.begun.ensures
 
-pub taken-requires-else-lawful_objective : goal.taken-requires-else-lawful_objective
-taken-requires-else-lawful_objective c = empty-session c.begun-else-lawful_objective.ensures
+pub refused-requires : goal.refused-requires
+refused-requires c = empty-session c.begun-else-lawful_objective.ensures
 
 pub returns-then-lawful_objective : goal.returns-then-lawful_objective
 returns-then-lawful_objective c =
@@ -20,4 +20,4 @@ pub returns-else-lawful_objective : goal.returns-else-lawful_objective
 returns-else-lawful_objective c =
     starts-refused c.args.p c.args.q c.args.lx c.args.ly c.ranges.p c.ranges.q
     c.ranges.lx c.ranges.ly c.lawful_objective.ensures c.if-lawful_objective.false c.begun-else-lawful_objective.ensures
-    c.taken-else-lawful_objective.result c.taken-else-lawful_objective.ensures
+    c.refused.result c.refused.ensures

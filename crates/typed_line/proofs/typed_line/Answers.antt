@@ -1,7 +1,7 @@
 -- `typed_line::typed_line` meets its contract. The bytes read are the text, and the line is that of what they read as.
 use mathlib.Core.Path.{sym, ap, ◌∙◌, subst}
 use lib.Seq.{length-take-le}
-use Rattle.forms.specs.declared.Typed.{Typed}
+use Rattle.forms.specs.Value.{Typed}
 use Rattle.language.specs.Parser.{answer}
 use Rattle.typed_line.specs.Typed.{TypedWritten}
 use Rattle.typed_line.proofs.typed_line.Goals as goal

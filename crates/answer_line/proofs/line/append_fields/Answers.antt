@@ -5,18 +5,18 @@ use Rattle.report.specs.Line.{answer_fields}
 use Rattle.text.proofs.Put.{spelt, roomier}
 use Rattle.answer_line.proofs.line.append_fields.Goals as goal
 
-pub returns-in-Refused : goal.returns-in-Refused
+pub returns-in-Err : goal.returns-in-Err
 unfolding answer_fields
-returns-in-Refused c =
+returns-in-Err c =
     let line = c in
     let told = line in
     let start = told in
-    spelt (ap (answer_fields start.args.naming) (sym told.in-Refused.is)) (roomier (omega arith) (line.append_refused.ensures.fits (omega arith)))
+    spelt (ap (answer_fields start.args.naming) (sym told.in-Err.is)) (roomier (omega arith) (line.append_refused.ensures.fits (omega arith)))
 
-pub returns-in-Planned : goal.returns-in-Planned
+pub returns-in-Ok : goal.returns-in-Ok
 unfolding answer_fields
-returns-in-Planned c =
+returns-in-Ok c =
     let line = c in
     let told = line in
     let start = told in
-    spelt (ap (answer_fields start.args.naming) (sym told.in-Planned.is)) line.append_plan.ensures
+    spelt (ap (answer_fields start.args.naming) (sym told.in-Ok.is)) line.append_plan.ensures

@@ -1,6 +1,5 @@
 -- `checking::entries::keeps_all` meets its contract.
 use mathlib.Core.Path.{sym, ◌∙◌}
-use Prim.Native.Nat.{◌-◌}
 use Rattle.slip.proofs.Passes.{kept-start, kept_asks, kept_step, kept-stop, kept-end, entry-room}
 use Rattle.checking.proofs.entries.keeps_all.Goals as goal
 
@@ -15,11 +14,11 @@ keeps-requires c = kept_asks c.requires c.loop-i-test.true c.entry.ensures
 
 pub loop-i-preserved : goal.loop-i-preserved
 loop-i-preserved c = kept_step c.loop-i.invariant c.loop-i-test.true
-    c.entry.ensures (sym c.keeps.ensures ∙ c.if-keeps.true)
+    c.entry.ensures (sym c.keeps.ensures ∙ c.if-not-keeps.false)
 
-pub returns-else-keeps : goal.returns-else-keeps
-returns-else-keeps c = kept-stop c.loop-i.invariant c.loop-i-test.true
-    c.entry.ensures (sym c.keeps.ensures ∙ c.if-keeps.false)
+pub returns-then-not-keeps : goal.returns-then-not-keeps
+returns-then-not-keeps c = kept-stop c.loop-i.invariant c.loop-i-test.true
+    c.entry.ensures (sym c.keeps.ensures ∙ c.if-not-keeps.true)
 
 pub returns : goal.returns
 returns c = kept-end c.loop-i.invariant c.loop-i-test.false

@@ -1,6 +1,5 @@
 -- `checking::entries::stays_all` meets its contract.
 use mathlib.Core.Path.{sym, ◌∙◌}
-use Prim.Native.Nat.{◌-◌}
 use Rattle.slip.proofs.Passes.{stayed_start, stayed_asks, stayed_step, stayed_stop, stayed_end, entry-room}
 use Rattle.checking.proofs.entries.stays_all.Goals as goal
 
@@ -15,11 +14,11 @@ stays-requires c = stayed_asks c.requires c.loop-i-test.true c.entry.ensures
 
 pub loop-i-preserved : goal.loop-i-preserved
 loop-i-preserved c = stayed_step c.loop-i.invariant c.loop-i-test.true
-    c.entry.ensures (sym c.stays.ensures ∙ c.if-stays.true)
+    c.entry.ensures (sym c.stays.ensures ∙ c.if-not-stays.false)
 
-pub returns-else-stays : goal.returns-else-stays
-returns-else-stays c = stayed_stop c.loop-i.invariant c.loop-i-test.true
-    c.entry.ensures (sym c.stays.ensures ∙ c.if-stays.false)
+pub returns-then-not-stays : goal.returns-then-not-stays
+returns-then-not-stays c = stayed_stop c.loop-i.invariant c.loop-i-test.true
+    c.entry.ensures (sym c.stays.ensures ∙ c.if-not-stays.true)
 
 pub returns : goal.returns
 returns c = stayed_end c.loop-i.invariant c.loop-i-test.false

@@ -3,14 +3,14 @@ use mathlib.Core.Path.{sym, ◌∙◌}
 use Rattle.engine.proofs.Steps.{asked-keeps}
 use Rattle.engine.proofs.between.improved_at.Goals as goal
 
-pub returns-in-Along : goal.returns-in-Along
-returns-in-Along c = rw (c.in-Open.is, sym c.gaining.ensures ∙ c.in-Along.is)
+pub returns-in-Some-gaining : goal.returns-in-Some-gaining
+returns-in-Some-gaining c = rw (c.in-None.is, sym c.gaining.ensures ∙ c.in-Some-gaining.is)
 
-pub returns-in-Nowhere : goal.returns-in-Nowhere
-returns-in-Nowhere c =
+pub returns-in-None-gaining : goal.returns-in-None-gaining
+returns-in-None-gaining c =
     rw (
-      c.in-Open.is,
-      sym c.gaining.ensures ∙ c.in-Nowhere.is,
+      c.in-None.is,
+      sym c.gaining.ensures ∙ c.in-None-gaining.is,
       c.moved_to.ensures,
     )
 
@@ -18,8 +18,8 @@ pub returns-then-broken : goal.returns-then-broken
 returns-then-broken c =
     let s = c in
     rw (
-      c.in-At.is,
-      asked-keeps s.args.h s.requires.improving.asked c.in-At.is,
+      c.in-Some.is,
+      asked-keeps s.args.h s.requires.improving.asked c.in-Some.is,
       c.if-broken.true,
       c.moved_to-then-broken.ensures,
     )
@@ -28,7 +28,7 @@ pub returns-else-broken : goal.returns-else-broken
 returns-else-broken c =
     let s = c in
     rw (
-      c.in-At.is,
-      asked-keeps s.args.h s.requires.improving.asked c.in-At.is,
+      c.in-Some.is,
+      asked-keeps s.args.h s.requires.improving.asked c.in-Some.is,
       c.if-broken.false,
     )

@@ -62,8 +62,8 @@ going-requires c =
     let s = c in
     record { room = omega (arith, s.requires.stepping.opened-room, s.ranges.n.fits) }
 
-pub returns-in-Moved : goal.returns-in-Moved
-returns-in-Moved c =
+pub returns-in-Ok : goal.returns-in-Ok
+returns-in-Ok c =
     let a = c.args in
     step-moved a.tie a.objective (entries a.entries.now 0 a.n) a.n a.h a.walk
     c.in-Going.is
@@ -72,15 +72,15 @@ returns-in-Moved c =
     c.breaks-broken.ensures
     c.counted-moves.ensures
     c.counted-restarts.ensures
-    c.in-Moved.is c.narrow-wedge.ensures c.improved_at-next.ensures
+    c.in-Ok.is c.narrow-wedge.ensures c.improved_at-next.ensures
     c.going.ensures
 
-pub returns-in-Failed : goal.returns-in-Failed
-returns-in-Failed c =
+pub returns-in-Err : goal.returns-in-Err
+returns-in-Err c =
     let a = c.args in
     step_failed a.tie a.objective (entries a.entries.now 0 a.n) a.n a.h a.walk
     c.in-Going.is
     c.keeps-kept.ensures c.start_at.ensures
     c.breaks-broken.ensures
     c.counted-moves.ensures c.counted-restarts.ensures
-    c.in-Failed.is
+    c.in-Err.is

@@ -1,6 +1,5 @@
 -- `engine::carry::carry_in` meets its contract: the walk from some rule on, with the ring carried along.
 use mathlib.Core.Path.{refl, ◌∙◌}
-use Prim.Native.Nat.{◌-◌}
 use native.Mathlib.Omega.{arith}
 use Rattle.engine.proofs.Walks.{walked-room, walked_step, walked_stop, answering, walked_end}
 use Rattle.engine.proofs.Carried.{carrying-walked, carry_growing, carry_advancing}
@@ -16,64 +15,59 @@ pub grow-arc-requires : goal.grow-arc-requires
 grow-arc-requires c =
     carry_growing c.requires.carrying c.requires.room c.size-size.ensures
 
-pub loop-i-init : goal.loop-i-init
-loop-i-init c = (λ begun v. v, c.grow-arc.ensures.holding, refl)
+pub loop-k-init : goal.loop-k-init
+loop-k-init c = (λ begun v. v, c.grow-arc.ensures.holding, refl)
 
 pub entry-h-requires : goal.entry-h-requires
 entry-h-requires c =
     let s = c.requires.carrying in
-    walked-room s.walking (c.loop-i.invariant.0 _ (carrying-walked s)) c.loop-i-test.true
+    walked-room s.walking (c.loop-k.invariant.0 _ (carrying-walked s)) c.loop-k-test.true
 
 pub advance-next-requires : goal.advance-next-requires
 advance-next-requires c =
     let s = c.requires.carrying in
-    carry_advancing s (c.loop-i.invariant.0 _ (carrying-walked s))
-    c.loop-i-test.true c.entry-h.ensures
+    carry_advancing s (c.loop-k.invariant.0 _ (carrying-walked s))
+    c.loop-k-test.true c.entry-h.ensures
     c.rule_in_range.ensures
     c.if-rule_in_range.true c.size-size.ensures
-    c.loop-i.invariant.1
+    c.loop-k.invariant.1
 
-pub overflow_add-i : goal.overflow_add-i
-overflow_add-i c =
-    let test = c in
-    omega (arith, test.loop-i-test.true, test.requires.carrying.few)
-
-pub loop-i-preserved : goal.loop-i-preserved
-loop-i-preserved c =
+pub loop-k-preserved : goal.loop-k-preserved
+loop-k-preserved c =
     let test = c in
     let s = test.requires.carrying in
     let u = c.advance-next.ensures in (
       λ begun v.
           walked_step s.walking
-          (c.loop-i.invariant.0 begun v)
-          c.loop-i-test.true
+          (c.loop-k.invariant.0 begun v)
+          c.loop-k-test.true
           c.entry-h.ensures
           c.rule_in_range.ensures
           c.if-rule_in_range.true refl u.walk,
       u.holding,
-      u.same ∙ c.loop-i.invariant.2,
+      u.same ∙ c.loop-k.invariant.2,
     )
 
 pub shape_of-ring-else-rule_in_range : goal.shape_of-ring-else-rule_in_range
 shape_of-ring-else-rule_in_range c =
-    c.loop-i.invariant.2 ∙ c.grow-arc.ensures.same
+    c.loop-k.invariant.2 ∙ c.grow-arc.ensures.same
 
 pub returns-else-rule_in_range : goal.returns-else-rule_in_range
 returns-else-rule_in_range c =
     let s = c.requires.carrying in
-    walked_stop s.walking (c.loop-i.invariant.0 _ (carrying-walked s))
-    c.loop-i-test.true c.entry-h.ensures
+    walked_stop s.walking (c.loop-k.invariant.0 _ (carrying-walked s))
+    c.loop-k-test.true c.entry-h.ensures
     c.rule_in_range.ensures c.if-rule_in_range.false
 
 pub solution-requires : goal.solution-requires
 solution-requires c =
     let s = c.requires.carrying in
-    answering s.walking (c.loop-i.invariant.0 _ (carrying-walked s))
+    answering s.walking (c.loop-k.invariant.0 _ (carrying-walked s))
 
 pub shape_of-ring : goal.shape_of-ring
-shape_of-ring c = c.loop-i.invariant.2 ∙ c.grow-arc.ensures.same
+shape_of-ring c = c.loop-k.invariant.2 ∙ c.grow-arc.ensures.same
 
 pub returns : goal.returns
 returns c =
     let s = c.requires.carrying in
-    walked_end s.walking (c.loop-i.invariant.0 _ (carrying-walked s)) c.loop-i-test.false refl c.solution.ensures
+    walked_end s.walking (c.loop-k.invariant.0 _ (carrying-walked s)) c.loop-k-test.false refl c.solution.ensures

@@ -1,6 +1,6 @@
 -- `engine::grow::grow` meets its contract: the ring of the first m entries.
 use mathlib.Core.Path.{refl, ◌∙◌}
-use Prim.Native.Nat.{◌-◌, ◌/◌}
+use Prim.Native.Nat.{◌/◌}
 use native.Mathlib.Omega.{arith}
 use lib.ListN.{length, length-set}
 use Rattle.engine.proofs.Carried.{seeded-length, grow-start, grow-size, grow-taken, grow-end}

@@ -1,12 +1,9 @@
 -- `engine::grow::grow` meets its contract: the ring of the first m entries.
 use mathlib.Core.Path.{◌≡◌}
-use Prim.Native.Nat.{◌-◌, ◌≤◌}
+use Prim.Native.Nat.{◌≤◌}
 use lib.ListN.{length}
 use Rattle.engine.specs.Rings.{Holding}
 use Rattle.engine.proofs.grow.grow.Given as goal
 
 abbrev pub invariant-loop-k : goal.invariant-loop-k
 invariant-loop-k l = Holding l.run l.ring l.size l.k l.arc × (length l.ring ≡ length l.initial.ring) × (l.k ≤ l.m)
-
-abbrev pub decreases-loop-k : goal.decreases-loop-k
-decreases-loop-k l = l.m - l.k

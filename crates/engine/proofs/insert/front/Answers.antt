@@ -1,15 +1,16 @@
 -- `engine::insert::front` meets its contract: the edges at the front are dropped whose later corner is broken.
-use mathlib.Core.Path.{sym, ◌∙◌}
-use Prim.Native.Nat.{◌-◌}
+use mathlib.Core.Path.{sym, ◌∙◌, subst}
+use Prim.Native.Nat.{ℕ}
 use native.Mathlib.Omega.{arith}
+use Rattle.engine.specs.Rings.{Dropped}
 use Rattle.engine.proofs.Drops.{front-start, front-pair, front-stop, front-step, front-end}
 use Rattle.engine.proofs.insert.front.Goals as goal
 
 pub loop-i-init : goal.loop-i-init
 loop-i-init c = front-start c.requires
 
-pub overflow_add-i : goal.overflow_add-i
-overflow_add-i c = omega (arith, c.loop-i.invariant.inside)
+pub overflow_sub-last : goal.overflow_sub-last
+overflow_sub-last c = omega (arith, c.requires.some)
 
 pub overflow_add-at : goal.overflow_add-at
 overflow_add-at c = omega (arith, c.requires.ring.fits)
@@ -31,4 +32,7 @@ loop-i-preserved c =
     (sym c.corner_keeps.ensures ∙ c.if-corner_keeps.false)
 
 pub returns : goal.returns
-returns c = front-end c.requires c.loop-i.invariant (omega arith)
+returns c =
+    let a = c.args in
+    subst (λ (i : ℕ). Dropped a.run.now a.ring.now a.lo a.n a.h i) (omega arith)
+    (front-end c.requires c.loop-i.invariant (omega arith))

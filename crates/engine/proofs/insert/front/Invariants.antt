@@ -1,10 +1,6 @@
 -- `engine::insert::front` meets its contract: the edges at the front are dropped whose later corner is broken.
-use Prim.Native.Nat.{◌-◌}
 use Rattle.engine.proofs.Drops.{Front}
 use Rattle.engine.proofs.insert.front.Given as goal
 
 abbrev pub invariant-loop-i : goal.invariant-loop-i
 invariant-loop-i l = Front l.run l.ring l.lo l.n l.h l.i
-
-abbrev pub decreases-loop-i : goal.decreases-loop-i
-decreases-loop-i l = l.n - l.i

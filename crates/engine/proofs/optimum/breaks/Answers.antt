@@ -6,7 +6,7 @@ use Rattle.engine.proofs.optimum.breaks.Goals as goal
 pub keeps-requires : goal.keeps-requires
 keeps-requires c =
     let s = c in
-    kept-distance s.requires.h-small (best-point s.requires.best c.in-At.is)
+    kept-distance s.requires.h-small (best-point s.requires.best c.in-Some.is)
 
-pub returns-in-At : goal.returns-in-At
-returns-in-At c = rw (c.in-At.is, c.keeps.ensures)
+pub returns-in-Some : goal.returns-in-Some
+returns-in-Some c = rw (c.in-Some.is, c.keeps.ensures)

@@ -1,17 +1,17 @@
 -- `engine::optimum::improved` meets its contract.
+use Rattle.std.specs.Prelude.{Some}
 use mathlib.Core.Path.{sym, ◌∙◌, ap}
-use Rattle.model.specs.declared.Best.TheVariants.{At}
 use Rattle.engine.proofs.Steps.{asked-keeps, same_point}
 use Rattle.engine.proofs.optimum.improved.Goals as goal
 
-pub returns-in-Along : goal.returns-in-Along
-returns-in-Along c = rw (c.in-Open.is, sym c.gaining.ensures ∙ c.in-Along.is)
+pub returns-in-Some-gaining : goal.returns-in-Some-gaining
+returns-in-Some-gaining c = rw (c.in-None.is, sym c.gaining.ensures ∙ c.in-Some-gaining.is)
 
-pub returns-in-Nowhere : goal.returns-in-Nowhere
-returns-in-Nowhere c =
+pub returns-in-None-gaining : goal.returns-in-None-gaining
+returns-in-None-gaining c =
     rw (
-      c.in-Open.is,
-      sym c.gaining.ensures ∙ c.in-Nowhere.is,
+      c.in-None.is,
+      sym c.gaining.ensures ∙ c.in-None-gaining.is,
       c.moved.ensures,
     )
 
@@ -19,8 +19,8 @@ pub returns-then-broken : goal.returns-then-broken
 returns-then-broken c =
     let s = c in
     rw (
-      c.in-At.is,
-      asked-keeps s.args.h s.requires.asked c.in-At.is,
+      c.in-Some.is,
+      asked-keeps s.args.h s.requires.asked c.in-Some.is,
       c.if-broken.true,
       c.moved-then-broken.ensures,
     )
@@ -29,5 +29,5 @@ pub returns-else-broken : goal.returns-else-broken
 returns-else-broken c =
     let s = c in
     let h = c.struct_told-1.given in
-    rw (c.in-At.is, asked-keeps s.args.h s.requires.asked c.in-At.is, c.if-broken.false)
-    (ap At (same_point c.in-At.v h.0.1 h.1.0.1 h.1.1.0.1))
+    rw (c.in-Some.is, asked-keeps s.args.h s.requires.asked c.in-Some.is, c.if-broken.false)
+    (ap Some (same_point c.in-Some.v h.0.1 h.1.0.1 h.1.1.0.1))

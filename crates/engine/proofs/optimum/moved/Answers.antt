@@ -26,15 +26,15 @@ tightest-requires c =
       line_small = subst SmallConstraint (sym c.facing.ensures) (facing-small c.upward-side.result h.h-small);
     }
 
-pub returns-in-Nothing : goal.returns-in-Nothing
-returns-in-Nothing c =
+pub returns-in-None : goal.returns-in-None
+returns-in-None c =
     let a = c.args in
     sym (ap found_point (sym (faced-tightest (gain_order a.objective a.tie) (entries a.entries.now 0 a.n) a.h
     c.direction.ensures c.upward-side.ensures
-    c.facing.ensures c.tightest.ensures) ∙ c.in-Nothing.is))
+    c.facing.ensures c.tightest.ensures) ∙ c.in-None.is))
 
-pub returns-in-At : goal.returns-in-At
-returns-in-At c =
+pub returns-in-Some : goal.returns-in-Some
+returns-in-Some c =
     let a = c.args in
     c.reduce.ensures
     ∙ sym (ap found_point (sym
@@ -42,4 +42,4 @@ returns-in-At c =
     c.direction.ensures
     c.upward-side.ensures
     c.facing.ensures c.tightest.ensures)
-    ∙ c.in-At.is))
+    ∙ c.in-Some.is))

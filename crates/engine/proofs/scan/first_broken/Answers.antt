@@ -1,6 +1,5 @@
 -- `engine::scan::first_broken` meets its contract: the first of n entries that a point breaks.
 use mathlib.Core.Path.{sym, ◌∙◌}
-use Prim.Native.Nat.{◌-◌}
 use Rattle.engine.proofs.Passes.{unbroken_start, entry-room, checking, unbroken_step, unbroken_stop, unbroken_end}
 use Rattle.engine.proofs.scan.first_broken.Goals as goal
 
@@ -17,12 +16,12 @@ keeps-requires c =
 pub loop-i-preserved : goal.loop-i-preserved
 loop-i-preserved c =
     unbroken_step c.requires c.loop-i.invariant
-    c.loop-i-test.true c.entry-m.ensures (sym c.keeps.ensures ∙ c.if-keeps.true)
+    c.loop-i-test.true c.entry-m.ensures (sym c.keeps.ensures ∙ c.if-not-keeps.false)
 
-pub returns-else-keeps : goal.returns-else-keeps
-returns-else-keeps c =
+pub returns-then-not-keeps : goal.returns-then-not-keeps
+returns-then-not-keeps c =
     unbroken_stop c.requires c.loop-i.invariant
-    c.loop-i-test.true c.entry-m.ensures (sym c.keeps.ensures ∙ c.if-keeps.false)
+    c.loop-i-test.true c.entry-m.ensures (sym c.keeps.ensures ∙ c.if-not-keeps.true)
 
 pub returns : goal.returns
 returns c = unbroken_end c.requires c.loop-i.invariant c.loop-i-test.false

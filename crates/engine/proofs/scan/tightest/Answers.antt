@@ -1,5 +1,4 @@
 -- `engine::scan::tightest` meets its contract: the tightest point on a line among the first n entries.
-use Prim.Native.Nat.{◌-◌}
 use Rattle.engine.proofs.Passes.{tightest-start, entry-room, tightening, tightest-step, tightest-end}
 use Rattle.engine.proofs.scan.tightest.Goals as goal
 

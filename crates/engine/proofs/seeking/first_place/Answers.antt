@@ -1,6 +1,6 @@
 -- `engine::seeking::first_place` meets its contract: a place of the constraint, or none.
 use mathlib.Core.Path.{◌∙◌, sym}
-use Prim.Native.Nat.{◌+◌, ◌-◌}
+use Prim.Native.Nat.{◌+◌}
 use native.Mathlib.Omega.{arith}
 use Rattle.engine.proofs.Places.{sought-inner, sought-none}
 use Rattle.engine.proofs.Rows.{ring-place}
@@ -9,8 +9,8 @@ use Rattle.engine.proofs.seeking.first_place.Goals as goal
 pub loop-k-init : goal.loop-k-init
 loop-k-init c = omega (arith, c.requires.two)
 
-pub overflow_add-k : goal.overflow_add-k
-overflow_add-k c = omega (arith, c.loop-k.invariant)
+pub overflow_sub-k-end : goal.overflow_sub-k-end
+overflow_sub-k-end c = omega (arith, c.requires.two)
 
 pub overflow_add-p : goal.overflow_add-p
 overflow_add-p c = omega (arith, c.loop-k.invariant, c.requires.ring.fits)
@@ -26,7 +26,7 @@ is_between-requires c =
     ring-place p.ring p.w-small (lo + k) (lo + k + 1) (omega arith) (omega (arith, c.loop-k.invariant)) (omega arith) (omega arith)
 
 pub returns-then-is_between : goal.returns-then-is_between
-returns-then-is_between c = sought-inner c.loop-k-test.true (sym c.is_between.ensures ∙ c.if-is_between.true)
+returns-then-is_between c = sought-inner (omega arith) (sym c.is_between.ensures ∙ c.if-is_between.true)
 
 pub returns : goal.returns
 returns c = sought-none

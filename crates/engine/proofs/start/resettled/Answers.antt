@@ -6,33 +6,33 @@ use Rattle.engine.proofs.start.resettled.Goals as goal
 pub first_broken-requires : goal.first_broken-requires
 first_broken-requires c =
     let s = c in
-    record { entries = s.requires.entries; point = (found-parts s.requires.found-small c.in-At.is).1 }
+    record { entries = s.requires.entries; point = (found-parts s.requires.found-small c.in-Some.is).1 }
 
 pub conflict-requires : goal.conflict-requires
 conflict-requires c =
     record {
       h-small = c.requires.h-small;
-      k-small = (found-parts c.requires.found-small c.in-At.is).0;
+      k-small = (found-parts c.requires.found-small c.in-Some.is).0;
       m-small =
-          broken-small c.requires.entries c.in-At.p
-          c.first_broken.ensures c.in-At-first_broken.is;
+          broken-small c.requires.entries c.in-Some.met.point
+          c.first_broken.ensures c.in-Some-first_broken.is;
     }
 
-pub returns-in-Nothing : goal.returns-in-Nothing
-returns-in-Nothing c = rw (c.in-Nothing.is, c.alone.ensures)
+pub returns-in-None : goal.returns-in-None
+returns-in-None c = rw (c.in-None.is, c.alone.ensures)
 
-pub returns-in-Nowhere : goal.returns-in-Nowhere
-returns-in-Nowhere c =
+pub returns-in-None-first_broken : goal.returns-in-None-first_broken
+returns-in-None-first_broken c =
     rw (
-      c.in-At.is,
-      sym c.first_broken.ensures ∙ c.in-Nowhere.is,
+      c.in-Some.is,
+      sym c.first_broken.ensures ∙ c.in-None-first_broken.is,
       c.reduce.ensures,
     )
 
-pub returns-in-At-first_broken : goal.returns-in-At-first_broken
-returns-in-At-first_broken c =
+pub returns-in-Some-first_broken : goal.returns-in-Some-first_broken
+returns-in-Some-first_broken c =
     rw (
-      c.in-At.is,
-      sym c.first_broken.ensures ∙ c.in-At-first_broken.is,
+      c.in-Some.is,
+      sym c.first_broken.ensures ∙ c.in-Some-first_broken.is,
       c.conflict.ensures,
     )

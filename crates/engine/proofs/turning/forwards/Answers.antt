@@ -1,6 +1,8 @@
 -- `engine::turning::forwards` meets its contract: the ring is turned until edge k is its last.
-use Prim.Native.Nat.{◌-◌}
+use mathlib.Core.Path.{subst}
+use Prim.Native.Nat.{ℕ}
 use native.Mathlib.Omega.{arith}
+use Rattle.engine.specs.Rings.{Faces}
 use Rattle.engine.proofs.Turns.{forth_start, forth_room, forth_step, forth_end}
 use Rattle.engine.proofs.turning.forwards.Goals as goal
 
@@ -29,4 +31,7 @@ pub shape_of-ring : goal.shape_of-ring
 shape_of-ring c = c.loop-at.invariant.turned.same
 
 pub returns : goal.returns
-returns c = forth_end c.requires c.loop-at.invariant c.loop-at-test.false
+returns c =
+    let a = c.args in
+    subst (λ (at : ℕ). Faces a.ring.now a.lo a.n a.k at c.loop-at.ring) (omega (arith, c.loop-at.invariant.inside))
+    (forth_end c.requires c.loop-at.invariant c.loop-at-test.false)

@@ -1,10 +1,6 @@
 -- `engine::turning::forwards` meets its contract: the ring is turned until edge k is its last.
-use Prim.Native.Nat.{◌-◌, ◌+◌}
 use Rattle.engine.proofs.Turns.{Forth}
 use Rattle.engine.proofs.turning.forwards.Given as goal
 
 abbrev pub invariant-loop-at : goal.invariant-loop-at
 invariant-loop-at l = Forth l.initial.ring l.lo l.n l.k l.at l.ring
-
-abbrev pub decreases-loop-at : goal.decreases-loop-at
-decreases-loop-at l = l.lo + l.k + 1 - l.at

@@ -2,16 +2,16 @@
 use mathlib.Core.Path.{sym, ◌∙◌}
 use Rattle.engine.proofs.verdict.said.Goals as goal
 
-pub returns-in-Along : goal.returns-in-Along
-returns-in-Along c =
+pub returns-in-Some-gaining : goal.returns-in-Some-gaining
+returns-in-Some-gaining c =
     rw (
-      c.in-Open.is,
-      sym c.gaining.ensures ∙ c.in-Along.is,
+      c.in-None.is,
+      sym c.gaining.ensures ∙ c.in-Some-gaining.is,
       c.reduce_ray.ensures,
     )
 
-pub returns-in-Nowhere : goal.returns-in-Nowhere
-returns-in-Nowhere c = rw (c.in-Open.is, sym c.gaining.ensures ∙ c.in-Nowhere.is)
+pub returns-in-None-gaining : goal.returns-in-None-gaining
+returns-in-None-gaining c = rw (c.in-None.is, sym c.gaining.ensures ∙ c.in-None-gaining.is)
 
-pub returns-in-At : goal.returns-in-At
-returns-in-At c = rw c.in-At.is
+pub returns-in-Some : goal.returns-in-Some
+returns-in-Some c = rw c.in-Some.is

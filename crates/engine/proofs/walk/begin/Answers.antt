@@ -2,14 +2,14 @@
 use Rattle.engine.proofs.Walks.{begun_open, begun-best}
 use Rattle.engine.proofs.walk.begin.Goals as goal
 
-pub returns-in-Along : goal.returns-in-Along
-returns-in-Along c =
+pub returns-in-Some : goal.returns-in-Some
+returns-in-Some c =
     let s = c in
     begun_open s.args.floors s.args.objective s.requires.floors-small c.gaining.ensures
-    c.in-Along.is c.going.ensures
+    c.in-Some.is c.going.ensures
 
-pub returns-in-Nowhere : goal.returns-in-Nowhere
-returns-in-Nowhere c =
+pub returns-in-None : goal.returns-in-None
+returns-in-None c =
     let s = c in
     begun-best s.args.floors s.args.objective s.requires.floors-small c.gaining.ensures
-    c.in-Nowhere.is c.going-in-Nowhere.ensures
+    c.in-None.is c.going-in-None.ensures

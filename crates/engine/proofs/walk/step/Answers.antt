@@ -51,8 +51,8 @@ improved-next-requires c =
       asked = c.breaks-broken.ensures;
     }
 
-pub returns-in-Moved : goal.returns-in-Moved
-returns-in-Moved c =
+pub returns-in-Ok : goal.returns-in-Ok
+returns-in-Ok c =
     let s = c in
     step-moved s.args.tie s.args.objective (entries s.args.entries.now 0 s.args.n) s.args.n s.args.h
     s.args.walk c.in-Going.is
@@ -60,15 +60,15 @@ returns-in-Moved c =
     c.start.ensures
     c.breaks-broken.ensures
     c.counted-moves.ensures
-    c.counted-restarts.ensures c.in-Moved.is
+    c.counted-restarts.ensures c.in-Ok.is
     c.narrow-wedge.ensures c.improved-next.ensures c.going.ensures
 
-pub returns-in-Failed : goal.returns-in-Failed
-returns-in-Failed c =
+pub returns-in-Err : goal.returns-in-Err
+returns-in-Err c =
     let s = c in
     step_failed s.args.tie s.args.objective (entries s.args.entries.now 0 s.args.n) s.args.n s.args.h
     s.args.walk c.in-Going.is
     c.keeps-kept.ensures c.start.ensures
     c.breaks-broken.ensures
     c.counted-moves.ensures c.counted-restarts.ensures
-    c.in-Failed.is
+    c.in-Err.is

@@ -48,15 +48,6 @@ pub returns-then-pays : goal.returns-then-pays
 returns-then-pays c =
     c.carry_on.ensures
 
-pub loop-i-preserved-else-pays : goal.loop-i-preserved-else-pays
-loop-i-preserved-else-pays c =
-    let t = c in
-    let s = t in
-    walked_step s.requires t.loop-i.invariant
-    t.loop-i-test.true t.entry-h.ensures
-    t.rule_in_range.ensures t.if-rule_in_range.true
-    t.tie.ensures t.step-walk.ensures
-
 pub loop-i-preserved : goal.loop-i-preserved
 loop-i-preserved c =
     let t = c in

@@ -1,13 +1,16 @@
--- `forms::operands::held` meets its contract. A form is tested, and a refusal goes through.
+-- `forms::operands::held` meets its contract. A form is tested, and a flaw goes through.
 use mathlib.Core.Path.{sym, ap}
+use Rattle.std.proofs.lemmas.Result.{err_from_is_err_and}
 use Rattle.forms.specs.Value.{held}
 use Rattle.forms.proofs.Values.{same-value, refused}
 use Rattle.forms.proofs.operands.held.Goals as goal
 
-pub returns-in-Linear : goal.returns-in-Linear
+pub returns : goal.returns
 unfolding held
-returns-in-Linear c = same-value (ap held (sym c.in-Linear.is)) c.limited.ensures
+returns c = same-value (ap held (sym c.in_ok-v.was)) c.limited.ensures
 
-pub returns-in-Beyond : goal.returns-in-Beyond
+pub returns-in_err-v : goal.returns-in_err-v
 unfolding held
-returns-in-Beyond c = same-value (ap held (sym c.in-Beyond.is)) refused
+returns-in_err-v c =
+    let p = err_from_is_err_and c.from_residual.result c.from_residual.ensures.1 in
+    rw (p.1, p.2) (same-value (ap held (sym c.in_err-v.was)) refused)

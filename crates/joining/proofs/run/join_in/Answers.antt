@@ -40,48 +40,48 @@ overflow_add-first c =
           read.ensures both.if-refusal-ne0.false both.if-refusal-ne0-2.false,
     )
 
-pub shape_of-names-in-Outside : goal.shape_of-names-in-Outside
-shape_of-names-in-Outside c =
+pub shape_of-names-in-None : goal.shape_of-names-in-None
+shape_of-names-in-None c =
     let both = c in
     c.rename.auto.names ∙ both.read_both-heads.auto.names
 
-pub shape_of-entries-in-Outside : goal.shape_of-entries-in-Outside
-shape_of-entries-in-Outside c =
+pub shape_of-entries-in-None : goal.shape_of-entries-in-None
+shape_of-entries-in-None c =
     let both = c in
     c.solve.auto.run ∙ both.read_both-heads.auto.entries
 
-pub returns-in-Outside : goal.returns-in-Outside
-returns-in-Outside c =
+pub returns-in-None : goal.returns-in-None
+returns-in-None c =
     let both = c in
     let start = both in
     let read = both.read_both-heads in
     absurd
     (never-outside start.args.site.now start.args.tenant.now read.result read.new.names read.new.entries
     read.ensures both.if-refusal-ne0.false both.if-refusal-ne0-2.false
-    (sym c.in-Outside.is
+    (sym c.in-None.is
     ∙ c.solve.ensures.answer
     ∙ ap (λ (t : Terms). solved_of t read.new.entries (read.result.site.n + read.result.tenant.n))
     c.joined_terms.ensures))
 
-pub shape_of-names-in-Walked : goal.shape_of-names-in-Walked
-shape_of-names-in-Walked c =
+pub shape_of-names-in-Some : goal.shape_of-names-in-Some
+shape_of-names-in-Some c =
     let both = c in
     c.rename.auto.names ∙ both.read_both-heads.auto.names
 
-pub shape_of-entries-in-Walked : goal.shape_of-entries-in-Walked
-shape_of-entries-in-Walked c =
+pub shape_of-entries-in-Some : goal.shape_of-entries-in-Some
+shape_of-entries-in-Some c =
     let both = c in
     c.solve.auto.run ∙ both.read_both-heads.auto.entries
 
-pub returns-in-Walked : goal.returns-in-Walked
-returns-in-Walked c =
+pub returns-in-Some : goal.returns-in-Some
+returns-in-Some c =
     let both = c in
     let start = both in
     let read = both.read_both-heads in
     joined-planned start.args.site.now start.args.tenant.now read.result read.new.names read.new.entries
     read.ensures both.if-refusal-ne0.false both.if-refusal-ne0-2.false
     c.rename.new.names c.rename.ensures
-    (sym c.in-Walked.is
+    (sym c.in-Some.is
     ∙ c.solve.ensures.answer
     ∙ ap (λ (t : Terms). solved_of t read.new.entries (read.result.site.n + read.result.tenant.n))
     c.joined_terms.ensures)

@@ -3,8 +3,7 @@ use native.Mathlib.Omega.{arith}
 use mathlib.Core.Path.{ap, ◌∙◌}
 use lib.ListN.{length}
 use Rattle.region.proofs.Theorems.{places}
-use Rattle.sorting.specs.Keys.{comes_of}
-use Rattle.sorting.specs.declared.keys.By.TheVariants.{Angle}
+use Rattle.sorting.specs.Keys.{earlier_at}
 use Rattle.laying.proofs.Orders.{counted-names, sorted-names}
 use Rattle.laying.proofs.order.put_order.Goals as goal
 
@@ -30,7 +29,7 @@ returns-then-sorted c =
     record {
       run = sorted.ensures;
       named =
-          sorted-names (comes_of (Angle c.frame.result) sorted.new.run) (length c.args.order.now)
+          sorted-names (earlier_at c.frame.result sorted.new.run) (length c.args.order.now)
           (c.count_rules.ensures ∙ ap (places 2) sorted.auto.order) c.sort.ensures;
     }
 

@@ -1,5 +1,5 @@
 -- `offering::offers::fill` meets its contract: after i turns the first i answers are written (`one_more`).
-use Prim.Native.Nat.{◌-◌, ◌*◌, ◌/◌, ◌≤◌}
+use Prim.Native.Nat.{◌*◌, ◌/◌, ◌≤◌}
 use mathlib.Core.Path.{◌≡◌}
 use lib.ListN.{length}
 use lib.Seq.{paste}
@@ -18,6 +18,3 @@ invariant-loop-i l =
     × (length l.out ≡ length l.initial.out)
     × (l.start ≡ first_by (tie_order document.tie) (points_from l.corners 0 l.count))
     × Filling l.cone l.corners l.count l.objectives l.initial.out
-
-abbrev pub decreases-loop-i : goal.decreases-loop-i
-decreases-loop-i l = l.total - l.i

@@ -8,16 +8,16 @@ returns-then-count-eq0 c =
     let a = c.args in
     offer-none a.cone a.corners.now a.f c.if-count-eq0.true
 
-pub returns-in-Along : goal.returns-in-Along
-returns-in-Along c =
+pub returns-in-Some : goal.returns-in-Some
+returns-in-Some c =
     let s = c in
     offer-unlimited s.args.cone s.args.corners.now s.args.f s.args.count
     (omega (arith, c.if-count-eq0.false))
-    c.gaining.ensures c.in-Along.is s.requires.first
+    c.gaining.ensures c.in-Some.is s.requires.first
 
-pub returns-in-Nowhere : goal.returns-in-Nowhere
-returns-in-Nowhere c =
+pub returns-in-None : goal.returns-in-None
+returns-in-None c =
     let s = c in
     offer-best s.args.cone s.args.corners.now s.args.f s.args.count
     (omega (arith, c.if-count-eq0.false))
-    c.gaining.ensures c.in-Nowhere.is c.best.ensures
+    c.gaining.ensures c.in-None.is c.best.ensures

@@ -1,5 +1,4 @@
 -- `offering::picks::best` meets its contract: one pass over the listed corners.
-use Prim.Native.Nat.{◌-◌}
 use mathlib.Core.Path.{sym, subst}
 use native.Mathlib.Omega.{arith}
 use Rattle.lp.specs.Outcome.{gain_order}

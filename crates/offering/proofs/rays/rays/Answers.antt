@@ -1,5 +1,4 @@
 -- `offering::rays::rays` meets its contract: each rule in turn narrows the quadrant.
-use Prim.Native.Nat.{◌-◌}
 use native.Mathlib.Omega.{arith}
 use Rattle.offering.proofs.Passes.{narrowed-start, narrowed-room, narrowing, narrowed-step, narrowed-end}
 use Rattle.offering.proofs.rays.rays.Goals as goal
@@ -15,9 +14,6 @@ entry-requires c = narrowed-room c.loop-i.invariant c.loop-i-test.true c.require
 
 pub narrow-cone-requires : goal.narrow-cone-requires
 narrow-cone-requires c = narrowing c.loop-i.invariant c.loop-i-test.true c.entry.ensures
-
-pub overflow_add-i : goal.overflow_add-i
-overflow_add-i c = omega arith
 
 pub loop-i-preserved : goal.loop-i-preserved
 loop-i-preserved c =

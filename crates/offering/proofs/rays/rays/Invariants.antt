@@ -1,10 +1,6 @@
 -- `offering::rays::rays` meets its contract: each rule in turn narrows the quadrant.
-use Prim.Native.Nat.{◌+◌, ◌-◌}
 use Rattle.offering.proofs.Passes.{Narrowed}
 use Rattle.offering.proofs.rays.rays.Given as goal
 
 abbrev pub invariant-loop-i : goal.invariant-loop-i
 invariant-loop-i l = Narrowed l.run l.n l.cone l.i
-
-abbrev pub decreases-loop-i : goal.decreases-loop-i
-decreases-loop-i l = l.n + 2 - l.i

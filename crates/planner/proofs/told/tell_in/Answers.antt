@@ -1,13 +1,11 @@
 -- `planner::told::tell_in` meets its contract: the answer, the view and the panel of one run.
-use mathlib.Core.Path.{sym}
-use lib.Seq.{length-take-le}
 use Rattle.records.specs.Layout.{layout_of}
 use Rattle.planner.proofs.Runs.{runs_by}
 use Rattle.planner.proofs.Tellings.{run-noted, told-shown, told_unshown}
 use Rattle.planner.proofs.told.tell_in.Goals as goal
 
-pub slice_bounds-show-end : goal.slice_bounds-show-end
-slice_bounds-show-end c =
+pub panelled-count-requires : goal.panelled-count-requires
+panelled-count-requires c =
     let running = c in
     let start = running in
     let L = layout_of start.args.version in
@@ -16,17 +14,6 @@ slice_bounds-show-end c =
     let run = running.run-found in
     let runs = runs_by L s k start.args.records.now start.args.entries.now start.requires run.result _ _ run.ensures in
     run-noted L s k run.result _ runs
-
-pub slice_bounds-show-end-then-panel : goal.slice_bounds-show-end-then-panel
-slice_bounds-show-end-then-panel c =
-    let running = c in
-    let start = running in
-    let L = layout_of start.args.version in
-    let s = start.args.book.now in
-    let k = start.args.prefix in
-    let run = running.run-found in
-    let runs = runs_by L s k start.args.records.now start.args.entries.now start.requires run.result _ _ run.ensures in
-    sym (length-take-le run.result.n _ (run-noted L s k run.result _ runs))
 
 pub returns-then-panel : goal.returns-then-panel
 returns-then-panel c =
@@ -38,7 +25,7 @@ returns-then-panel c =
     let run = running.run-found in
     let runs = runs_by L s k start.args.records.now start.args.entries.now start.requires run.result _ _ run.ensures in
     told-shown L s k run.result _ runs c.answered-answer.ensures
-    c.viewed-view.ensures c.show-count.ensures
+    c.viewed-view.ensures c.panelled-count.ensures
 
 pub returns-else-panel : goal.returns-else-panel
 returns-else-panel c =

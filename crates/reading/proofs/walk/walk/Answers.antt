@@ -3,7 +3,9 @@ use native.Mathlib.Omega.{arith}
 use Prim.Native.Nat.{◌-◌}
 use mathlib.Core.Path.{ap, ◌∙◌}
 use Rattle.records.specs.declared.Heading.{Heading}
-use Rattle.book.specs.declared.Judged.{Judged}
+use Rattle.std.specs.Prelude.{Result}
+use Rattle.answers.specs.declared.Refusal.{Refusal}
+use Rattle.records.specs.declared.Sound.{Sound}
 use Rattle.book.specs.Runs.{put_entry}
 use Rattle.book.specs.Judging.{labels_after}
 use Rattle.book.proofs.Leading.{leads-to}
@@ -13,21 +15,21 @@ use Rattle.reading.proofs.walk.walk.Goals as goal
 pub loop-link-init : goal.loop-link-init
 loop-link-init c = starts c.args.indices.now c.args.rules.now c.requires
 
-pub shape_of-indices-in-Refused : goal.shape_of-indices-in-Refused
-shape_of-indices-in-Refused c = same-indices c.loop-link.invariant
+pub shape_of-indices-in-Err : goal.shape_of-indices-in-Err
+shape_of-indices-in-Err c = same-indices c.loop-link.invariant
 
-pub shape_of-rules-in-Refused : goal.shape_of-rules-in-Refused
-shape_of-rules-in-Refused c = same-rules c.loop-link.invariant
+pub shape_of-rules-in-Err : goal.shape_of-rules-in-Err
+shape_of-rules-in-Err c = same-rules c.loop-link.invariant
 
-pub returns-in-Refused : goal.returns-in-Refused
-returns-in-Refused c =
-    finished c.loop-link.invariant ((let l = c.loop-link in leads-to ((λ i. (c.type_inv.book i).fits)) l.invariant.walked l.invariant.count l.invariant.met l.invariant.held c.loop-link-test.true (ap (λ (h : Heading). h.count) c.requires.heading) c.judge.ensures.answer c.in-Refused.is)) c.refused.ensures
+pub returns-in-Err : goal.returns-in-Err
+returns-in-Err c =
+    finished c.loop-link.invariant ((let l = c.loop-link in leads-to ((λ i. (c.type_inv.book i).fits)) l.invariant.walked l.invariant.count l.invariant.met l.invariant.held c.loop-link-test.true (ap (λ (h : Heading). h.count) c.requires.heading) c.judge.ensures.answer c.in-Err.is)) c.refused.ensures
 
 pub put_entry-requires : goal.put_entry-requires
 put_entry-requires c =
     omega (
       arith,
-      (more_room c.loop-link.invariant ((λ i. (c.type_inv.book i).fits)) c.loop-link-test.true (((let l = c.loop-link in leads-to ((λ i. (c.type_inv.book i).fits)) l.invariant.walked l.invariant.count l.invariant.met l.invariant.held c.loop-link-test.true (ap (λ (h : Heading). h.count) c.requires.heading) c.judge.ensures.answer c.in-Sound.is)))),
+      (more_room c.loop-link.invariant ((λ i. (c.type_inv.book i).fits)) c.loop-link-test.true (((let l = c.loop-link in leads-to ((λ i. (c.type_inv.book i).fits)) l.invariant.walked l.invariant.count l.invariant.met l.invariant.held c.loop-link-test.true (ap (λ (h : Heading). h.count) c.requires.heading) c.judge.ensures.answer c.in-Ok.is)))),
       count-few c.loop-link.invariant,
       few-records c.args.version,
     )
@@ -36,7 +38,7 @@ pub overflow_add-n : goal.overflow_add-n
 overflow_add-n c =
     omega (
       arith,
-      (more_room c.loop-link.invariant ((λ i. (c.type_inv.book i).fits)) c.loop-link-test.true (((let l = c.loop-link in leads-to ((λ i. (c.type_inv.book i).fits)) l.invariant.walked l.invariant.count l.invariant.met l.invariant.held c.loop-link-test.true (ap (λ (h : Heading). h.count) c.requires.heading) c.judge.ensures.answer c.in-Sound.is)))),
+      (more_room c.loop-link.invariant ((λ i. (c.type_inv.book i).fits)) c.loop-link-test.true (((let l = c.loop-link in leads-to ((λ i. (c.type_inv.book i).fits)) l.invariant.walked l.invariant.count l.invariant.met l.invariant.held c.loop-link-test.true (ap (λ (h : Heading). h.count) c.requires.heading) c.judge.ensures.answer c.in-Ok.is)))),
       count-few c.loop-link.invariant,
       few-records c.args.version,
     )
@@ -45,19 +47,19 @@ pub loop-link-smaller : goal.loop-link-smaller
 loop-link-smaller c =
     omega (
       arith,
-      (more_room c.loop-link.invariant ((λ i. (c.type_inv.book i).fits)) c.loop-link-test.true (((let l = c.loop-link in leads-to ((λ i. (c.type_inv.book i).fits)) l.invariant.walked l.invariant.count l.invariant.met l.invariant.held c.loop-link-test.true (ap (λ (h : Heading). h.count) c.requires.heading) c.judge.ensures.answer c.in-Sound.is)))),
+      (more_room c.loop-link.invariant ((λ i. (c.type_inv.book i).fits)) c.loop-link-test.true (((let l = c.loop-link in leads-to ((λ i. (c.type_inv.book i).fits)) l.invariant.walked l.invariant.count l.invariant.met l.invariant.held c.loop-link-test.true (ap (λ (h : Heading). h.count) c.requires.heading) c.judge.ensures.answer c.in-Ok.is)))),
       count-few c.loop-link.invariant,
     )
 
 pub loop-link-preserved : goal.loop-link-preserved
 loop-link-preserved c =
     let l = c.loop-link in
-    let e = c.in-Sound.is in
+    let e = c.in-Ok.is in
     let judge = c.judge in
     steps l.invariant
     ((λ i. (c.type_inv.book i).fits))
-    c.loop-link-test.true (((let l = c.loop-link in leads-to ((λ i. (c.type_inv.book i).fits)) l.invariant.walked l.invariant.count l.invariant.met l.invariant.held c.loop-link-test.true (ap (λ (h : Heading). h.count) c.requires.heading) c.judge.ensures.answer c.in-Sound.is)))
-    (judge.ensures.met ∙ ap (λ (r : Judged). labels_after r l.labels) e)
+    c.loop-link-test.true (((let l = c.loop-link in leads-to ((λ i. (c.type_inv.book i).fits)) l.invariant.walked l.invariant.count l.invariant.met l.invariant.held c.loop-link-test.true (ap (λ (h : Heading). h.count) c.requires.heading) c.judge.ensures.answer c.in-Ok.is)))
+    (judge.ensures.met ∙ ap (λ (r : Result Sound Refusal). labels_after r l.labels) e)
     c.put_record.ensures
     (c.put_entry.ensures ∙ ap (put_entry l.rules l.n) c.constraint.ensures)
 

@@ -1,6 +1,6 @@
 -- `region::list::list` meets its contract: the corners of a ring, in its order.
 use mathlib.Core.Path.{◌∙◌}
-use Prim.Native.Nat.{◌+◌, ◌-◌}
+use Prim.Native.Nat.{◌+◌}
 use native.Mathlib.Omega.{arith}
 use Rattle.region.proofs.Rows.{ring-at}
 use Rattle.region.proofs.Listings.{list-none, walk_start, walk_at, walk-noting, walk_step, walk-last, walk_first}

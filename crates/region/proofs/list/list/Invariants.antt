@@ -1,11 +1,7 @@
 -- `region::list::list` meets its contract: the corners of a ring, in its order.
-use Prim.Native.Nat.{◌-◌}
 use Rattle.region.proofs.Cuts.{arc}
 use Rattle.region.proofs.Listings.{Walk}
 use Rattle.region.proofs.list.list.Given as goal
 
 abbrev pub invariant-loop-i : goal.invariant-loop-i
 invariant-loop-i l = Walk l.run l.ring (arc l.lo l.n) l.initial.out l.out l.k l.i
-
-abbrev pub decreases-loop-i : goal.decreases-loop-i
-decreases-loop-i l = l.n - l.i

@@ -1,5 +1,4 @@
 -- `region::range::rules_in_range` meets its contract.
-use Prim.Native.Nat.{◌-◌}
 use native.Mathlib.Omega.{arith}
 use Rattle.region.proofs.Testing.{ranged-start, ranged-room, ranged-step, ranged-stop, ranged-end}
 use Rattle.region.proofs.range.rules_in_range.Goals as goal
@@ -13,18 +12,15 @@ loop-i-init c = ranged-start c.args.run.now c.args.n
 pub entry-requires : goal.entry-requires
 entry-requires c = ranged-room c.loop-i.invariant c.requires c.loop-i-test.true
 
-pub overflow_add-i : goal.overflow_add-i
-overflow_add-i c = omega (arith, c.requires.few)
-
 pub loop-i-preserved : goal.loop-i-preserved
 loop-i-preserved c =
     ranged-step c.loop-i.invariant c.loop-i-test.true
-    c.entry.ensures c.rule_in_range.ensures c.if-rule_in_range.true
+    c.entry.ensures c.rule_in_range.ensures c.if-not-rule_in_range.false
 
-pub returns-else-rule_in_range : goal.returns-else-rule_in_range
-returns-else-rule_in_range c =
+pub returns-then-not-rule_in_range : goal.returns-then-not-rule_in_range
+returns-then-not-rule_in_range c =
     ranged-stop c.loop-i.invariant c.loop-i-test.true
-    c.entry.ensures c.rule_in_range.ensures c.if-rule_in_range.false
+    c.entry.ensures c.rule_in_range.ensures c.if-not-rule_in_range.true
 
 pub returns : goal.returns
 returns c = ranged-end c.loop-i.invariant c.loop-i-test.false

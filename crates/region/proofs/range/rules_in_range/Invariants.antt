@@ -1,10 +1,6 @@
 -- `region::range::rules_in_range` meets its contract.
-use Prim.Native.Nat.{◌+◌, ◌-◌}
 use Rattle.region.proofs.Testing.{Ranged}
 use Rattle.region.proofs.range.rules_in_range.Given as goal
 
 abbrev pub invariant-loop-i : goal.invariant-loop-i
 invariant-loop-i l = Ranged l.run l.n l.i
-
-abbrev pub decreases-loop-i : goal.decreases-loop-i
-decreases-loop-i l = l.n + 2 - l.i

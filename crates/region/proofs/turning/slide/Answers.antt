@@ -1,5 +1,4 @@
 -- `region::turning::slide` meets its contract: the ring is moved to the start of its run.
-use Prim.Native.Nat.{◌-◌}
 use native.Mathlib.Omega.{arith}
 use Rattle.region.proofs.Loops.{slide-start, slide-read, slide_write, slide-step, slide-end}
 use Rattle.region.proofs.turning.slide.Goals as goal

@@ -1,10 +1,6 @@
 -- `region::turning::slide` meets its contract: the ring is moved to the start of its run.
-use Prim.Native.Nat.{◌-◌}
 use Rattle.region.proofs.Loops.{Slide}
 use Rattle.region.proofs.turning.slide.Given as goal
 
 abbrev pub invariant-loop-i : goal.invariant-loop-i
 invariant-loop-i l = Slide l.initial.ring l.lo l.n l.ring l.i
-
-abbrev pub decreases-loop-i : goal.decreases-loop-i
-decreases-loop-i l = l.n - l.i

@@ -1,8 +1,8 @@
 -- `repacker::pack::put_rules` meets its contract: after k turns the first k rules are copied; each turn copies one record more
 -- (`paste-next`).
 use native.Mathlib.Omega.{arith}
-use Prim.Native.Nat.{◌+◌, ◌-◌, ◌*◌, ◌≤◌}
-use mathlib.Core.Path.{◌≡◌, refl, ap, ◌∙◌}
+use Prim.Native.Nat.{◌+◌, ◌*◌, ◌≤◌}
+use mathlib.Core.Path.{◌≡◌, ap, ◌∙◌}
 use lib.ListN.{length, take}
 use lib.Seq.{paste, paste-zero}
 use Rattle.records.specs.Layout.{v2, layout_of}
@@ -12,12 +12,8 @@ use Rattle.repacker.proofs.pack.put_rules.Goals as goal
 
 pub loop-k-init : goal.loop-k-init
 loop-k-init c =
-    let a = c.args in (
-      omega arith,
-      paste-zero a.out.now 14 (chain_bytes v2 1 (rules_at (layout_of a.version) a.book.now (take a.n a.indices.now))),
-      refl,
-      c.requires,
-    )
+    let a = c.args in
+    paste-zero a.out.now 14 (chain_bytes v2 1 (rules_at (layout_of a.version) a.book.now (take a.n a.indices.now)))
 
 pub loop-k-preserved : goal.loop-k-preserved
 loop-k-preserved c =
@@ -26,7 +22,7 @@ loop-k-preserved c =
     let L = layout_of a.version in
     let T = chain_bytes v2 1 (rules_at L a.book.now (take a.n a.indices.now)) in
     let bytes = c.rule_bytes-bytes.result in
-    let all : a.n ≤ length a.indices.now = omega arith in
+    let all : a.n ≤ length a.indices.now = c.requires.all in
     let long : 14 * l.k ≤ length T =
     omega (
       arith,
@@ -38,23 +34,16 @@ loop-k-preserved c =
     let copied =
     rule-copied L a.book.now a.indices.now bytes a.n l.k c.next_of.result
     c.loop-k-test.true all
-    c.next_of.ensures c.rule_bytes-bytes.ensures in (
-      omega arith,
-      c.store.ensures
-          ∙ (λ j. paste (l.invariant.1 j) (here j) bytes 14)
-          ∙ paste-next a.out.now T bytes 14 (14 * l.k) 14 (omega arith) long copied
-          ∙ ap (paste a.out.now 14 T) next,
-      c.store.auto.out ∙ l.invariant.2,
-      l.invariant.3,
-    )
-
-pub shape_of-out : goal.shape_of-out
-shape_of-out c = c.loop-k.invariant.2
+    c.next_of.ensures c.rule_bytes-bytes.ensures in
+    c.store.ensures
+    ∙ (λ j. paste (l.invariant j) (here j) bytes 14)
+    ∙ paste-next a.out.now T bytes 14 (14 * l.k) 14 (omega arith) long copied
+    ∙ ap (paste a.out.now 14 T) next
 
 pub returns : goal.returns
 returns c =
     let l = c.loop-k in
     let a = c.args in
     let e : 14 * l.k ≡ 14 * a.n = omega arith in
-    l.invariant.1
+    l.invariant
     ∙ ap (paste a.out.now 14 (chain_bytes v2 1 (rules_at (layout_of a.version) a.book.now (take a.n a.indices.now)))) e

@@ -6,4 +6,4 @@ pub returns-then-size-le2147483648 : goal.returns-then-size-le2147483648
 returns-then-size-le2147483648 c = numeral-small _ _ c.if-size-le2147483648.true
 
 pub returns-else-size-le2147483648 : goal.returns-else-size-le2147483648
-returns-else-size-le2147483648 c = numeral-beyond _ _ c.if-size-le2147483648.false c.no_number.ensures
+returns-else-size-le2147483648 c = numeral-beyond _ _ c.if-size-le2147483648.false

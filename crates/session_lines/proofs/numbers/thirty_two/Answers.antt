@@ -1,15 +1,20 @@
 -- `session_lines::numbers::thirty_two` meets its contract: a number that fits is kept.
+use mathlib.Core.Path.{refl, ◌∙◌}
 use native.Mathlib.Omega.{arith}
 use mir.Syntax.{w32}
-use borrow.Author.Rules.{sfits_of}
-use Rattle.session_lines.proofs.Signs.{small, value32, cast_fits, cast_value}
+use Rattle.session_lines.proofs.Signs.{no_signed, no_room_whole, kept_whole, converted}
 use Rattle.session_lines.proofs.numbers.thirty_two.Goals as goal
 
-pub signed-requires : goal.signed-requires
-signed-requires c = small c.args.n 2147483648 2147483647 (omega arith) (omega arith) c.requires
+pub returns-in_err-n : goal.returns-in_err-n
+returns-in_err-n c = rw c.from_residual.ensures (no_signed 2147483648 2147483647 c.in_err-n.was)
 
-pub overflow_cast-result : goal.overflow_cast-result
-overflow_cast-result c = cast_fits w32 (sfits_of c.signed.type_inv) c.signed.ensures (value32 c.args.n c.requires)
+pub returns-in_err-signed : goal.returns-in_err-signed
+returns-in_err-signed c =
+    rw c.from_residual-in_err-signed.ensures
+    (no_room_whole 2147483648 2147483647 (omega arith) (omega arith) c.in_ok-n.was c.signed.ensures c.in_err-signed.was)
 
 pub returns : goal.returns
-returns c = cast_value w32 (sfits_of c.signed.type_inv) c.signed.ensures (value32 c.args.n c.requires)
+returns c =
+    c.ok.ensures.value
+    ∙ converted w32 2147483648 2147483647 refl refl c.try_from.result c.in_ok-n.was
+    (kept_whole c.in_ok-n.field-0 c.signed.ensures c.in_ok-signed.was) c.try_from.ensures

@@ -1,56 +1,33 @@
 -- `session_lines::steps::begun` meets its contract: numbers of sixteen bits.
-use mathlib.Core.Path.{◌∙◌}
-use mir.Syntax.{w16}
-use mir.Facts.{to_z-of_z}
-use borrow.Author.Rules.{sfits_of}
-use Rattle.session_lines.proofs.Taken.{begun-fits, begun-read, begun-other}
+use Rattle.session_lines.proofs.Taken.{begun_1, begun_2, begun_3, begun_4, begun-read}
 use Rattle.session_lines.proofs.steps.begun.Goals as goal
 
-pub sixteen-requires : goal.sixteen-requires
-sixteen-requires c =
+pub returns-in_err-p : goal.returns-in_err-p
+returns-in_err-p c =
     let n = c.args in
-    let fit =
-    begun-fits n.p n.q n.lx n.ly
-    c.fits.ensures c.fits-2.ensures c.fits-3.ensures c.fits-4.ensures c.if-objective-floors.true in
-    fit.0
+    rw c.from_residual.ensures (begun_1 n.p n.q n.lx n.ly c.sixteen.ensures c.in_err-p.was)
 
-pub sixteen-requires-then-objective-floors : goal.sixteen-requires-then-objective-floors
-sixteen-requires-then-objective-floors c =
+pub returns-in_err-q : goal.returns-in_err-q
+returns-in_err-q c =
     let n = c.args in
-    let fit =
-    begun-fits n.p n.q n.lx n.ly
-    c.fits.ensures c.fits-2.ensures c.fits-3.ensures c.fits-4.ensures c.if-objective-floors.true in
-    fit.1
+    rw c.from_residual-in_err-q.ensures
+    (begun_2 n.p n.q n.lx n.ly c.sixteen.ensures c.in_ok-p.was c.sixteen-2.ensures c.in_err-q.was)
 
-pub sixteen-requires-then-objective-floors-2 : goal.sixteen-requires-then-objective-floors-2
-sixteen-requires-then-objective-floors-2 c =
+pub returns-in_err-lx : goal.returns-in_err-lx
+returns-in_err-lx c =
     let n = c.args in
-    let fit =
-    begun-fits n.p n.q n.lx n.ly
-    c.fits.ensures c.fits-2.ensures c.fits-3.ensures c.fits-4.ensures c.if-objective-floors.true in
-    fit.2
+    rw c.from_residual-in_err-lx.ensures
+    (begun_3 n.p n.q n.lx n.ly c.sixteen.ensures c.in_ok-p.was c.sixteen-2.ensures c.in_ok-q.was c.sixteen-3.ensures c.in_err-lx.was)
 
-pub sixteen-requires-then-objective-floors-3 : goal.sixteen-requires-then-objective-floors-3
-sixteen-requires-then-objective-floors-3 c =
+pub returns-in_err-ly : goal.returns-in_err-ly
+returns-in_err-ly c =
     let n = c.args in
-    let fit =
-    begun-fits n.p n.q n.lx n.ly
-    c.fits.ensures c.fits-2.ensures c.fits-3.ensures c.fits-4.ensures c.if-objective-floors.true in
-    fit.3
+    rw c.from_residual-in_err-ly.ensures
+    (begun_4 n.p n.q n.lx n.ly c.sixteen.ensures c.in_ok-p.was c.sixteen-2.ensures c.in_ok-q.was c.sixteen-3.ensures c.in_ok-lx.was
+    c.sixteen-4.ensures c.in_err-ly.was)
 
-pub returns-then-objective-floors : goal.returns-then-objective-floors
-returns-then-objective-floors c =
+pub returns : goal.returns
+returns c =
     let n = c.args in
-    begun-read n.p n.q n.lx n.ly c.fits.ensures c.fits-2.ensures
-    c.fits-3.ensures c.fits-4.ensures c.if-objective-floors.true
-    (to_z-of_z {w = w16} (sfits_of c.sixteen.type_inv) ∙ c.sixteen.ensures)
-    (to_z-of_z {w = w16} (sfits_of c.sixteen-then-objective-floors.type_inv) ∙ c.sixteen-then-objective-floors.ensures)
-    (to_z-of_z {w = w16} (sfits_of c.sixteen-then-objective-floors-2.type_inv) ∙ c.sixteen-then-objective-floors-2.ensures)
-    (to_z-of_z {w = w16} (sfits_of c.sixteen-then-objective-floors-3.type_inv) ∙ c.sixteen-then-objective-floors-3.ensures)
-
-pub returns-else-objective-floors : goal.returns-else-objective-floors
-returns-else-objective-floors c =
-    let n = c.args in
-    begun-other n.p n.q n.lx n.ly
-    c.fits.ensures c.fits-2.ensures
-    c.fits-3.ensures c.fits-4.ensures c.if-objective-floors.false
+    begun-read n.p n.q n.lx n.ly c.sixteen.ensures c.in_ok-p.was c.sixteen-2.ensures c.in_ok-q.was c.sixteen-3.ensures c.in_ok-lx.was
+    c.sixteen-4.ensures c.in_ok-ly.was

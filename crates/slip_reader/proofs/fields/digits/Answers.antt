@@ -1,7 +1,6 @@
 -- `slip_reader::fields::digits` meets its contract: as many digits as there are up to the field's end.
 use native.Mathlib.Omega.{arith}
 use mathlib.Core.Path.{sym, ◌∙◌}
-use Prim.Native.Nat.{◌-◌}
 use Rattle.slip_reader.proofs.Places.{run-start, run_more, run-stop, run_end}
 use Rattle.slip_reader.proofs.fields.digits.Goals as goal
 

@@ -7,4 +7,4 @@ returns c =
     let start = c in
     unlimited-read start.args.text.now (record { sfits = c.struct_told-1.given.0.1 })
     (record { sfits = c.struct_told-2-1.given.0.1 }) c.behind.ensures c.pair_at-v.ensures
-    c.integer-dx.ensures c.integer-dy.ensures c.no_weights.ensures
+    c.integer-dx.ensures c.integer-dy.ensures c.nothing.ensures

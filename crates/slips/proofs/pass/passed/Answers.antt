@@ -1,6 +1,4 @@
 -- `slips::pass::passed` meets its contract: what the pass over a chain holds in the end.
-use Prim.Native.Nat.{◌-◌}
-use native.Mathlib.Omega.{arith}
 use Rattle.slip.proofs.Sizes.{unread}
 use Rattle.slips.proofs.Sizes.{passing_flooring, normal-read, turned-start}
 use Rattle.slips.proofs.Sizes.{turned-room, turned_asks, turned-step, turned-end}
@@ -29,14 +27,6 @@ turned-held-requires c =
     (normal-read {f = c.args.f} (unread h.0.1) (unread h.1.0.1))
     c.loop-i.invariant
     c.loop-i-test.true c.side_at.ensures
-
-pub overflow_add-i : goal.overflow_add-i
-overflow_add-i c =
-    omega (arith, c.loop-i-test.true, c.ranges.n)
-
-pub loop-i-smaller : goal.loop-i-smaller
-loop-i-smaller c =
-    omega (arith, c.loop-i-test.true)
 
 pub loop-i-preserved : goal.loop-i-preserved
 loop-i-preserved c =

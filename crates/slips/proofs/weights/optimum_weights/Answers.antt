@@ -44,7 +44,7 @@ returns-then-det-gt0 c =
 pub returns : goal.returns
 returns c =
     let a = c.args in
-    c.scale_alone.ensures
+    c.nothing.ensures
     ∙ chosen_none a.f a.h (lt_z-read c.dot.type_inv c.dot.ensures
     c.if-dot-gt0.false)
     (lt_z-read c.det.type_inv c.det.ensures c.if-det-gt0.false)

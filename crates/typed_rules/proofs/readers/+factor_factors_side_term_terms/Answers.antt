@@ -35,50 +35,54 @@ factor-returns-else-b-eq40 t c =
     c.if-b-eq40.false
 
 -- factors: a star and what follows, or the end
-pub factors-returns-in-Got : goal.factors-returns-in-Got
-factors-returns-in-Got t c =
-    reads-joined by_star c.lex-l.ensures c.if-l-eq42.true c.in-Got.is c.factor.ensures
-    (plainly product c.args.text.now (suc c.lex-l.result.next) c.requires.small c.in-Got.is c.factor.ensures.moved
+pub factors-returns-in_ok-w : goal.factors-returns-in_ok-w
+factors-returns-in_ok-w t c =
+    reads-joined by_star c.lex-l.ensures c.if-l-eq42.true c.in_ok-w.was c.factor.ensures
+    (plainly product c.args.text.now (suc c.lex-l.result.next) c.requires.small c.in_ok-w.was c.factor.ensures.moved
     c.product.ensures.same) c.factors.ensures
 
-pub factors-returns-in-Fail : goal.factors-returns-in-Fail
-factors-returns-in-Fail t c = joined_fails by_star c.lex-l.ensures c.if-l-eq42.true c.in-Fail.is c.factor.ensures
+pub factors-returns-in_err-w : goal.factors-returns-in_err-w
+factors-returns-in_err-w t c =
+    rw c.from_residual.ensures (joined_fails by_star c.lex-l.ensures c.if-l-eq42.true c.in_err-w.was c.factor.ensures)
 
 pub factors-returns-else-l-eq42 : goal.factors-returns-else-l-eq42
 factors-returns-else-l-eq42 t c = factors-stop c.lex-l.ensures c.if-l-eq42.false c.requires
 
 -- side: a term and what follows
-pub side-returns-in-Got : goal.side-returns-in-Got
-side-returns-in-Got t c = reads_whole one-term c.in-Got.is c.term.ensures c.terms.ensures
+pub side-returns : goal.side-returns
+side-returns t c = reads_whole one-term c.in_ok-v.was c.term.ensures c.terms.ensures
 
-pub side-returns-in-Fail : goal.side-returns-in-Fail
-side-returns-in-Fail t c = whole_fails one-term c.in-Fail.is c.term.ensures
+pub side-returns-in_err-v : goal.side-returns-in_err-v
+side-returns-in_err-v t c = rw c.from_residual.ensures (whole_fails one-term c.in_err-v.was c.term.ensures)
 
 -- term: a factor and what follows
-pub term-returns-in-Got : goal.term-returns-in-Got
-term-returns-in-Got t c = reads_whole one-factor c.in-Got.is c.factor.ensures c.factors.ensures
+pub term-returns : goal.term-returns
+term-returns t c = reads_whole one-factor c.in_ok-v.was c.factor.ensures c.factors.ensures
 
-pub term-returns-in-Fail : goal.term-returns-in-Fail
-term-returns-in-Fail t c = whole_fails one-factor c.in-Fail.is c.factor.ensures
+pub term-returns-in_err-v : goal.term-returns-in_err-v
+term-returns-in_err-v t c = rw c.from_residual.ensures (whole_fails one-factor c.in_err-v.was c.factor.ensures)
 
 -- terms: a plus, a minus and what follows, or the end
-pub terms-returns-in-Got : goal.terms-returns-in-Got
-terms-returns-in-Got t c =
-    reads-joined by_plus c.lex-l.ensures c.if-l-eq43.true c.in-Got.is c.term.ensures
-    (plainly sum c.args.text.now (suc c.lex-l.result.next) c.requires.small c.in-Got.is c.term.ensures.moved c.sum.ensures.same)
+pub terms-returns-in_ok-w : goal.terms-returns-in_ok-w
+terms-returns-in_ok-w t c =
+    reads-joined by_plus c.lex-l.ensures c.if-l-eq43.true c.in_ok-w.was c.term.ensures
+    (plainly sum c.args.text.now (suc c.lex-l.result.next) c.requires.small c.in_ok-w.was c.term.ensures.moved c.sum.ensures.same)
     c.terms.ensures
 
-pub terms-returns-in-Fail : goal.terms-returns-in-Fail
-terms-returns-in-Fail t c = joined_fails by_plus c.lex-l.ensures c.if-l-eq43.true c.in-Fail.is c.term.ensures
+pub terms-returns-in_err-w : goal.terms-returns-in_err-w
+terms-returns-in_err-w t c =
+    rw c.from_residual.ensures (joined_fails by_plus c.lex-l.ensures c.if-l-eq43.true c.in_err-w.was c.term.ensures)
 
-pub terms-returns-in-Got-term : goal.terms-returns-in-Got-term
-terms-returns-in-Got-term t c =
-    reads-joined by-minus c.lex-l.ensures c.if-l-eq45.true c.in-Got-term.is c.term-then-l-eq45.ensures
-    (plainly difference c.args.text.now (suc c.lex-l.result.next) c.requires.small c.in-Got-term.is
-    c.term-then-l-eq45.ensures.moved c.difference.ensures.same) c.terms-in-Got-term.ensures
+pub terms-returns-in_ok-w-2 : goal.terms-returns-in_ok-w-2
+terms-returns-in_ok-w-2 t c =
+    reads-joined by-minus c.lex-l.ensures c.if-l-eq45.true c.in_ok-w-2.was c.term-then-l-eq45.ensures
+    (plainly difference c.args.text.now (suc c.lex-l.result.next) c.requires.small c.in_ok-w-2.was
+    c.term-then-l-eq45.ensures.moved c.difference.ensures.same) c.terms-then-l-eq45.ensures
 
-pub terms-returns-in-Fail-term : goal.terms-returns-in-Fail-term
-terms-returns-in-Fail-term t c = joined_fails by-minus c.lex-l.ensures c.if-l-eq45.true c.in-Fail-term.is c.term-then-l-eq45.ensures
+pub terms-returns-in_err-w-2 : goal.terms-returns-in_err-w-2
+terms-returns-in_err-w-2 t c =
+    rw c.from_residual-in_err-w-2.ensures
+    (joined_fails by-minus c.lex-l.ensures c.if-l-eq45.true c.in_err-w-2.was c.term-then-l-eq45.ensures)
 
 pub terms-returns-else-l-eq45 : goal.terms-returns-else-l-eq45
 terms-returns-else-l-eq45 t c = terms-stop c.lex-l.ensures c.if-l-eq43.false c.if-l-eq45.false c.requires

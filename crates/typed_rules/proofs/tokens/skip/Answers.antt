@@ -1,29 +1,19 @@
 -- `typed_rules::tokens::skip` meets its contract: the first place that has no space.
 use native.Mathlib.Omega.{arith}
-use Prim.Native.Nat.{◌-◌}
 use Rattle.typed_rules.proofs.Bytes.{skip-start, skip-more, skip_stop, skip-end}
 use Rattle.typed_rules.proofs.tokens.skip.Goals as goal
 
 pub loop-i-init : goal.loop-i-init
 loop-i-init c = skip-start _ c.args.at c.requires
 
-pub bounds-text-i : goal.bounds-text-i
-bounds-text-i c = omega arith
-
-pub overflow_add-i : goal.overflow_add-i
-overflow_add-i c = omega arith
-
-pub loop-i-smaller : goal.loop-i-smaller
-loop-i-smaller c = omega arith
-
 pub loop-i-preserved : goal.loop-i-preserved
 loop-i-preserved c =
-    skip-more _ c.args.at c.loop-i.i (omega arith) c.if-text-i-eq32.true
+    skip-more _ c.args.at c.loop-i.i (omega arith) c.if-text-i-ne32.false
     c.loop-i.invariant
 
-pub returns-else-text-i-eq32 : goal.returns-else-text-i-eq32
-returns-else-text-i-eq32 c =
-    skip_stop _ c.args.at c.loop-i.i (omega arith) c.if-text-i-eq32.false
+pub returns-then-text-i-ne32 : goal.returns-then-text-i-ne32
+returns-then-text-i-ne32 c =
+    skip_stop _ c.args.at c.loop-i.i (omega arith) c.if-text-i-ne32.true
     c.loop-i.invariant
 
 pub returns : goal.returns

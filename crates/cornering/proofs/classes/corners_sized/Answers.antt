@@ -1,0 +1,10 @@
+-- `cornering::classes::corners_sized` meets its contract: there is room for as many rules as the book can have.
+use borrow.Author.Rules.{rules}
+use Rattle.batching.proofs.Runs.{few-roomy}
+use Rattle.cornering.proofs.classes.corners_sized.Goals as goal
+
+pub corners_in-requires : goal.corners_in-requires
+corners_in-requires g c =
+    let start = c in
+    few-roomy start.args.book.now g.row.RULES start.requires.few _ _ _ _
+    (search rules) (search rules) (search rules) (search rules)
