@@ -11,12 +11,9 @@ use mir.Facts.{to_z-of_z}
 use Rattle.ints.specs.Within.{Within}
 use Rattle.ints.proofs.Bits.{read}
 use Rattle.ints.proofs.Machine.{within-fits, within-read, within-add, within-sub, within-mul}
-use Rattle.lp.specs.declared.Constraint.{Constraint}
-use Rattle.lp.specs.declared.Point.{Point}
-use Rattle.lp.specs.Range.{SmallConstraint}
 use Rattle.fraction.proofs.Quotients.{unread}
-use Rattle.model.specs.Bounds.{SmallPoint}
 use Rattle.amounts.specs.Sizes.{Distance}
+pub use Rattle.exact.proofs.Exact.{kept-distance}
 
 pub record DistanceFits (a x b y c d : ℤ) : Type 0 where
   pub ax : SFits w64 (a *ℤ x)
@@ -66,18 +63,3 @@ module _ {a x b y c d : ℤ} (f : Distance a x b y c d) where
       ∙ λ i. within-unread f.c-small tt i *ℤ within-unread f.d_small tt i
       -ℤ (within-unread f.a_small tt i *ℤ within-unread f.x-small tt i
       +ℤ within-unread f.b-small tt i *ℤ within-unread f.y-small tt i)
-
-pub kept-distance :
-    {r : Constraint} {v : Point} →
-    SmallConstraint r →
-    SmallPoint v →
-    Distance r.a v.x r.b v.y r.c v.d
-kept-distance h k =
-    record {
-      a_small = h.a_small;
-      x-small = k.x-small;
-      b-small = h.b-small;
-      y-small = k.y-small;
-      c-small = h.c-small;
-      d_small = k.d_small;
-    }

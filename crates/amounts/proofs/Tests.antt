@@ -2,17 +2,12 @@
 use mathlib.Core.Path.{◌≡◌, refl, sym, ◌∙◌, ap, subst}
 use mathlib.Core.List.{List, [], ◌∷◌}
 use mathlib.Core.Bool.{Bool, true, false, cond, ◌&&◌}
-use Prim.Native.Nat.{ℕ, zero, suc, ◌^◌, ◌<◌}
-use native.Mathlib.Omega.{arith}
-use native.Mathlib.Decide.{dec_lt}
-use borrow.Author.Tests.{leb-true, le-leb, lt-leb}
+use Prim.Native.Nat.{ℕ, ◌^◌, ◌<◌}
+use borrow.Author.Tests.{leb-true, le-leb}
 use lib.Dec.{T, leb}
-use lib.IntN.{ℤ, pos, negsuc, neg_ℤ, nat_abs, ◌-ℤ◌, +ℤ_idl}
-use lib.Signed.{le_z, lt_z, lt_z_yes, mag}
-use mir.Syntax.{w64}
-use mir.Val.{SFits, to_z}
-use mir.Facts.{to_z-of_z}
-use Rattle.ints.proofs.Bits.{read, low}
+use lib.IntN.{ℤ, pos, nat_abs}
+use lib.Signed.{lt_z, lt_z_yes, mag}
+use Rattle.ints.proofs.Bits.{read}
 use Rattle.fraction.proofs.Quotients.{unread}
 use Rattle.ints.specs.Within.{Within}
 use Rattle.lp.specs.declared.Constraint.{Constraint}
@@ -34,35 +29,6 @@ up-to {n} {z} h = le-leb (nat_abs z) n h.small
 within : (n : ℕ) (z : ℤ) → up_to n z ≡ true → Within n z
 within n z e = record { small = leb-true (nat_abs z) n e }
 
--- from -n to n, as the code asks it
-from-to : (n : ℕ) (z : ℤ) → (le_z (neg_ℤ (pos n)) z && le_z z (pos n)) ≡ up_to n z
-from-to zero (pos k) = rw (le-leb 0 k (omega arith))
-from-to (suc n) (pos k) = refl
-from-to zero (negsuc k) = sym (lt-leb (suc k) 0 (omega arith))
-from-to (suc n) (negsuc k) = go (dec_lt n k)
-  where
-    go : Dec (n < k) → (leb k n && true) ≡ leb (suc k) (suc n)
-    go (yes h) = rw (lt-leb k n h, lt-leb (suc k) (suc n) (omega arith))
-    go (no h) = rw (le-leb k n (omega arith), le-leb (suc k) (suc n) (omega arith))
-
-module _ (n : ℕ) (h : n < 2 ^ 32) where
-  most-is : to_z w64 n ≡ pos n
-  most-is = to_z-of_z {w = w64} {z = pos n} (record { sfits = omega arith })
-
-  least-is : pos 0 -ℤ to_z w64 n ≡ neg_ℤ (pos n)
-  least-is = ap (λ (y : ℤ). pos 0 -ℤ y) most-is ∙ +ℤ_idl (neg_ℤ (pos n))
-
-  pub least_fits : SFits w64 (pos 0 -ℤ to_z w64 n)
-  least_fits = subst (λ (y : ℤ). SFits w64 y) (sym least-is) (low n (omega arith))
-
-  pub up-to-is : (z : ℤ) →
-      mag z < 2 ^ 63 →
-      (le_z (read (pos 0 -ℤ to_z w64 n)) (read z) && le_z (read z) (to_z w64 n)) ≡ up_to n z
-  up-to-is z k =
-      let least = to_z-of_z {w = w64} least_fits ∙ least-is in
-      let same = unread {z = z} k in
-      (λ i. le_z (least i) (same i) && le_z (same i) (most-is i)) ∙ from-to n z
-
 -- ---- tests joined by `and`
 
 pub both : (s t : Bool) → (s && t) ≡ true → (s ≡ true) × (t ≡ true)
@@ -74,12 +40,8 @@ is_true true h = refl
 is_true false h = absurd h
 
 -- a number that a call took is read back from its bits
-pub passed : (n : ℕ) (z : ℤ) → mag z < 2 ^ 63 → {t : Bool} → t ≡ up_to n (read z) → t ≡ up_to n z
+passed : (n : ℕ) (z : ℤ) → mag z < 2 ^ 63 → {t : Bool} → t ≡ up_to n (read z) → t ≡ up_to n z
 passed n z h e = e ∙ ap (up_to n) (unread {z = z} h)
-
--- and so is one whose magnitude was worked out
-pub far-passed : (n : ℕ) (z : ℤ) → mag z < 2 ^ 63 → {m : ℕ} → m ≡ nat_abs (read z) → leb m n ≡ up_to n z
-far-passed n z h e = ap (λ (m : ℕ). leb m n) (e ∙ ap nat_abs (unread {z = z} h))
 
 -- two numbers of one range
 pub two-passed :

@@ -3,7 +3,6 @@
 
 #![tactic(auto)]
 
-mod exact;
 pub mod range;
 
 ghost use Rattle.std.specs.Prelude.{◌≡◌};

@@ -10,7 +10,7 @@ ghost use Rattle.report.specs.Written.{Written, WrittenOf};
 use answers::Answer;
 use line::append_fields;
 use report::Naming;
-use text::append_word;
+use text::{Line, append_word};
 
 // The line of an answer, at the start of a buffer of at least 256 bytes, and its length. A smaller buffer is left as it is, and 0
 // handed back.
@@ -20,9 +20,10 @@ pub fn write_line_of(naming: Naming, answer: Answer, out: &mut [u8]) -> usize
     if out.len() < 256 {
         return 0;
     }
-    let end = append_fields(naming, answer, out);
-    append_word(b"\n", out, end);
-    end + 1
+    let mut line = Line { out, at: 0 };
+    append_fields(naming, answer, &mut line);
+    append_word(b"\n", &mut line);
+    line.at
 }
 
 // That of the answer to one book.

@@ -9,12 +9,11 @@ use Prim.Native.Nat.{ℕ}
 use lib.Dec.{T, T_not}
 use lib.IntN.{ℤ}
 use Rattle.lp.specs.declared.Point.{Point}
-use Rattle.lp.specs.Outcome.{every}
 use Rattle.lp.specs.Corners.{before, Rising, arranged}
-use Rattle.compare.specs.Comparing.{is_denominator, before_in, Denominators}
+use Rattle.compare.specs.Comparing.{is_denominator}
 use Rattle.compare.proofs.Points.{before-exact}
 use Rattle.theory.proofs.Lists.{every_of, true_or_not}
-use Rattle.corner_theory.proofs.Order.{Proper, Before, before-yes, before-is, before_on, asymmetric, compared, neither-same}
+use Rattle.corner_theory.proofs.Order.{Proper, Before, before-yes, before-is, before_on, asymmetric, neither-same}
 use Rattle.corner_theory.proofs.Rising.{AllProper, arranged-member, member-arranged, arranged-rising, rising-unique}
 use Rattle.sorting.specs.Keys.{point_at, comes_at}
 use Rattle.sorting.specs.Sorting.{sort_of}

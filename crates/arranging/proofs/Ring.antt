@@ -26,7 +26,6 @@ use Rattle.boundary.proofs.Theorems.{ring-corners}
 use Rattle.compare.specs.Comparing.{is_denominator}
 use Rattle.corner_theory.proofs.Ring.{ring-arranged}
 use Rattle.sorting.specs.Keys.{point_at, comes_at}
-use Rattle.sorting.specs.Sorting.{sort_of}
 use Rattle.arranging.specs.Arranging.{kept, indices, order_of}
 use Rattle.arranging.proofs.Meaning.{Pair, kept-arranged}
 

@@ -7,7 +7,6 @@ use native.Mathlib.Omega.{arith}
 use native.Mathlib.Nat.{add-zero, zero-add}
 use native.Mathlib.Numerals.{add-one}
 use borrow.Author.Tests.{lt-ltb, le-ltb}
-use lib.Dec.{ltb}
 use lib.ListN.{length, take, drop, get_or, set, length-set, take-append-drop, drop_of_length-le}
 use lib.Seq.{drop-cons, take-suc-set, append_snoc, get_or-drop, drop-set-lt, get_or-set_same, length-take-le, drop-drop}
 use Rattle.sorting.specs.Sorting.{sort_of, sort_in}

@@ -20,13 +20,12 @@ fn count_up(run: &mut [u16])
 }
 
 // The index at place i is kept, at place k, if its point comes after that of the last one kept; how many are kept then.
-fn keep_next(keys: &[i64], run: &mut [u16], i: usize, k: usize) -> usize
+fn keep_next<O: Order>(order: &O, run: &mut [u16], i: usize, k: usize) -> usize
     requires { Stepping run.old i k }
-    ensures { Stepped (comes_at keys.now) i k run.old result run.new }
+    ensures { Stepped (O.comes order.now) i k run.old result run.new }
 {
     let last = run[k - 1];
     let next = run[i];
-    let order = ByPlace { keys };
     if order.comes(last, next) {
         run[k] = next;
         k + 1
@@ -36,15 +35,15 @@ fn keep_next(keys: &[i64], run: &mut [u16], i: usize, k: usize) -> usize
 }
 
 // Keeps one index for each point of a sorted run, in its front, and says how many.
-fn keep_distinct(keys: &[i64], run: &mut [u16]) -> usize
-    ensures { Kept (comes_at keys.now) run.old result run.new }
+fn keep_distinct<O: Order>(order: &O, run: &mut [u16]) -> usize
+    ensures { Kept (O.comes order.now) run.old result run.new }
 {
-    if run.len() == 0 {
+    if run.is_empty() {
         return 0;
     }
     let mut k = 1;
     for i in 1..run.len() {
-        k = keep_next(keys, &mut *run, i, k);
+        k = keep_next(order, &mut *run, i, k);
     }
     k
 }
@@ -57,7 +56,8 @@ pub fn arrange(keys: &[i64], run: &mut [u16]) -> usize
     if 4098 < run.len() {
         return 0;
     }
+    let order = ByPlace { keys };
     count_up(&mut *run);
-    sort(&ByPlace { keys }, &mut *run);
-    keep_distinct(keys, run)
+    sort(&order, &mut *run);
+    keep_distinct(&order, run)
 }

@@ -6,7 +6,7 @@ use Rattle.lp.specs.declared.Point.{Point}
 use Rattle.lp.specs.Program.{point}
 use Rattle.records.specs.Number.{number}
 use Rattle.text.specs.Text.{text}
-use Rattle.text.specs.Number.{integer}
+use Rattle.pairs.specs.Pair.{pair}
 
 module _ (s : List ℕ) where
   abbrev pub cell_in : ℕ → ℤ
@@ -21,7 +21,7 @@ module _ (s : List ℕ) where
 
 -- a word, X Y D and the line feed
 unfoldable pub pair_line : List ℕ → Point → List ℕ
-pair_line word v = word ++ (integer v.x ++ (integer v.y ++ (integer v.d ++ text "\n")))
+pair_line word v = word ++ (pair v ++ text "\n")
 
 unfoldable pub offer_line : ℕ → Point → List ℕ
 offer_line outcome v =

@@ -5,12 +5,12 @@
 
 ghost use Rattle.std.specs.Prelude.{◌≡◌, ◌+◌, ◌≤◌, length, get_or};
 ghost use Rattle.records.specs.Number.{Copied};
-ghost use Rattle.text.specs.Append.{HasRoom, Appended, Appends};
+ghost use Rattle.text.specs.Line.{RoomIn, Added, Adds};
 ghost use Rattle.batch_line.specs.Line.{cell_in, point_in, corner_in, pair_line, answer_line};
 
 use lp::Point;
-use numerals::append_integer;
-use text::append_word;
+use pairs::append_pair;
+use text::{Line, append_word};
 
 // The byte at an index, or zero where there is none.
 fn byte_at(s: &[u8], at: usize) -> u8
@@ -19,8 +19,8 @@ fn byte_at(s: &[u8], at: usize) -> u8
     s.get(at).copied().unwrap_or(0)
 }
 
-// Eight bytes from a place on, with zeros for those that are not there. Crate `records` copies its records so,
-// but a public function may not ask for a bound on the place, so each crate has its own.
+// Eight bytes from a place on, with zeros for those that are not there. Crate `records` copies its records by a function like this, and
+// each crate has its own, since a public function may ask for no bound on the place.
 fn window(s: &[u8], at: usize) -> [u8; 8]
     requires { at ≤ 24 }
     ensures { Copied s.now at 8 result }
@@ -47,37 +47,38 @@ pub fn corner_of(corner: &[u8]) -> Point
     }
 }
 
-// A word, a pair and the line feed.
-fn append_pair(word: &[u8], v: Point, out: &mut [u8], at: usize) -> usize
-    requires { HasRoom out.old at (length word.now + 64) }
-    ensures { Appended out.old at (pair_line word.now v) (length word.now + 64)
-        out.new result }
+// The pair of an answer, behind its outcome.
+fn pair_of(answer: &[u8]) -> Point
+    ensures { result ≡ point_in answer.now }
 {
-    let x = append_word(word, &mut *out, at);
-    let y = append_integer(v.x, &mut *out, x);
-    let d = append_integer(v.y, &mut *out, y);
-    let end = append_integer(v.d, &mut *out, d);
-    append_word(b"\n", &mut *out, end)
-}
-
-// An answer's line, from a place on that has 80 bytes after it; a buffer with fewer there is left as it is, and the place handed back.
-pub fn append_answer(answer: &[u8], out: &mut [u8], at: usize) -> usize
-    ensures { Appends out.old at (answer_line answer.now) 80 out.new result }
-{
-    if text::lacks_room(out.len(), at, 80) {
-        return at;
-    }
-    let outcome = byte_at(answer, 0);
-    let v = Point {
+    Point {
         x: cell(answer, 8),
         y: cell(answer, 16),
         d: cell(answer, 24),
-    };
-    if outcome == 1 {
-        return append_pair(b"best", v, out, at);
     }
-    if outcome == 2 {
-        return append_pair(b"unlimited", v, out, at);
+}
+
+// A word, a pair and the line feed.
+fn append_named(word: &[u8], v: Point, line: &mut Line)
+    requires { RoomIn line.old (length word.now + 64) }
+    ensures { Added line.old (pair_line word.now v) (length word.now + 64) line.new }
+{
+    append_word(word, line);
+    append_pair(v, line);
+    append_word(b"\n", line);
+}
+
+// An answer's line, on one that has 80 bytes left; one with fewer is left as it is.
+pub fn append_answer(answer: &[u8], line: &mut Line)
+    ensures { Adds line.old (answer_line answer.now) 80 line.new }
+{
+    if line.lacks_room(80) {
+        return;
     }
-    append_word(b"impossible\n", out, at)
+    let v = pair_of(answer);
+    match byte_at(answer, 0) {
+        1 => append_named(b"best", v, line),
+        2 => append_named(b"unlimited", v, line),
+        _ => append_word(b"impossible\n", line),
+    }
 }

@@ -1,5 +1,6 @@
 -- An accepted book's rules in the run that was lent to its reader, after six numbers for the floors: they stand there as entries, and all
 -- numbers are within their ranges.
+use Rattle.std.specs.Prelude.{Ok}
 use Prim.Native.Nat.{ℕ, ◌+◌, ◌*◌, ◌≤◌}
 use mathlib.Core.Path.{◌≡◌, sym, ap, ◌∙◌, subst}
 use mathlib.Core.List.{List, ◌++◌}
@@ -12,7 +13,7 @@ use Rattle.records.specs.Layout.{v2}
 use Rattle.records.specs.Header.{header_fault, count_of}
 use Rattle.book.specs.declared.Head.{Head}
 use Rattle.book.specs.Reading.{accepted, Entry, read_of, rules_of}
-use Rattle.book.specs.Promises.{head_of, ReadInto}
+use Rattle.book.specs.Promises.{ReadInto}
 use Rattle.book.proofs.Bounds.{chain-count, rules-small, terms-small}
 use Rattle.book.proofs.Causes.{accepted-clear}
 use Rattle.book.proofs.Runs.{rules-length}
@@ -26,18 +27,17 @@ pub record Ready (s : List ℕ) (h : Head) (l : List ℤ) : Type 0 where
   pub terms : Terms
   pub chain : List Entry
   pub reads : read_of v2 s ≡ accepted terms chain
-  pub head : h ≡ head_of (accepted terms chain)
+  pub head : h ≡ record { terms = terms; n = length chain }
   pub rules : entries l 2 h.n ≡ rules_of chain
   pub laid : Laid h.terms.floors h.n l
 
 module _
     {s records : List ℕ} {mid : List ℤ} {h : Head} {records' : List ℕ} {rules' : List ℤ} (head post : List ℤ)
-    (read : ReadInto v2 s records mid h records' rules')
+    (read : ReadInto v2 s records mid (Ok h) records' rules')
     (six : length head ≡ 6)
-    (room : header_fault v2 s ≡ 0 → 3 * count_of v2 s ≤ length mid)
-    (clear : h.refusal.number ≡ 0) where
+    (room : header_fault v2 s ≡ 0 → 3 * count_of v2 s ≤ length mid) where
   known : Accepted v2 s records mid h records' rules'
-  known = none_said read clear
+  known = none_said read
 
   abbrev run : List ℤ
   run = head ++ (rules' ++ post)

@@ -13,7 +13,10 @@ use Rattle.records.specs.Layout.{v2}
 use Rattle.book.specs.declared.Head.{Head}
 use Rattle.book.specs.Reading.{refused, read_of, rules_of}
 use Rattle.engine.specs.Entries.{entries}
+use Rattle.answers.specs.declared.Cause.{Cause}
+use Rattle.answers.specs.declared.Cause.TheVariants as cause
 use Rattle.answers.specs.declared.Refusal.{Refusal}
+use Rattle.answers.specs.Cause.{number_of_cause}
 use Rattle.objectives.specs.Objectives.{objectives_of, bad_objectives, cause_of}
 use Rattle.offering.specs.Offers.{answers_for}
 use Rattle.batching.specs.Promises as promised
@@ -38,11 +41,13 @@ module _ (s objectives out : List ℕ) where
   comes-to b e er ea =
       record { answer = er ∙ ap batched_of (sym e); output = ea ∙ ap (λ (x : Batch). output_of x out) (sym e) }
 
-  pub batch-refused : (k i : ℕ) →
-      read_of v2 s ≡ refused k i →
-      Batches s objectives out (batched_of (declined k i)) out
+  pub batch-refused : {f : Refusal} →
+      read_of v2 s ≡ refused f.number f.at →
+      {r : Result ℕ Refusal} →
+      r ≡ Err f →
+      Batches s objectives out r out
   unfolding batch_of
-  batch-refused k i e = comes-to (declined k i) (rw e) refl refl
+  batch-refused {f} e er = comes-to (declined f.number f.at) (rw e) er refl
 
   module _ {h : Head} {l : List ℤ} (x : Ready s h l) where
     pub batch-sixteen : bad_objectives objectives ≡ true →
@@ -103,7 +108,9 @@ module _ (s objectives out : List ℕ) where
           (d.output ∙ ap (λ b. cond b (bytes ++ drop (8 * length objectives) out) out) so))
 
       -- a cause's number
-      turned-back : (k : ℕ) → cause_of objectives (length out) ≡ Some k → (r ≡ batched_of (declined k 0)) × (after ≡ out)
+      turned-back : (k : Cause) →
+          cause_of objectives (length out) ≡ Some k →
+          (r ≡ batched_of (declined (number_of_cause k) 0)) × (after ≡ out)
       turned-back k e = let d = w.declined k e in (er ∙ ap batched_by d.answer, d.output)
 
       same-output : {b : List ℕ} → after ≡ b → Batches s objectives out r b → Batches s objectives out r after
@@ -118,11 +125,11 @@ module _ (s objectives out : List ℕ) where
               ltb (length out) (8 * length objectives) ≡ c →
               Batches s objectives out r after
           go true e c q =
-              let t = turned-back 16 (sym (cause-sixteen objectives (length out) e)) in
+              let t = turned-back cause.Objectives (sym (cause-sixteen objectives (length out) e)) in
               same-output t.1 (batch-sixteen e t.0)
           go false e true q =
               let short = ltb-true (length out) (8 * length objectives) q in
-              let t = turned-back 11 (sym (cause-eleven objectives (length out) e short)) in
+              let t = turned-back cause.Room (sym (cause-eleven objectives (length out) e short)) in
               same-output t.1 (batch-eleven e short t.0)
           go false e false q =
               done (sym (cause-none objectives (length out) e (ltb-false (length out) (8 * length objectives) q)))

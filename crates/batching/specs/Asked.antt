@@ -3,6 +3,7 @@ use Rattle.std.specs.Prelude.{◌≡◌, List, ℕ, ◌+◌, ◌*◌, ◌≤◌,
 use Rattle.lp.specs.declared.Floors.{Floors}
 use Rattle.lp.specs.Range.{SmallFloors, SmallSystem}
 use Rattle.answers.specs.declared.Refusal.{Refusal}
+use Rattle.answers.specs.Cause.{number_of_cause}
 use Rattle.answers.specs.Refusal.{refusal}
 use Rattle.records.specs.Layout.{v2}
 use Rattle.records.specs.Header.{header_fault, count_of}
@@ -29,5 +30,5 @@ pub record Roomy (s records : List ℕ) (run : List ℤ) (ring : List ℕ) (corn
 -- what is handed back for what the objectives were answered
 abbrev pub batched_by : Result ℕ Unanswered → Result ℕ Refusal
 batched_by (Err unanswered.Outside) = Ok 0
-batched_by (Err (unanswered.Declined n)) = Err (refusal n 0)
+batched_by (Err (unanswered.Declined cause)) = Err (refusal (number_of_cause cause) 0)
 batched_by (Ok n) = Ok n

@@ -8,7 +8,7 @@ ghost use Rattle.batching.specs.Asked.{batched_by, Roomy};
 
 use answers::Refusal;
 use offering::{Unanswered, answer};
-use records::Version;
+use records::{Book, Version};
 
 // What a batch hands back for what its objectives were answered. An accepted book's numbers are all within their ranges.
 fn batched(answered: Result<usize, Unanswered>) -> Result<usize, Refusal>
@@ -17,7 +17,7 @@ fn batched(answered: Result<usize, Unanswered>) -> Result<usize, Refusal>
     match answered {
         Ok(filled) => Ok(filled),
         Err(Unanswered::Outside) => Ok(0),
-        Err(Unanswered::Declined(number)) => Err(Refusal { number, at: 0 }),
+        Err(Unanswered::Declined(cause)) => Err(Refusal::of(cause, 0)),
     }
 }
 
@@ -35,17 +35,15 @@ fn batch_in(
     requires { Roomy book.now records.old run.old ring.old corners.old }
     ensures { Batches book.now objectives.now out.old result out.new }
 {
-    let head = reading::read(Version::Two, book, &mut *records, &mut run[6..]);
-    let refusal = head.refusal;
-    if refusal.number != 0 {
-        return Err(refusal);
-    }
-    let terms = head.terms;
-    let n = head.n;
+    let book = Book {
+        version: Version::Two,
+        bytes: book,
+    };
+    let head = reading::read(&book, &mut *records, &mut run[6..])?;
     batched(answer(
-        terms.floors,
+        head.terms.floors,
         run,
-        &mut records[0..n],
+        &mut records[..head.n],
         ring,
         corners,
         objectives,

@@ -11,11 +11,12 @@ use borrow.Author.Tests.{eq-eqb, ne_eqb, ltb-true, ltb-false, eqb-true, eqb-fals
 use lib.ListN.{length, set, replicate, length-append}
 use lib.Dec.{eqb, ltb, lit≤}
 use Rattle.lp.specs.declared.Terms.{Terms}
-use Rattle.std.specs.Prelude.{Err}
-use Rattle.records.specs.declared.Fault.TheVariants.{Kind, Slope, Bound}
+use Rattle.std.specs.Prelude.{Err, Some, None}
+use Rattle.answers.specs.declared.Cause.TheVariants.{Length, Version, Count, Objective, Tail, Kind, Slope, Bound}
+use Rattle.answers.specs.Cause.{numbered}
 use Rattle.records.specs.Layout.{Layout, width}
 use Rattle.records.specs.Record.{sound_with, record_at, link_of, pad_of, rule_of, bad_kind, bad_slope, bad_bound, decoded_with, decoded_of, number_of}
-use Rattle.records.specs.Header.{terms_of, count_of, header_fault, bad_length, bad_version, bad_count, bad_objective, bad_tail}
+use Rattle.records.specs.Header.{terms_of, count_of, header_cause, header_fault, bad_length, bad_version, bad_count, bad_objective, bad_tail}
 use Rattle.book.specs.Reading.{Reading, refused, accepted, Entry, Ending, entry_at, label_at, memb, walk, end_of, read_of, passed_of}
 use Rattle.book.specs.Causes.{WrongLength, WrongVersion, WrongCount, WrongObjective, WrongTail, WrongKind, WrongSlope, WrongBound, short, long, differs, Walked, header, visit, Reached, Applies, cause_1, cause_2, cause_3, cause_4, cause_5, cause_6, cause_7, cause_8, cause_9, cause_10, cause_12, Accepts, Meets}
 use Rattle.book.proofs.Decided.{refutes, refuted, length-test, version-test, count-test, objective-test, tail-test, kind-test, slope-test, bound-test}
@@ -41,13 +42,14 @@ eq_of m n h = go (ℕ_discrete m n)
 
 -- the number of the first of five tests that is true
 abbrev first : Bool → Bool → Bool → Bool → Bool → ℕ
-first a b c d f = cond a 1 (cond b 2 (cond c 3 (cond d 4 (cond f 5 0))))
+first a b c d f =
+    numbered (cond a (Some Length) (cond b (Some Version) (cond c (Some Count) (cond d (Some Objective) (cond f (Some Tail) None)))))
 
 module _ (L : Layout) (s : List ℕ) where
   -- ---- the header
 
   pub header_good : header_fault L s ≡ 0 → Walked L s [] 0
-  unfolding header_fault
+  unfolding header_fault header_cause
   header_good e = go (bad_length L s) (bad_version L s) (bad_count L s) (bad_objective L s) (bad_tail L s) refl refl refl refl refl e
     where
       go : (a b c d f : Bool) →
@@ -68,7 +70,7 @@ module _ (L : Layout) (s : List ℕ) where
           (refutes (objective-test L s) pd) (refutes (tail-test L s) pf)
 
   header-bad : (header_fault L s ≡ 0 → ⊥) → Applies L s (header_fault L s) 0
-  unfolding header_fault
+  unfolding header_fault header_cause
   header-bad h = go (bad_length L s) (bad_version L s) (bad_count L s) (bad_objective L s) (bad_tail L s) refl refl refl refl refl h
     where
       go : (a b c d f : Bool) →
@@ -97,7 +99,7 @@ module _ (L : Layout) (s : List ℕ) where
       (WrongObjective L s → ⊥) →
       (WrongTail L s → ⊥) →
       header_fault L s ≡ 0
-  unfolding header_fault
+  unfolding header_fault header_cause
   header-clear a b c d f =
       rw (
         refuted (length-test L s) a,
@@ -109,19 +111,19 @@ module _ (L : Layout) (s : List ℕ) where
       )
 
   header_1 : WrongLength L s → header_fault L s ≡ 1
-  unfolding header_fault
+  unfolding header_fault header_cause
   header_1 a = rw ((length-test L s).tests a)
 
   header_2 : (WrongLength L s → ⊥) → WrongVersion L s → header_fault L s ≡ 2
-  unfolding header_fault
+  unfolding header_fault header_cause
   header_2 a b = rw (refuted (length-test L s) a, (version-test L s).tests b)
 
   header_3 : (WrongLength L s → ⊥) → (WrongVersion L s → ⊥) → WrongCount L s → header_fault L s ≡ 3
-  unfolding header_fault
+  unfolding header_fault header_cause
   header_3 a b c = rw (refuted (length-test L s) a, refuted (version-test L s) b, (count-test L s).tests c)
 
   header_4 : (WrongLength L s → ⊥) → (WrongVersion L s → ⊥) → (WrongCount L s → ⊥) → WrongObjective L s → header_fault L s ≡ 4
-  unfolding header_fault
+  unfolding header_fault header_cause
   header_4 a b c d =
       rw (refuted (length-test L s) a, refuted (version-test L s) b, refuted (count-test L s) c, (objective-test L s).tests d)
 
@@ -131,7 +133,7 @@ module _ (L : Layout) (s : List ℕ) where
       (WrongObjective L s → ⊥) →
       WrongTail L s →
       header_fault L s ≡ 5
-  unfolding header_fault
+  unfolding header_fault header_cause
   header_5 a b c d f =
       rw (
         refuted (length-test L s) a,

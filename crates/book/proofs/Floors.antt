@@ -7,7 +7,6 @@ use native.Mathlib.Omega.{arith}
 use lib.ListN.{drop}
 use mir.Syntax.{w16}
 use mir.Val.{to_z}
-use Rattle.lp.specs.declared.Floors.{Floors}
 use Rattle.lp.specs.declared.Terms.{Terms}
 use Rattle.lp.specs.Document.{zero_floors}
 use Rattle.records.specs.Layout.{Layout, v1, v2}

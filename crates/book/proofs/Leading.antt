@@ -4,24 +4,27 @@ use mathlib.Core.Path.{◌≡◌, refl, sym, ap, ◌∙◌, subst, subst⁻¹}
 use mathlib.Core.Bool.{Bool, true, false, cond, ◌||◌}
 use mathlib.Core.List.{List, [], ◌∷◌, ◌++◌, map}
 use native.Mathlib.Omega.{arith}
-use native.Mathlib.Decide.{ℕ_discrete, dec_lt}
-use borrow.Author.Tests.{lt-ltb, le-ltb, eq-eqb, ne_eqb, eqb-true}
+use native.Mathlib.Decide.{dec_lt}
+use borrow.Author.Tests.{lt-ltb, le-ltb, eqb-true}
 use lib.ListN.{length, length-append}
 use lib.Dec.{eqb}
 use Rattle.records.specs.declared.Rule.{Rule}
 use Rattle.records.specs.Layout.{Layout}
-use Rattle.records.specs.Number.{Bytes}
 use Rattle.records.specs.Record.{record_at, rule_of, link_of, decoded_of, number_of}
 use Rattle.records.specs.Header.{count_of}
 use Rattle.std.specs.Prelude.{Result, Ok, Err}
+use Rattle.answers.specs.declared.Cause.{Cause}
+use Rattle.answers.specs.declared.Cause.TheVariants.{Length}
+use Rattle.answers.specs.Cause.{number_of_cause}
 use Rattle.answers.specs.declared.Refusal.{Refusal}
 use Rattle.answers.specs.Refusal.{refusal}
 use Rattle.records.specs.declared.Sound.{Sound}
 use Rattle.book.specs.Reading.{label_at, memb, refused, end_of}
 use Rattle.book.specs.Causes.{Walked, header, visit}
 use Rattle.book.specs.Tables.{is_noted}
-use Rattle.book.specs.Judging.{record_after, is_passed, again, judged, labels_after}
-use Rattle.records.proofs.Small.{label_small}
+use Rattle.book.specs.Judging.{record_after, is_passed, again, judged_as, judged, SmallLabel}
+use Rattle.records.proofs.Checks.{sound-holds}
+use Rattle.book.proofs.Results.{ok-err, same_Ok}
 use Rattle.book.proofs.Members.{memb_snoc, memb-map}
 use Rattle.book.proofs.TableLaws.{Noted}
 use Rattle.book.proofs.Links.{walk-over, walk-again, walk-fault, walk_repeat}
@@ -29,31 +32,38 @@ use Rattle.book.proofs.Causes.{rule-clear, walked_next}
 
 -- ---- the documents' tests, one by one
 
+-- no cause has the number 0
+pub some-number : (cause : Cause) → number_of_cause cause ≡ 0 → ⊥
+some-number Length e = omega arith
+some-number _ e = omega arith
+
 module _ (L : Layout) (s : List ℕ) (labels : List ℕ) (count n at i : ℕ) where
   pub judged-over : count < i → Err (refusal 6 at) ≡ judged L s labels count n at i
   unfolding judged
   judged-over h = rw (lt-ltb count i h)
 
-  module _ (h : i ≤ count) where
-    pub judged-fault :
-        (number_of (decoded_of L (record_at L s i)) ≡ 0 → ⊥) →
-        Err (refusal (number_of (decoded_of L (record_at L s i))) i) ≡ judged L s labels count n at i
+  module _ (h : i ≤ count) {d : Result Sound Cause} (e : d ≡ decoded_of L (record_at L s i)) where
+    pub judged-held : judged_as L s labels n at i d ≡ judged L s labels count n at i
     unfolding judged
-    judged-fault f = rw (le-ltb count i h, ne_eqb (number_of (decoded_of L (record_at L s i))) 0 f)
+    judged-held = rw (le-ltb count i h, sym e)
 
-    module _ (f : number_of (decoded_of L (record_at L s i)) ≡ 0) where
-      pub judged-met : {r : Result Sound Refusal} →
-          is_noted labels (label_at L s i) ≡ true →
-          r ≡ again L s n at i →
-          r ≡ judged L s labels count n at i
-      unfolding judged
-      judged-met q e = e ∙ rw (le-ltb count i h, eq-eqb (number_of (decoded_of L (record_at L s i))) 0 f, q)
+  -- a sound record is new, or its label was met
+  module _ (h : i ≤ count) (sound : Sound) (e : Ok sound ≡ decoded_of L (record_at L s i)) where
+    pub judged-met : is_noted labels sound.rule.label ≡ true → Err (again L s n at i) ≡ judged L s labels count n at i
+    judged-met q = sym (ap (λ b. cond b (Err (again L s n at i)) (Ok sound)) q) ∙ judged-held h e
 
-      pub judged-sound :
-          is_noted labels (label_at L s i) ≡ false →
-          Ok (record { rule = rule_of L (record_at L s i); next = link_of L (record_at L s i) }) ≡ judged L s labels count n at i
-      unfolding judged
-      judged-sound q = rw (le-ltb count i h, eq-eqb (number_of (decoded_of L (record_at L s i))) 0 f, q)
+    pub judged-sound : is_noted labels sound.rule.label ≡ false → Ok sound ≡ judged L s labels count n at i
+    judged-sound q = sym (ap (λ b. cond b (Err (again L s n at i)) (Ok sound)) q) ∙ judged-held h e
+
+  -- the label of a sound record is small, if one is met there
+  pub small-over : count < i → i ≤ count → SmallLabel L s i
+  small-over h k = absurd (let z : ⊥ = omega arith in z)
+
+  pub small-faulty : {cause : Cause} → Err cause ≡ decoded_of L (record_at L s i) → i ≤ count → SmallLabel L s i
+  small-faulty {cause} e k sound q = absurd (ok-err sound cause (q ∙ sym e))
+
+  pub small-sound : {d : Sound} → Ok d ≡ decoded_of L (record_at L s i) → d.rule.label < 65536 → i ≤ count → SmallLabel L s i
+  small-sound {d} e h k sound q = subst (λ (x : Sound). x.rule.label < 65536) (same_Ok d sound (e ∙ sym q)) h
 
 -- ---- the records passed
 
@@ -64,19 +74,11 @@ one_more : (done : List ℕ) (i : ℕ) → length (done ++ (i ∷ [])) ≡ suc (
 one_more done i = length-append done (i ∷ []) ∙ omega arith
 
 module _ (L : Layout) (s : List ℕ) (n at i : ℕ) where
-  pub again-passed : is_passed L s n i ≡ true → Err (refusal 7 at) ≡ again L s n at i
+  pub again-passed : is_passed L s n i ≡ true → refusal 7 at ≡ again L s n at i
   again-passed p = rw p
 
-  pub again-other : is_passed L s n i ≡ false → Err (refusal 12 i) ≡ again L s n at i
+  pub again-other : is_passed L s n i ≡ false → refusal 12 i ≡ again L s n at i
   again-other p = rw p
-
-  -- it is a refusal, which leaves the table as it is
-  pub again_kept : {r : Result Sound Refusal} (labels : List ℕ) → r ≡ again L s n at i → labels ≡ labels_after r labels
-  again_kept labels e = sym (ap (λ (r : Result Sound Refusal). labels_after r labels) e ∙ go (is_passed L s n i))
-    where
-      go : (b : Bool) → labels_after (cond b (Err (refusal 7 at)) (Err (refusal 12 i))) labels ≡ labels
-      go true = refl
-      go false = refl
 
 -- one link more
 module _ (L : Layout) (s : List ℕ) (k : ℕ) {at next : ℕ} (here : at ≡ record_after L s k) (e : next ≡ link_of L (record_at L s at)) where
@@ -136,73 +138,88 @@ pub record NewRule (L : Layout) (s : List ℕ) (done : List ℕ) (i : ℕ) (r : 
   pub fresh : memb (label_at L s i) (map (label_at L s) done) ≡ false
   pub rule : r ≡ rule_of L (record_at L s i)
   pub link : next ≡ link_of L (record_at L s i)
+  pub small : r.label < 65536
+
+-- the walk ends there with a refusal, or has come to a new rule
+abbrev pub Leads : Layout → List ℕ → (done : List ℕ) → (i : ℕ) → Result Sound Refusal → Type 0
+Leads L s done i (Err r) = end_of L s ≡ record { reading = refused r.number r.at; passed = done }
+Leads L s done i (Ok s') = NewRule L s done i s'.rule s'.next
 
 module _
     {L : Layout} {s : List ℕ} {done : List ℕ} {labels : List ℕ} {n at i : ℕ}
-    (bytes : Bytes s) (w : Walked L s done at) (length-is : n ≡ length done)
+    (small : i ≤ count_of L s → SmallLabel L s i) (w : Walked L s done at) (length-is : n ≡ length done)
     (met : Noted 1024 labels (map (label_at L s) done))
     (held : i ≡ link_of L (record_at L s at)) (some : i ≡ 0 → ⊥) where
-  abbrev pub Leads : Result Sound Refusal → Type 0
-  Leads (Err r) = end_of L s ≡ record { reading = refused r.number r.at; passed = done }
-  Leads (Ok s') = NewRule L s done i s'.rule s'.next
-
   abbrev verdict : Result Sound Refusal
   verdict = judged L s labels (count_of L s) n at i
 
-  to : {j : Result Sound Refusal} → j ≡ verdict → Leads j → Leads verdict
-  to e l = subst⁻¹ Leads (sym e) l
-
-  label-met : is_noted labels (label_at L s i) ≡ memb (label_at L s i) (map (label_at L s) done)
-  label-met = met.agrees (label_at L s i) (omega (arith, label_small L s bytes i))
+  to : {j : Result Sound Refusal} → j ≡ verdict → Leads L s done i j → Leads L s done i verdict
+  to e l = subst⁻¹ (Leads L s done i) (sym e) l
 
   is-passed : is_passed L s n i ≡ memb i done
   is-passed = ap (λ k. is_passed L s k i) length-is ∙ passed_are L s i w
 
-  -- the record's own label is among those of the records passed, if it is one of them
-  own-label : memb i done ≡ true → is_noted labels (label_at L s i) ≡ true
-  own-label m = label-met ∙ memb-map (label_at L s) done i m
-
   module _ (h : i ≤ count_of L s) where
-    -- a record that was passed is found by its label, and named by 7
-    old : memb i done ≡ true → Leads verdict
-    old m =
-        to
-        (judged-met L s labels (count_of L s) n at i h (passed-sound L s i w m) (own-label m)
-        (again-passed L s n at i (is-passed ∙ m)))
-        (walked_next L s w ∙ walk-again L s _ done at i held some h m)
+    -- a sound record
+    module _ (s' : Sound) (e : Ok s' ≡ decoded_of L (record_at L s i)) where
+      has : (s'.rule ≡ rule_of L (record_at L s i)) × (s'.next ≡ link_of L (record_at L s i))
+      has = sound-holds L (record_at L s i) s'.rule s'.next (sym e)
 
-    module _ (m : memb i done ≡ false) where
-      by-label : (f : number_of (decoded_of L (record_at L s i)) ≡ 0) (b : Bool) → is_noted labels (label_at L s i) ≡ b → Leads verdict
-      by-label f true q =
-          to (judged-met L s labels (count_of L s) n at i h f q (again-other L s n at i (is-passed ∙ m)))
-          (walked_next L s w ∙ walk_repeat L s _ done at i held some h m f (sym label-met ∙ q))
-      by-label f false q =
-          to (judged-sound L s labels (count_of L s) n at i h f q)
-          (record { within = h; unvisited = m; sound = f; fresh = sym label-met ∙ q; rule = refl; link = refl })
+      clear : number_of (decoded_of L (record_at L s i)) ≡ 0
+      clear = ap number_of (sym e)
 
-      by-record : Dec (number_of (decoded_of L (record_at L s i)) ≡ 0) → Leads verdict
-      by-record (yes f) = by-label f (is_noted labels (label_at L s i)) refl
-      by-record (no f) =
-          to (judged-fault L s labels (count_of L s) n at i h f)
-          (walked_next L s w ∙ walk-fault L s _ done at i held some h m f)
+      met-label : is_noted labels s'.rule.label ≡ memb (label_at L s i) (map (label_at L s) done)
+      met-label =
+          met.agrees s'.rule.label (omega (arith, small h s' e))
+          ∙ ap (λ (r : Rule). memb r.label (map (label_at L s) done)) has.0
 
-    by-passed : (b : Bool) → memb i done ≡ b → Leads verdict
-    by-passed true m = old m
-    by-passed false m = by-record m (ℕ_discrete (number_of (decoded_of L (record_at L s i))) 0)
+      -- one that was passed is found by its label, and named by 7
+      old : memb i done ≡ true → Leads L s done i verdict
+      old m =
+          to
+          (ap Err (again-passed L s n at i (is-passed ∙ m))
+          ∙ judged-met L s labels (count_of L s) n at i h s' e (met-label ∙ memb-map (label_at L s) done i m))
+          (walked_next L s w ∙ walk-again L s _ done at i held some h m)
 
-  pub leads : Leads verdict
+      by-label : memb i done ≡ false → (b : Bool) → is_noted labels s'.rule.label ≡ b → Leads L s done i verdict
+      by-label m true q =
+          to
+          (ap Err (again-other L s n at i (is-passed ∙ m)) ∙ judged-met L s labels (count_of L s) n at i h s' e q)
+          (walked_next L s w ∙ walk_repeat L s _ done at i held some h m clear (sym met-label ∙ q))
+      by-label m false q =
+          to (judged-sound L s labels (count_of L s) n at i h s' e q)
+          (record { within = h; unvisited = m; sound = clear; fresh = sym met-label ∙ q; rule = has.0; link = has.1; small = small h s' e })
+
+      by-passed : (b : Bool) → memb i done ≡ b → Leads L s done i verdict
+      by-passed true m = old m
+      by-passed false m = by-label m (is_noted labels s'.rule.label) refl
+
+    -- one that a cause turns back was not passed
+    faulty : (cause : Cause) → Err cause ≡ decoded_of L (record_at L s i) → (b : Bool) → memb i done ≡ b → Leads L s done i verdict
+    faulty cause e true m = absurd (some-number cause (ap number_of e ∙ passed-sound L s i w m))
+    faulty cause e false m =
+        to (judged-held L s labels (count_of L s) n at i h e)
+        (walked_next L s w
+        ∙ walk-fault L s _ done at i held some h m (λ z. some-number cause (ap number_of e ∙ z))
+        ∙ ap (λ k. record { reading = refused k i; passed = done }) (sym (ap number_of e)))
+
+    by-record : (d : Result Sound Cause) → d ≡ decoded_of L (record_at L s i) → Leads L s done i verdict
+    by-record (Ok s') e = by-passed s' e (memb i done) refl
+    by-record (Err cause) e = faulty cause e (memb i done) refl
+
+  pub leads : Leads L s done i verdict
   leads = go (dec_lt (count_of L s) i)
     where
-      go : Dec (count_of L s < i) → Leads verdict
+      go : Dec (count_of L s < i) → Leads L s done i verdict
       go (yes h) =
           to (judged-over L s labels (count_of L s) n at i h)
           (walked_next L s w ∙ walk-over L s _ done at i held some h)
-      go (no h) = by-passed (omega arith) (memb i done) refl
+      go (no h) = by-record (omega arith) (decoded_of L (record_at L s i)) refl
 
   -- of an answer that is one of its cases, where the header's count was handed over
   pub leads-to : {r j : Result Sound Refusal} {count : ℕ} →
       count ≡ count_of L s →
       r ≡ judged L s labels count n at i →
       r ≡ j →
-      Leads j
-  leads-to c e q = subst Leads (sym (e ∙ ap (λ k. judged L s labels k n at i) c) ∙ q) leads
+      Leads L s done i j
+  leads-to c e q = subst (Leads L s done i) (sym (e ∙ ap (λ k. judged L s labels k n at i) c) ∙ q) leads

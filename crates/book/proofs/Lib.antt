@@ -1,4 +1,5 @@
--- The laws of this crate: lists and tables, the walk and the causes, the runs and the state of the walk, what holds of accepted books.
+-- The laws of this crate: answers and refusals, lists and tables, the walk and the causes, the runs and the state of the walk, what holds of accepted books.
+pub mod Results
 pub mod Members
 pub mod TableLaws
 pub mod Links

@@ -1,12 +1,14 @@
 -- What the reader says, in document 01's words: a number that it says is that of the first cause that applies, with the record that the
 -- table names; and where it says none, no cause applies, and with room the runs start with the chain.
 use Prim.Native.Nat.{ℕ, ◌*◌, ◌≤◌, ◌<◌}
-use mathlib.Core.Path.{◌≡◌, refl, sym, ap, ◌∙◌}
+use mathlib.Core.Path.{◌≡◌, refl, sym, ap, ◌∙◌, subst⁻¹}
 use mathlib.Core.List.{List}
 use native.Mathlib.Omega.{arith}
 use lib.ListN.{length, get_or}
 use lib.IntN.{ℤ}
 use Rattle.lp.specs.declared.Terms.{Terms}
+use Rattle.std.specs.Prelude.{Result, Ok, Err, IsOk}
+use Rattle.answers.specs.declared.Refusal.{Refusal}
 use Rattle.answers.specs.Refusal.{refusal}
 use Rattle.records.specs.Layout.{Layout}
 use Rattle.book.specs.declared.Head.{Head}
@@ -14,7 +16,8 @@ use Rattle.book.specs.Reading.{Reading, refused, accepted, Entry, records_of, ru
 use Rattle.book.specs.Runs.{put_records, put_rules}
 use Rattle.book.specs.Promises.{head_of, ReadInto}
 use Rattle.book.specs.Causes.{Applies}
-use Rattle.book.proofs.Causes.{cause-number, refusal_applies, applies_refused, accepted-passed, accepted_no_cause, none_applies_accepted}
+use Rattle.book.proofs.Results.{ok-err, same_Ok, same_Err}
+use Rattle.book.proofs.Causes.{refusal_applies, applies_refused, accepted-passed, accepted_no_cause, none_applies_accepted}
 use Rattle.book.proofs.Bounds.{chain-count, count_room}
 use Rattle.book.proofs.Runs.{Placed, no_rule, record-placed, rule-placed}
 
@@ -25,57 +28,59 @@ pub record Accepted
   pub terms : Terms
   pub entries : List Entry
   pub reads : read_of L s ≡ accepted terms entries
-  pub head : h ≡ head_of (accepted terms entries)
+  pub head : h ≡ record { terms = terms; n = length entries }
   pub recorded : run ≡ put_records first 0 entries
   pub ruled : rules ≡ put_rules blank 0 entries
 
-module _
-    {L : Layout} {s first run : List ℕ} {blank rules : List ℤ} {h : Head}
-    (r : ReadInto L s first blank h run rules) where
+module _ {L : Layout} {s first run : List ℕ} {blank rules : List ℤ} where
   -- ---- a refusal
 
-  pub said-refused : (h.refusal.number ≡ 0 → ⊥) → read_of L s ≡ refused h.refusal.number h.refusal.at
-  said-refused n = go (read_of L s) refl
+  pub said-refused : {x : Refusal} → ReadInto L s first blank (Err x) run rules → read_of L s ≡ refused x.number x.at
+  said-refused {x} r = go (read_of L s) refl
     where
-      go : (x : Reading) → read_of L s ≡ x → read_of L s ≡ refused h.refusal.number h.refusal.at
+      go : (y : Reading) → read_of L s ≡ y → read_of L s ≡ refused x.number x.at
       go (refused k i) p =
-          p ∙ sym (λ j. refused ((r.answer ∙ ap head_of p) j).refusal.number ((r.answer ∙ ap head_of p) j).refusal.at)
-      go (accepted t es) p = absurd (n (ap (λ (x : Head). x.refusal.number) (r.answer ∙ ap head_of p)))
+          let e = same_Err x (refusal k i) (r.answer ∙ ap head_of p) in
+          p ∙ sym (λ j. refused (e j).number (e j).at)
+      go (accepted t es) p =
+          absurd (ok-err (record { terms = t; n = length es }) x (sym (r.answer ∙ ap head_of p)))
 
-  pub said_applies : (h.refusal.number ≡ 0 → ⊥) → Applies L s h.refusal.number h.refusal.at
-  said_applies n = refusal_applies L s (said-refused n)
+  pub said_applies : {x : Refusal} → ReadInto L s first blank (Err x) run rules → Applies L s x.number x.at
+  said_applies r = refusal_applies L s (said-refused r)
 
-  pub applies_said : {k i : ℕ} → Applies L s k i → h.refusal ≡ refusal k i
-  applies_said a = ap (λ (x : Head). x.refusal) (r.answer ∙ ap head_of (applies_refused L s a))
+  pub applies_said : {h : Result Head Refusal} {k i : ℕ} →
+      ReadInto L s first blank h run rules →
+      Applies L s k i →
+      h ≡ Err (refusal k i)
+  applies_said r a = r.answer ∙ ap head_of (applies_refused L s a)
 
   -- ---- no refusal
 
-  pub none_said : h.refusal.number ≡ 0 → Accepted L s first blank h run rules
-  none_said z = go (read_of L s) refl
+  pub none_said : {h : Head} → ReadInto L s first blank (Ok h) run rules → Accepted L s first blank h run rules
+  none_said {h} r = go (read_of L s) refl
     where
-      go : (x : Reading) → read_of L s ≡ x → Accepted L s first blank h run rules
-      go (refused k i) p =
-          absurd
-          (let n : k ≡ 0 = sym (ap (λ (x : Head). x.refusal.number) (r.answer ∙ ap head_of p)) ∙ z in
-          let y : ⊥ = omega (arith, cause-number (refusal_applies L s p)) in
-          y)
+      go : (y : Reading) → read_of L s ≡ y → Accepted L s first blank h run rules
+      go (refused k i) p = absurd (ok-err h (refusal k i) (r.answer ∙ ap head_of p))
       go (accepted t es) p =
           record {
             terms = t;
             entries = es;
             reads = p;
-            head = r.answer ∙ ap head_of p;
+            head = same_Ok h (record { terms = t; n = length es }) (r.answer ∙ ap head_of p);
             recorded = r.recorded ∙ ap (put_records first 0) (accepted-passed L s p);
             ruled = r.ruled ∙ ap (put_rules blank 0) (accepted-passed L s p);
           }
 
-  pub none_applies : h.refusal.number ≡ 0 → {k i : ℕ} → Applies L s k i → ⊥
-  none_applies z a = accepted_no_cause L s (none_said z).reads a
+  pub none_applies : {h : Head} → ReadInto L s first blank (Ok h) run rules → {k i : ℕ} → Applies L s k i → ⊥
+  none_applies r a = accepted_no_cause L s (none_said r).reads a
 
-  pub no_cause_none_said : ((k i : ℕ) → Applies L s k i → ⊥) → h.refusal.number ≡ 0
-  no_cause_none_said none =
+  pub no_cause_none_said : {h : Result Head Refusal} →
+      ReadInto L s first blank h run rules →
+      ((k i : ℕ) → Applies L s k i → ⊥) →
+      IsOk h
+  no_cause_none_said {h} r none =
       let e = none_applies_accepted L s none in
-      ap (λ (x : Head). x.refusal.number) (r.answer ∙ ap head_of e.2)
+      subst⁻¹ IsOk (r.answer ∙ ap head_of e.2) refl
 
 -- ---- what a caller reads off an accepted book's runs
 

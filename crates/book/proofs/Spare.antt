@@ -5,7 +5,7 @@ use mathlib.Core.List.{List, [], ◌∷◌, ◌++◌, map}
 use lib.ListN.{length}
 use Rattle.records.specs.Layout.{Layout}
 use Rattle.records.specs.Record.{record_at, link_of, rule_of}
-use Rattle.records.specs.Header.{header_fault}
+use Rattle.records.specs.Header.{header_cause, header_fault}
 use Rattle.book.specs.Reading.{Entry, Ending, entry_at, label_at, follow, walk, end_of, read_of}
 use Rattle.book.specs.Spare.{OnChain, header, link}
 use Rattle.book.proofs.Members.{map_snoc}
@@ -17,7 +17,7 @@ labels_in L s (i ∷ done) = ap (λ l. label_at L s i ∷ l) (labels_in L s done
 
 module _ (L : Layout) (s t : List ℕ) (long : length s ≡ length t) (agree : (i : ℕ) → OnChain L s i → record_at L s i ≡ record_at L t i) where
   same-fault : header_fault L s ≡ header_fault L t
-  unfolding header_fault
+  unfolding header_fault header_cause
   same-fault = let r = agree 0 header in rw (long, r)
 
   same-follow : (done : List ℕ) (at i : ℕ) (x y : Ending) →

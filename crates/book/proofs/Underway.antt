@@ -6,15 +6,18 @@ use mathlib.Core.List.{List, [], ◌∷◌, ◌++◌, map}
 use native.Mathlib.Omega.{arith}
 use lib.ListN.{length, set, replicate, length-append, length-map}
 use lib.IntN.{ℤ}
-use lib.Dec.{lit≤}
+use Rattle.std.specs.Prelude.{Option, Some, None, Result, Ok, Err}
+use Rattle.answers.specs.declared.Cause.{Cause}
+use Rattle.answers.specs.declared.Refusal.{Refusal}
+use Rattle.answers.specs.Cause.{number_of_cause, numbered}
+use Rattle.answers.specs.Refusal.{refusal}
+use Rattle.lp.specs.declared.Terms.{Terms}
 use Rattle.records.specs.declared.Rule.{Rule}
 use Rattle.records.specs.declared.Heading.{Heading}
-use Rattle.records.specs.declared.Version.{Version}
-use Rattle.records.specs.declared.Version.TheVariants.{One, Two}
-use Rattle.records.specs.Layout.{Layout, layout_of}
-use Rattle.records.specs.Number.{Bytes}
+use Rattle.records.specs.declared.Sound.{Sound}
+use Rattle.records.specs.Layout.{Layout}
 use Rattle.records.specs.Record.{record_at, link_of}
-use Rattle.records.specs.Header.{terms_of, count_of, header_fault}
+use Rattle.records.specs.Header.{terms_of, count_of, headed, header_cause, header_fault, heading_of}
 use Rattle.records.specs.Planned.{planned_rule}
 use Rattle.book.specs.declared.Head.{Head}
 use Rattle.book.specs.Reading.{Reading, refused, accepted, Ending, entry_at, label_at, end_of}
@@ -22,19 +25,14 @@ use Rattle.book.specs.Runs.{put_entry, put_records, put_rules}
 use Rattle.book.specs.Promises.{head_of, ReadInto}
 use Rattle.book.specs.Causes.{Walked, visit}
 use Rattle.book.specs.Tables.{noting}
-use Rattle.book.specs.Judging.{Headed}
+use Rattle.book.specs.Judging.{Headed, Judges}
 use Rattle.book.proofs.Members.{map_snoc}
-use Rattle.records.proofs.Small.{label_small}
 use Rattle.book.proofs.TableLaws.{Noted, noted-start, noted_step}
 use Rattle.book.proofs.Links.{walk_ends}
+use Rattle.book.proofs.Results.{ok-err, same_Ok, same_Err}
 use Rattle.book.proofs.Causes.{header_good, rule_good, ends_faulty, walked-count, walked-length, walked_next}
 use Rattle.book.proofs.Runs.{records-length, records_snoc, rules-length, rules_snoc}
-use Rattle.book.proofs.Leading.{NewRule}
-
--- no version has more records than 4,096, so that their number is small
-pub few-records : (v : Version) → (layout_of v).records ≤ 4096
-few-records One = lit≤ tt
-few-records Two = lit≤ tt
+use Rattle.book.proofs.Leading.{some-number, NewRule, Leads, leads-to}
 
 pub record Underway
     (L : Layout) (s : List ℕ) (first : List ℕ) (blank : List ℤ)
@@ -47,32 +45,50 @@ pub record Underway
   pub count : n ≡ length done
   pub held : link ≡ link_of L (record_at L s at)
 
+-- a header that is not refused has fault 0, and one that is has its cause's number
+headed-ok : (o : Option Cause) (g h : Heading) → headed o g ≡ Ok h → (numbered o ≡ 0) × (g ≡ h)
+headed-ok (Some cause) g h e = absurd (ok-err h cause (sym e))
+headed-ok None g h e = (refl, same_Ok g h e)
+
+headed-err : (o : Option Cause) (g : Heading) (cause : Cause) → headed o g ≡ Err cause → numbered o ≡ number_of_cause cause
+headed-err (Some c) g cause e = ap number_of_cause (same_Err c cause e)
+headed-err None g cause e = absurd (ok-err g cause e)
+
+abbrev heading_with : Terms → ℕ → ℕ → Heading
+heading_with terms count link = record { terms = terms; count = count; link = link }
+
+-- what a header that is not refused says
+pub said-heading : {L : Layout} {s : List ℕ} {h : Heading} →
+    Headed L s h →
+    heading_with (terms_of L s) (count_of L s) (link_of L (record_at L s 0)) ≡ h
+said-heading {L} {s} {h} w = (headed-ok (header_cause L s) _ h w.heading).1
+
 pub starts : {L : Layout} {s : List ℕ} {h : Heading} (first : List ℕ) (blank : List ℤ) →
     Headed L s h →
     Underway L s first blank (replicate 1024 0) first blank 0 0 h.link
-unfolding put_records put_rules
-starts {L} {s} first blank h =
+unfolding header_fault put_records put_rules
+starts {L} {s} {h} first blank w =
     record {
       done = [];
-      walked = header_good L s (sym (ap (λ (x : Heading). x.fault) h.heading) ∙ h.clear);
+      walked = header_good L s (headed-ok (header_cause L s) _ h w.heading).0;
       met = noted-start 1024;
       recorded = refl;
       ruled = refl;
       count = refl;
-      held = ap (λ (x : Heading). x.link) h.heading;
+      held = ap (λ (x : Heading). x.link) (sym (said-heading w));
     }
 
 -- a header that is refused leaves the runs as they were
-pub refused-at-once : (L : Layout) (s first : List ℕ) (blank : List ℤ) {f : ℕ} {h : Head} →
-    f ≡ header_fault L s →
-    (f ≡ 0 → ⊥) →
-    h ≡ head_of (refused f 0) →
-    ReadInto L s first blank h first blank
-unfolding put_records put_rules
-refused-at-once L s first blank e n q =
-    let z = ends_faulty L s (λ z. n (e ∙ z)) in
+pub refused-at-once : (L : Layout) (s first : List ℕ) (blank : List ℤ) {cause : Cause} {r : Refusal} →
+    heading_of L s ≡ Err cause →
+    r ≡ refusal (number_of_cause cause) 0 →
+    ReadInto L s first blank (Err r) first blank
+unfolding header_fault put_records put_rules
+refused-at-once L s first blank {cause} e q =
+    let f = headed-err (header_cause L s) _ cause e in
+    let z = ends_faulty L s (λ z. some-number cause (sym f ∙ z)) in
     record {
-      answer = q ∙ ap (λ k. head_of (refused k 0)) e ∙ ap (λ (x : Ending). head_of x.reading) (sym z);
+      answer = ap Err q ∙ ap (λ k. head_of (refused k 0)) (sym f) ∙ ap (λ (x : Ending). head_of x.reading) (sym z);
       recorded = ap (λ (x : Ending). put_records first 0 (map (entry_at L s) x.passed)) (sym z);
       ruled = ap (λ (x : Ending). put_rules blank 0 (map (entry_at L s) x.passed)) (sym z);
     }
@@ -82,7 +98,7 @@ module _
     {labels indices : List ℕ} {rules : List ℤ} {n at link : ℕ}
     (w : Underway L s first blank labels indices rules n at link) where
   -- where the walk ends, the runs are as the promise says
-  pub finished : {r : Reading} {h : Head} →
+  pub finished : {r : Reading} {h : Result Head Refusal} →
       end_of L s ≡ record { reading = r; passed = w.done } →
       h ≡ head_of r →
       ReadInto L s first blank h indices rules
@@ -113,9 +129,20 @@ module _
   pub count-few : count_of L s < L.records
   count-few = walked-count L s w.walked
 
+  -- what a judged link leads to, by the count that the header says
+  pub told : {h : Heading} {r j : Result Sound Refusal} {labels' : List ℕ} →
+      Headed L s h →
+      (link ≡ 0 → ⊥) →
+      Judges L s labels h.count n at link r labels' →
+      r ≡ j →
+      Leads L s w.done link j
+  told {h} head some v q =
+      let c : h.count ≡ count_of L s = ap (λ (x : Heading). x.count) (sym (said-heading head)) in
+      leads-to (λ b. v.small (subst (λ (k : ℕ). link ≤ k) (sym c) b)) w.walked w.count w.met w.held some c v.answer q
+
   -- a new rule is passed
   module _
-      {r : Rule} {next : ℕ} (bytes : Bytes s) (some : link ≡ 0 → ⊥)
+      {r : Rule} {next : ℕ} (some : link ≡ 0 → ⊥)
       (new : NewRule L s w.done link r next) where
     further : Walked L s (w.done ++ (link ∷ [])) link
     further =
@@ -134,6 +161,9 @@ module _
     label_is : r.label ≡ label_at L s link
     label_is = ap (λ (x : Rule). x.label) new.rule
 
+    label_small : label_at L s link < 65536
+    label_small = omega (arith, label_is, new.small)
+
     pub steps : {labels' indices' : List ℕ} {rules' : List ℤ} →
         labels' ≡ noting labels r.label →
         indices' ≡ set indices n link →
@@ -146,8 +176,8 @@ module _
           met =
               subst⁻¹ (λ (t : List ℕ). Noted 1024 t (map (label_at L s) (w.done ++ (link ∷ [])))) (l ∙ ap (noting labels) label_is)
               (subst (Noted 1024 (noting labels (label_at L s link))) (sym (map_snoc (label_at L s) w.done link))
-              (noted_step w.met (label_at L s link) (omega (arith, label_small L s bytes link))
-              (w.met.agrees (label_at L s link) (omega (arith, label_small L s bytes link)) ∙ new.fresh)));
+              (noted_step w.met (label_at L s link) label_small
+              (w.met.agrees (label_at L s link) label_small ∙ new.fresh)));
           recorded =
               i
               ∙ (λ j. set (w.recorded j) (sym place j) link)

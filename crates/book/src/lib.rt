@@ -3,14 +3,11 @@
 
 #![tactic(auto)]
 
-use answers::Refusal;
 use lp::Terms;
 
-// What a book reads as, but for its chain. Turned back: the refusal, and all else zero. Accepted: the refusal is zero, and n is the number
-// of rules.
+// What an accepted book reads as, but for its chain: its terms, and the number of its rules.
 #[derive(Clone, Copy)]
 pub struct Head {
-    pub refusal: Refusal,
     pub terms: Terms,
     pub n: usize,
 }

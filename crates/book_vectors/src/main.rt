@@ -7,7 +7,7 @@
 ghost use Rattle.std.specs.Prelude.{◌≡◌, ◌<◌, ◌^◌, length, IfOk};
 
 use answers::Refusal;
-use records::Version;
+use records::{Book, Version};
 use std::io;
 
 // What the output holds before it is filled.
@@ -56,8 +56,8 @@ fn part(s: &[u8], from: usize, len: usize) -> &[u8]
 }
 
 // A rule of the chain: its record, kind, a, b, c and label, and then a, b, c as they are planned.
-fn print_rule(rt: &HostRuntime, version: Version, bytes: &[u8], index: u16) -> io::Result<()> {
-    let rule = decoding::rule_at(version, bytes, index);
+fn print_rule(rt: &HostRuntime, book: &Book, index: u16) -> io::Result<()> {
+    let rule = decoding::rule_at(book, index);
     let planned = rules::constraint(rule);
     rt.write_all(b" |")?;
     number(rt, index as u64)?;
@@ -73,40 +73,36 @@ fn print_rule(rt: &HostRuntime, version: Version, bytes: &[u8], index: u16) -> i
 }
 
 // The first n rules of the chain.
-fn print_rules(
-    rt: &HostRuntime,
-    version: Version,
-    bytes: &[u8],
-    indices: [u16; 255],
-    n: usize,
-) -> io::Result<()> {
-    for k in 0..255usize {
-        if k < n {
-            print_rule(rt, version, bytes, indices[k])?;
-        }
+fn print_rules(rt: &HostRuntime, book: &Book, indices: &[u16], n: usize) -> io::Result<()> {
+    for index in indices.iter().take(n) {
+        print_rule(rt, book, *index)?;
     }
     Ok(())
 }
 
+// The two numbers of a refusal.
+fn print_refusal(rt: &HostRuntime, refusal: Refusal) -> io::Result<()> {
+    number(rt, refusal.number as u64)?;
+    number(rt, refusal.at as u64)
+}
+
 // What a book reads as; of a longer chain the first 255 rules.
-fn print_reading(rt: &HostRuntime, version: Version, bytes: &[u8]) -> io::Result<()> {
+fn print_reading(rt: &HostRuntime, book: &Book) -> io::Result<()> {
     let mut indices = [0u16; 255];
     let mut rules = [0i64; 765];
-    let head = reading::read(version, bytes, &mut indices, &mut rules);
-    let refusal = head.refusal;
-    if refusal.number != 0 {
-        rt.write_all(b" refused")?;
-        number(rt, refusal.number as u64)?;
-        return number(rt, refusal.at as u64);
+    match reading::read(book, &mut indices, &mut rules) {
+        Ok(head) => {
+            rt.write_all(b" accepted")?;
+            signed(rt, head.terms.objective.p)?;
+            signed(rt, head.terms.objective.q)?;
+            number(rt, head.n as u64)?;
+            print_rules(rt, book, &indices, head.n)
+        }
+        Err(refusal) => {
+            rt.write_all(b" refused")?;
+            print_refusal(rt, refusal)
+        }
     }
-    let terms = head.terms;
-    let goal = terms.objective;
-    rt.write_all(b" accepted")?;
-    signed(rt, goal.p)?;
-    signed(rt, goal.q)?;
-    let n = head.n;
-    number(rt, n as u64)?;
-    print_rules(rt, version, bytes, indices, n)
 }
 
 // Bytes in hexadecimal.
@@ -126,18 +122,17 @@ fn changed(out: &[u8], from: usize) -> usize {
 }
 
 // What repacking a book does to an output.
-fn print_repacking(
-    rt: &HostRuntime,
-    version: Version,
-    bytes: &[u8],
-    out: &mut [u8],
-) -> io::Result<()> {
-    let (refusal, filled) = match repacker::repack(version, bytes, &mut *out) {
-        Ok(filled) => (Refusal { number: 0, at: 0 }, filled),
-        Err(refusal) => (refusal, 0),
+fn print_repacking(rt: &HostRuntime, book: &Book, out: &mut [u8]) -> io::Result<()> {
+    let filled = match repacker::repack(book, &mut *out) {
+        Ok(filled) => {
+            rt.write_all(b" 0 0")?;
+            filled
+        }
+        Err(refusal) => {
+            print_refusal(rt, refusal)?;
+            0
+        }
     };
-    number(rt, refusal.number as u64)?;
-    number(rt, refusal.at as u64)?;
     number(rt, filled as u64)?;
     rt.write_all(b" ")?;
     if filled <= out.len() {
@@ -176,14 +171,15 @@ fn run(rt: &HostRuntime, input: &[u8], at: usize) -> io::Result<usize>
     let book_at = version_at + 2;
     let book_length = length_at(input, book_at);
     let bytes = part(input, book_at + 2, book_length);
+    let book = Book { version, bytes };
     let room_at = book_at + 2 + book_length;
     let room = length_at(input, room_at);
     rt.write_all(name)?;
-    print_reading(rt, version, bytes)?;
+    print_reading(rt, &book)?;
     rt.write_all(b"\n  packed")?;
     let mut out = fresh();
     if room <= 4096 {
-        print_repacking(rt, version, bytes, &mut out[..room])?;
+        print_repacking(rt, &book, &mut out[..room])?;
     }
     rt.write_all(b"\n")?;
     Ok(room_at + 2)

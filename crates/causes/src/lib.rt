@@ -5,7 +5,8 @@
 ghost use Rattle.std.specs.Prelude.{◌≡◌};
 ghost use Rattle.records.specs.Record.{is_beyond, bad_kind, bad_slope, bad_bound, decoded_with};
 
-use records::{Fault, Rule, Sound};
+use answers::Cause;
+use records::{Rule, Sound};
 use signed::least;
 
 // Outside the range of c.
@@ -39,20 +40,20 @@ fn bad_bound(rule: Rule) -> bool
 
 // A rule with its link, or the first of 8, 9 and 10 that turns it back. A rule that comes from no record has no padding, which is clear,
 // and no link.
-pub fn decoded(clear: bool, rule: Rule, next: u16) -> Result<Sound, Fault>
+pub fn decoded(clear: bool, rule: Rule, next: u16) -> Result<Sound, Cause>
     ensures { result ≡ decoded_with clear rule next }
 {
     let kind = bad_kind(clear, rule);
     let slope = bad_slope(rule);
     let bound = bad_bound(rule);
     if kind {
-        return Err(Fault::Kind);
+        return Err(Cause::Kind);
     }
     if slope {
-        return Err(Fault::Slope);
+        return Err(Cause::Slope);
     }
     if bound {
-        return Err(Fault::Bound);
+        return Err(Cause::Bound);
     }
     Ok(Sound { rule, next })
 }

@@ -1,21 +1,21 @@
 -- What was written reads back: the eight bytes of a number, whatever comes after them, are that number; and so the three numbers of a pair
 -- that was stored, where it was stored.
-use Prim.Native.Nat.{ℕ, zero, suc, ◌+◌, ◌*◌, ◌/◌, ◌%◌, ◌^◌, ◌≤◌, ◌<◌}
-use mathlib.Core.Path.{◌≡◌, refl, sym, ap, ◌∙◌, subst}
-use mathlib.Core.List.{List, [], ◌∷◌, ◌++◌, append_assoc}
+use Prim.Native.Nat.{ℕ, zero, suc, ◌+◌, ◌*◌, ◌/◌, ◌^◌, ◌≤◌, ◌<◌}
+use mathlib.Core.Path.{◌≡◌, sym, ap, ◌∙◌, subst}
+use mathlib.Core.List.{List, ◌++◌, append_assoc}
 use native.Mathlib.Omega.{arith}
 use native.Mathlib.Nat.{pow-suc, mul_comm}
-use mathlib.Core.Bool.{true, cond}
+use mathlib.Core.Bool.{cond}
 use borrow.Author.Tests.{le-leb}
 use lib.ListN.{length, take, drop}
-use lib.Seq.{paste, drop-append_seam, drop_at, take_all, length-take-le, drop-drop}
+use lib.Seq.{paste, drop_at, take_all, length-take-le, drop-drop}
 use lib.IntN.{ℤ}
 use mir.Syntax.{w64}
 use mir.Val.{SFits, to_z, of_z}
 use mir.Facts.{to_z-of_z, Fits-of_z}
 use Rattle.lp.specs.declared.Point.{Point}
 use Rattle.records.specs.Number.{number, bytes_of}
-use Rattle.cells.specs.Cells.{unsigned_cell, cell_of, point_bytes, stored}
+use Rattle.cells.specs.Cells.{cell_of, point_bytes, stored}
 use Rattle.cells.proofs.Written.{length-cell, length-point}
 
 number-written : (n v : ℕ) (t : List ℕ) → v < 256 ^ n → number n (bytes_of n v ++ t) ≡ v

@@ -1,5 +1,5 @@
 -- Bytes written one after the other are one copy; and a number's bytes, as the library writes them, are its cell.
-use Prim.Native.Nat.{ℕ, zero, suc, ◌+◌, ◌-◌, ◌/◌, ◌^◌, ◌≤◌, ◌<◌}
+use Prim.Native.Nat.{ℕ, zero, suc, ◌+◌, ◌/◌, ◌^◌, ◌≤◌, ◌<◌}
 use mathlib.Core.Path.{◌≡◌, refl, sym, ap, ◌∙◌}
 use mathlib.Core.Bool.{cond}
 use mathlib.Core.List.{List, ◌++◌, append_assoc}
@@ -12,6 +12,9 @@ use lib.Signed.{mag}
 use mir.Syntax.{w64}
 use mir.Val.{of_z}
 use Rattle.std.specs.Int.{to_le_bytes}
+use Rattle.std.proofs.lemmas.List.Edits.{length-paste}
+use Rattle.std.proofs.lemmas.Slice.{put_mid-paste}
+use borrow.Rule.Slice.PartMut.{put_mid}
 use Rattle.ints.proofs.Bits.{read}
 use Rattle.fraction.proofs.Quotients.{unread}
 use Rattle.lp.specs.declared.Point.{Point}
@@ -59,24 +62,18 @@ paste-after o s t at m n long room =
 
 module _ (o : List ℕ) (at : ℕ) (v : Point) where
   -- three cells are a pair
-  pub point-put : {a b c x y d : List ℕ} →
+  pub point-put : {a b c : List ℕ} →
       at + 24 ≤ length o →
-      x ≡ cell_of v.x →
-      y ≡ cell_of v.y →
-      d ≡ cell_of v.d →
-      a ≡ paste o at x 8 →
-      b ≡ paste a (at + 8) y 8 →
-      c ≡ paste b (at + 16) d 8 →
+      a ≡ paste o at (cell_of v.x) 8 →
+      b ≡ paste a (at + 8) (cell_of v.y) 8 →
+      c ≡ paste b (at + 16) (cell_of v.d) 8 →
       c ≡ stored o at 24 (point_bytes v)
-  point-put {a} {b} {c} {x} {y} {d} room ex ey ed ea eb ec =
-      let here : at + 8 ≤ length o = omega arith in
-      let sixteen : at + 8 + 8 ≡ at + 16 = omega arith in
+  point-put {a} {b} {c} room ea eb ec =
       let long : length (cell_of v.x ++ cell_of v.y) ≡ 16 =
       length-append (cell_of v.x) (cell_of v.y) ∙ (λ i. length-cell (of_z w64 v.x) i + length-cell (of_z w64 v.y) i) in
       ec
-      ∙ (λ i. paste (eb i) (at + 16) (ed i) 8)
-      ∙ (λ i. paste (paste (ea i) (at + 8) (ey i) 8) (at + 16) (cell_of v.d) 8)
-      ∙ (λ i. paste (paste (paste o at (ex i) 8) (at + 8) (cell_of v.y) 8) (at + 16) (cell_of v.d) 8)
+      ∙ (λ i. paste (eb i) (at + 16) (cell_of v.d) 8)
+      ∙ (λ i. paste (paste (ea i) (at + 8) (cell_of v.y) 8) (at + 16) (cell_of v.d) 8)
       ∙ ap (λ l. paste l (at + 16) (cell_of v.d) 8)
       (paste-after o (cell_of v.x) (cell_of v.y) at 8 8 (length-cell (of_z w64 v.x)) (omega arith))
       ∙ paste-after o (cell_of v.x ++ cell_of v.y) (cell_of v.d) at 16 8 long (omega arith)
@@ -94,19 +91,21 @@ cell-written n e = e ∙ written w64 n
 pub cell-read : (z : ℤ) → mag z < 2 ^ 63 → {b : List ℕ} → b ≡ to_le_bytes w64 (of_z w64 (read z)) → b ≡ cell_of z
 cell-read z h e = cell-written (of_z w64 (read z)) e ∙ ap (λ y. cell_of y) (unread {z = z} h)
 
+-- .. in eight places of the output
+pub cell-put : (o : List ℕ) (at k n : ℕ) {s : List ℕ} → s ≡ unsigned_cell n → k ≡ 8 → put_mid at k o s ≡ paste o at (unsigned_cell n) 8
+cell-put o at k n {s} e ek = put_mid-paste at k o s (unsigned_cell n) 8 e (sym ek) (sym (length-cell n))
+
 -- a number and a pair are an answer
-pub answer-put : (o : List ℕ) (at outcome : ℕ) (v : Point) {a b s : List ℕ} →
+pub answer-put : (o : List ℕ) (at outcome : ℕ) (v : Point) {a b : List ℕ} →
     at + 32 ≤ length o →
-    s ≡ unsigned_cell outcome →
-    a ≡ paste o at s 8 →
-    length a ≡ length o →
+    a ≡ paste o at (unsigned_cell outcome) 8 →
     b ≡ stored a (at + 8) 24 (point_bytes v) →
     b ≡ stored o at 32 (answer_bytes outcome v)
-answer-put o at outcome v {a} {b} {s} room es ea long eb =
-    let fits : at + 8 + 24 ≤ length a = omega arith in
+answer-put o at outcome v {a} {b} room ea eb =
+    let long = ap length ea ∙ length-paste o at (unsigned_cell outcome) 8 (omega arith) (omega (arith, length-cell outcome)) in
+    let fits : at + 8 + 24 ≤ length a = omega (arith, long) in
     eb
     ∙ ap (λ t. cond t (paste a (at + 8) (point_bytes v) 24) a) (le-leb (at + 8 + 24) (length a) fits)
     ∙ (λ i. paste (ea i) (at + 8) (point_bytes v) 24)
-    ∙ (λ i. paste (paste o at (es i) 8) (at + 8) (point_bytes v) 24)
     ∙ paste-after o (unsigned_cell outcome) (point_bytes v) at 8 24 (length-cell outcome) (omega arith)
     ∙ sym (ap (λ t. cond t (paste o at (answer_bytes outcome v) 32) o) (le-leb (at + 32) (length o) room))

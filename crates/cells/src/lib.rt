@@ -3,45 +3,30 @@
 
 #![tactic(auto)]
 
-ghost use Rattle.std.specs.Prelude.{◌≡◌, ◌+◌, ◌≤◌, length};
-ghost use Rattle.std.proofs.Math.Seq.{paste};
+ghost use Rattle.std.specs.Prelude.{◌≡◌};
 ghost use Rattle.cells.specs.Cells.{point_bytes, answer_bytes, stored};
 
 use lp::Point;
-
-// Eight bytes into the output.
-fn put(out: &mut [u8], at: usize, bytes: [u8; 8])
-    requires { at + 8 ≤ length out.old }
-    ensures { out.new ≡ paste out.old at bytes 8 }
-{
-    out[at..at + 8].copy_from_slice(&bytes);
-}
 
 // A pair, in 24 bytes from a place on.
 pub fn put_point(out: &mut [u8], at: usize, v: Point)
     ensures { out.new ≡ stored out.old at 24 (point_bytes v) }
 {
-    if out.len() < 24 {
+    if out.len() < 24 || out.len() - 24 < at {
         return;
     }
-    if out.len() - 24 < at {
-        return;
-    }
-    put(&mut *out, at, v.x.to_le_bytes());
-    put(&mut *out, at + 8, v.y.to_le_bytes());
-    put(&mut *out, at + 16, v.d.to_le_bytes());
+    out[at..at + 8].copy_from_slice(&v.x.to_le_bytes());
+    out[at + 8..at + 16].copy_from_slice(&v.y.to_le_bytes());
+    out[at + 16..at + 24].copy_from_slice(&v.d.to_le_bytes());
 }
 
 // An answer, in 32 bytes from a place on.
 pub fn put_answer(out: &mut [u8], at: usize, outcome: u64, v: Point)
     ensures { out.new ≡ stored out.old at 32 (answer_bytes outcome v) }
 {
-    if out.len() < 32 {
+    if out.len() < 32 || out.len() - 32 < at {
         return;
     }
-    if out.len() - 32 < at {
-        return;
-    }
-    put(&mut *out, at, outcome.to_le_bytes());
+    out[at..at + 8].copy_from_slice(&outcome.to_le_bytes());
     put_point(&mut *out, at + 8, v);
 }

@@ -1,5 +1,5 @@
 -- The rule in a record stands at the place of the record among the chain's.
-use mathlib.Core.Path.{◌≡◌, refl, sym, ◌∙◌, ap, subst}
+use mathlib.Core.Path.{◌≡◌, refl, sym, ◌∙◌, ap}
 use mathlib.Core.List.{List, [], ◌∷◌}
 use mathlib.Core.Bool.{Bool, true, false}
 use Prim.Native.Nat.{ℕ, zero, suc, ◌+◌, ◌≤◌, ◌<◌}
@@ -8,8 +8,9 @@ use lib.Dec.{eqb}
 use lib.ListN.{length, take, get_or}
 use lib.IntN.{ℤ}
 use Rattle.lp.specs.declared.Constraint.{Constraint}
-use Rattle.std.specs.Prelude.{Some, None}
-use Rattle.slip.specs.Facts.{Named, rule_in}
+use Rattle.std.specs.Prelude.{Option, Some, None, option_map}
+use Rattle.std.proofs.lemmas.Option.{same_Some, none-some}
+use Rattle.slip.specs.Facts.{rule_in}
 use Rattle.slip.specs.Runs.{entry, entries, indices}
 use Rattle.finding.specs.Place.{place_of}
 
@@ -30,50 +31,65 @@ taken (x ∷ l) (suc n) b = ap (λ (y : List ℕ). x ∷ y) (taken l n (omega ar
 -- ---- the rule at a place
 
 module _ (records : List ℕ) (rules : List ℤ) (wanted : ℕ) where
-  -- what is named by a place among the n records from i on
-  abbrev At-place : ℕ → ℕ → ℕ → Named → Type 0
-  At-place i n p x = (p < n → x ≡ Some (entry rules (i + p))) × (n ≤ p → x ≡ None)
+  -- the place among the n records from i on
+  abbrev place-from : ℕ → ℕ → Option ℕ
+  place-from i n = place_of (indices records i n) wanted
 
   named-from : (i n : ℕ) →
-      At-place i n (place_of (indices records i n) wanted) (rule_in (indices records i n) (entries rules i n) wanted)
-  named-from i zero = (λ b. absurd (nothing-below (place_of (indices records i zero) wanted) b), λ b. refl)
-    where
-      nothing-below : (p : ℕ) → p < 0 → ⊥
-      nothing-below p b = omega arith
+      option_map (λ (p : ℕ). entry rules (i + p)) (place-from i n) ≡ rule_in (indices records i n) (entries rules i n) wanted
+  named-from i zero = refl
   named-from i (suc n) = go (eqb (get_or records i 0) wanted) (named-from (suc i) n)
     where
-      onward : (i p : ℕ) → suc i + p ≡ i + suc p
-      onward i p = omega arith
+      onward : (o : Option ℕ) →
+          option_map (λ (p : ℕ). entry rules (i + p)) (option_map suc o) ≡ option_map (λ (p : ℕ). entry rules (suc i + p)) o
+      onward None = refl
+      onward (Some p) = ap (λ (k : ℕ). Some (entry rules k)) (further i p)
+        where
+          further : (i p : ℕ) → i + suc p ≡ suc i + p
+          further i p = omega arith
 
-      here : (i : ℕ) → i ≡ i + 0
+      here : (i : ℕ) → i + 0 ≡ i
       here i = omega arith
 
       go : (s : Bool) →
-          At-place (suc i) n (place_of (indices records (suc i) n) wanted)
-          (rule_in (indices records (suc i) n) (entries rules (suc i) n) wanted) →
-          At-place i (suc n)
-          (elim s [ true ↦ 0 | false ↦ suc (place_of (indices records (suc i) n) wanted) ])
-          (elim s [ true ↦ Some (entry rules i) | false ↦ rule_in (indices records (suc i) n) (entries rules (suc i) n) wanted ])
-      go true h = (λ b. ap (λ (k : ℕ). Some (entry rules k)) (here i), λ b. absurd (none n b))
-        where
-          none : (n : ℕ) → suc n ≤ 0 → ⊥
-          none n b = omega arith
-      go false h =
-          let p = place_of (indices records (suc i) n) wanted in
-          (λ b. h.0 (omega arith) ∙ ap (λ (k : ℕ). Some (entry rules k)) (onward i p), λ b. h.1 (omega arith))
+          option_map (λ (p : ℕ). entry rules (suc i + p)) (place-from (suc i) n)
+          ≡ rule_in (indices records (suc i) n) (entries rules (suc i) n) wanted →
+          option_map (λ (p : ℕ). entry rules (i + p)) (elim s [ true ↦ Some 0 | false ↦ option_map suc (place-from (suc i) n) ])
+          ≡ elim s [ true ↦ Some (entry rules i) | false ↦ rule_in (indices records (suc i) n) (entries rules (suc i) n) wanted ]
+      go true h = ap (λ (k : ℕ). Some (entry rules k)) (here i)
+      go false h = onward (place-from (suc i) n) ∙ h
 
-  module _ (n : ℕ) (room : n ≤ length records) {p : ℕ} (e : p ≡ place_of (take n records) wanted) where
-    found : At-place 0 n p (rule_in (indices records 0 n) (entries rules 0 n) wanted)
-    found =
-        subst (λ (p : ℕ). At-place 0 n p (rule_in (indices records 0 n) (entries rules 0 n) wanted))
-        (sym (e ∙ ap (λ (l : List ℕ). place_of l wanted) (taken records n room)))
-        (named-from 0 n)
+  placed-below : (i n p : ℕ) → place-from i n ≡ Some p → p < n
+  placed-below i zero p e = absurd (none-some p e)
+  placed-below i (suc n) p e = go (eqb (get_or records i 0) wanted) (placed-below (suc i) n) e
+    where
+      further : (o : Option ℕ) → place-from (suc i) n ≡ o → ((k : ℕ) → place-from (suc i) n ≡ Some k → k < n) →
+          option_map suc o ≡ Some p → p < suc n
+      further None q below e = absurd (none-some p e)
+      further (Some k) q below e = omega (arith, same_Some (suc k) p e, below k q)
 
-    pub named-at : p < n → {r : Constraint} → r ≡ entry rules p → Some r ≡ rule_in (indices records 0 n) (entries rules 0 n) wanted
-    named-at b er = ap Some er ∙ ap (λ (k : ℕ). Some (entry rules k)) (from_start p) ∙ sym (found.0 b)
+      go : (s : Bool) → ((k : ℕ) → place-from (suc i) n ≡ Some k → k < n) →
+          elim s [ true ↦ Some 0 | false ↦ option_map suc (place-from (suc i) n) ] ≡ Some p → p < suc n
+      go true below e = omega (arith, same_Some 0 p e)
+      go false below e = further (place-from (suc i) n) refl below e
+
+  module _ (n : ℕ) (room : n ≤ length records) {o : Option ℕ} (e : o ≡ place_of (take n records) wanted) where
+    at : o ≡ place-from 0 n
+    at = e ∙ ap (λ (l : List ℕ). place_of l wanted) (taken records n room)
+
+    pub place-below : {p : ℕ} → o ≡ Some p → p < n
+    place-below {p} q = placed-below 0 n p (sym at ∙ q)
+
+    pub named-at : {p : ℕ} → o ≡ Some p → {r : Constraint} → r ≡ entry rules p →
+        Some r ≡ rule_in (indices records 0 n) (entries rules 0 n) wanted
+    named-at {p} q er =
+        ap Some er
+        ∙ ap (λ (k : ℕ). Some (entry rules k)) (from_start p)
+        ∙ ap (option_map (λ (p : ℕ). entry rules (0 + p))) (sym q ∙ at)
+        ∙ named-from 0 n
       where
         from_start : (p : ℕ) → p ≡ 0 + p
         from_start p = omega arith
 
-    pub named-nowhere : n ≤ p → None ≡ rule_in (indices records 0 n) (entries rules 0 n) wanted
-    named-nowhere b = sym (found.1 b)
+    pub named-nowhere : o ≡ None → None ≡ rule_in (indices records 0 n) (entries rules 0 n) wanted
+    named-nowhere q = ap (option_map (λ (p : ℕ). entry rules (0 + p))) (sym q ∙ at) ∙ named-from 0 n

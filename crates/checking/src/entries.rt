@@ -6,7 +6,7 @@ ghost use Rattle.lp.specs.Outcome.{every, keeps as keeps_of};
 ghost use Rattle.slip.specs.Facts.{rule_in};
 ghost use Rattle.slip.specs.Runs.{entry as entry_of, entries as entries_of, indices, Room, Finding, Checking, Rising};
 
-use crate::exact::{keeps, stays};
+use exact::{keeps, stays};
 use lp::{Constraint, Point, Ray};
 
 fn entry(run: &[i64], k: usize) -> Constraint
@@ -26,8 +26,8 @@ pub fn rule_in(records: &[u16], rules: &[i64], n: usize, wanted: u64) -> Option<
     requires { Finding records.now rules.now n }
     ensures { result ≡ rule_in (indices records.now 0 n) (entries_of rules.now 0 n) wanted }
 {
-    let at = finding::place(&records[..n], wanted);
-    if at < n { Some(entry(rules, at)) } else { None }
+    let at = finding::place(&records[..n], wanted)?;
+    Some(entry(rules, at))
 }
 
 // Whether a point keeps each of n rules.

@@ -9,9 +9,10 @@ ghost use Rattle.slip.specs.Slots.{Tight, Proving};
 ghost use Rattle.slip.specs.Runs.{entries, indices, Chain, Allowing, Balancing};
 
 use crate::entries::{keeps_all, stays_all};
-use crate::exact::{gains, keeps, pair_in_range, ray_in_range, same, scaled, tight};
 use crate::named::{floor_x, floor_y, looked_up, sound, total};
-use answers::Refusal;
+use crate::sums::{pair_in_range, ray_in_range, same, scaled};
+use answers::{Cause, Refusal};
+use exact::{gains, keeps, tight};
 use lp::{Constraint, Floors, Functional, Outcome, Point, Ray, Terms};
 use slip::named::Slots;
 use slip::{Slip, Verdict, Weights, within};
@@ -34,10 +35,7 @@ fn all_tight(s: Slots, v: Point) -> bool
     requires { Tight s v }
     ensures { result ≡ tight_of s v }
 {
-    let first = s.first;
-    let second = s.second;
-    let third = s.third;
-    tight(first.rule, v) & tight(second.rule, v) & tight(third.rule, v)
+    tight(s.first.rule, v) & tight(s.second.rule, v) & tight(s.third.rule, v)
 }
 
 // The weighted sums of a and b are scale times p and q.
@@ -65,7 +63,7 @@ fn said(facts: bool) -> Verdict
 pub fn refused() -> Verdict
     ensures { result ≡ refused_as 17 }
 {
-    Verdict::Refused(Refusal { number: 17, at: 0 })
+    Verdict::Refused(Refusal::of(Cause::Slip, 0))
 }
 
 // Of an impossible book.
@@ -112,11 +110,8 @@ fn proves(t: Terms, rules: &[i64], n: usize, v: Point, slots: Slots, scale: i64)
     requires { Proving t rules.now n v slots scale }
     ensures { result ≡ proves_of t (entries rules.now 0 n) v slots scale }
 {
-    if all_tight(slots, v) & balanced(total(slots), scale, t.objective) {
-        allowed(t.floors, rules, n, v)
-    } else {
-        false
-    }
+    (all_tight(slots, v) & balanced(total(slots), scale, t.objective))
+        && allowed(t.floors, rules, n, v)
 }
 
 // Of one with a best pair.
@@ -139,9 +134,8 @@ pub fn judged(t: Terms, records: &[u16], rules: &[i64], n: usize, s: Slip) -> Ve
     requires { Chain t records.now rules.now n }
     ensures { result ≡ judged_of t (indices records.now 0 n) (entries rules.now 0 n) s }
 {
-    let outcome = s.outcome;
     let w = s.weights;
-    match outcome {
+    match s.outcome {
         Outcome::Infeasible => conflict(t, records, rules, n, w),
         Outcome::Unbounded(v, d) => unlimited(t, records, rules, n, v, d, w),
         Outcome::Optimal(v) => best(t, records, rules, n, v, w),

@@ -8,7 +8,7 @@ ghost use Rattle.slip.specs.Facts.{verdict_of};
 ghost use Rattle.slip.specs.Runs.{Roomy};
 
 use crate::facts::judged;
-use records::Version;
+use records::{Book, Version};
 use slip::{Slip, Verdict};
 
 // With the runs lent.
@@ -16,13 +16,13 @@ fn check_in(book: &[u8], slip: Slip, records: &mut [u16], rules: &mut [i64]) -> 
     requires { Roomy book.now records.old rules.old }
     ensures { result ≡ verdict_of (read_of v2 book.now) slip }
 {
-    let head = reading::read(Version::Two, book, &mut *records, &mut *rules);
-    let refusal = head.refusal;
-    let number = refusal.number;
-    if number == 0 {
-        judged(head.terms, &*records, &*rules, head.n, slip)
-    } else {
-        Verdict::Refused(refusal)
+    let book = Book {
+        version: Version::Two,
+        bytes: book,
+    };
+    match reading::read(&book, &mut *records, &mut *rules) {
+        Ok(head) => judged(head.terms, &*records, &*rules, head.n, slip),
+        Err(refusal) => Verdict::Refused(refusal),
     }
 }
 

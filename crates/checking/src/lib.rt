@@ -4,10 +4,10 @@
 #![tactic(auto)]
 
 mod entries;
-mod exact;
 mod facts;
 mod lent;
 mod named;
+mod sums;
 
 ghost use Rattle.std.specs.Prelude.{◌≡◌};
 ghost use Rattle.records.specs.Layout.{v2};

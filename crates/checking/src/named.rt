@@ -7,7 +7,7 @@ ghost use Rattle.slip.specs.Slots.{blank_of, weighed_of, slot_of, slots_of, apar
 ghost use Rattle.slip.specs.Runs.{entries, indices, Naming};
 
 use crate::entries::rule_in;
-use crate::exact::{added, opposite, same};
+use crate::sums::{added, same};
 use ints::magnitude;
 use lp::{Constraint, Floors};
 use slip::named::{Slot, Slots};
@@ -20,7 +20,7 @@ pub fn floor_x(floors: Floors) -> Constraint
     Constraint {
         a: -1,
         b: 0,
-        c: opposite(floors.lx),
+        c: -floors.lx,
     }
 }
 
@@ -31,7 +31,7 @@ pub fn floor_y(floors: Floors) -> Constraint
     Constraint {
         a: 0,
         b: -1,
-        c: opposite(floors.ly),
+        c: -floors.ly,
     }
 }
 
@@ -75,18 +75,12 @@ fn weighed(entry: Option<Constraint>, weight: i64) -> Slot
     ensures { result ≡ weighed_of entry weight }
 {
     match entry {
-        None => blank(false),
-        Some(rule) => {
-            if within(1, weight, 2147352578) {
-                Slot {
-                    sound: true,
-                    rule,
-                    weight,
-                }
-            } else {
-                blank(false)
-            }
-        }
+        Some(rule) if within(1, weight, 2147352578) => Slot {
+            sound: true,
+            rule,
+            weight,
+        },
+        _ => blank(false),
     }
 }
 
@@ -143,10 +137,7 @@ fn apart(w: Weights) -> bool
 pub fn sound(s: Slots, w: Weights) -> bool
     ensures { result ≡ sound_of s w }
 {
-    let first = s.first;
-    let second = s.second;
-    let third = s.third;
-    first.sound & second.sound & third.sound & apart(w)
+    s.first.sound & s.second.sound & s.third.sound & apart(w)
 }
 
 // The weighted sums of a, b and c.
@@ -154,14 +145,8 @@ pub fn total(s: Slots) -> Constraint
     requires { SmallSlots s }
     ensures { result ≡ total_of s }
 {
-    let first = s.first;
-    let second = s.second;
-    let third = s.third;
     let nothing = Constraint { a: 0, b: 0, c: 0 };
-    let last = added(third.weight, third.rule, nothing);
-    added(
-        first.weight,
-        first.rule,
-        added(second.weight, second.rule, last),
-    )
+    let last = added(s.third.weight, s.third.rule, nothing);
+    let rest = added(s.second.weight, s.second.rule, last);
+    added(s.first.weight, s.first.rule, rest)
 }

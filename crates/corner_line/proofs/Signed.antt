@@ -1,6 +1,6 @@
 -- A signed number as bytes, from the machine's bits, with no space before it.
 use mathlib.Core.Path.{◌≡◌, refl, ap, sym, ◌∙◌, subst}
-use mathlib.Core.List.{List, ◌++◌}
+use mathlib.Core.List.{◌++◌}
 use mathlib.Core.Bool.{true, false}
 use Prim.Native.Nat.{ℕ}
 use lib.IntN.{ℤ, pos, nat_abs}
@@ -11,8 +11,9 @@ use mir.Facts.{to_z-of_z}
 use Rattle.ints.proofs.Bits.{read, below-zero, from_zero}
 use Rattle.text.specs.Text.{text}
 use Rattle.text.specs.Number.{decimal, signed}
-use Rattle.text.specs.Append.{Appended}
-use Rattle.text.proofs.Put.{spelt}
+use Rattle.text.specs.declared.Line.{Line}
+use Rattle.text.specs.Line.{Added}
+use Rattle.text.proofs.Adding.{spelt}
 
 module _ (z : ℤ) (n : ℕ) (f : SFits w64 z) (e : n ≡ nat_abs (read z)) where
   magnitude-is : n ≡ nat_abs z
@@ -31,8 +32,5 @@ module _ (z : ℤ) (n : ℕ) (f : SFits w64 z) (e : n ≡ nat_abs (read z)) wher
       ∙ subst (λ (y : ℤ). decimal (nat_abs y) ≡ signed y) (sym (from_zero z f t)) refl
 
 -- a signed number handed to a function
-pub whole-signed : {before after : List ℕ} {at next i : ℕ} (z : ℤ) →
-    SFits w64 z →
-    Appended before at (signed (read z)) i after next →
-    Appended before at (signed z) i after next
+pub whole-signed : {l m : Line} {i : ℕ} (z : ℤ) → SFits w64 z → Added l (signed (read z)) i m → Added l (signed z) i m
 whole-signed z f = spelt (ap signed (to_z-of_z {w = w64} f))

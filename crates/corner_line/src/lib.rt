@@ -3,38 +3,35 @@
 #![tactic(auto)]
 
 ghost use Rattle.text.specs.Number.{signed};
-ghost use Rattle.text.specs.Append.{Appends};
+ghost use Rattle.text.specs.Line.{Adds};
 ghost use Rattle.corner_line.specs.Line.{corner_line};
 
 use lp::Point;
 use numerals::{append_decimal, append_integer};
-use text::{append_word, lacks_room};
+use text::{Line, append_word};
 
 // A number with its sign, and no space before it.
-fn append_first(z: i64, out: &mut [u8], at: usize) -> usize
-    ensures { Appends out.old at (signed z) 21 out.new result }
+fn append_first(z: i64, line: &mut Line)
+    ensures { Adds line.old (signed z) 21 line.new }
 {
-    if lacks_room(out.len(), at, 21) {
-        return at;
+    if line.lacks_room(21) {
+        return;
     }
-    let digits = ints::magnitude(z) as usize;
     if z < 0 {
-        let next = append_word(b"-", out, at);
-        append_decimal(digits, out, next)
-    } else {
-        append_decimal(digits, out, at)
+        append_word(b"-", line);
     }
+    append_decimal(ints::magnitude(z) as usize, line);
 }
 
-// The line, from a place on that has 64 bytes after it; a buffer with fewer there is left as it is, and the place handed back.
-pub fn append_corner(v: Point, out: &mut [u8], at: usize) -> usize
-    ensures { Appends out.old at (corner_line v) 64 out.new result }
+// The line, on one that has 64 bytes left; one with fewer is left as it is.
+pub fn append_corner(v: Point, line: &mut Line)
+    ensures { Adds line.old (corner_line v) 64 line.new }
 {
-    if lacks_room(out.len(), at, 64) {
-        return at;
+    if line.lacks_room(64) {
+        return;
     }
-    let y = append_first(v.x, out, at);
-    let d = append_integer(v.y, out, y);
-    let end = append_integer(v.d, out, d);
-    append_word(b"\n", out, end)
+    append_first(v.x, line);
+    append_integer(v.y, line);
+    append_integer(v.d, line);
+    append_word(b"\n", line);
 }

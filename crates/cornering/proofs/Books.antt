@@ -11,7 +11,7 @@ use lib.IntN.{ℤ}
 use Rattle.lp.specs.declared.Constraint.{Constraint}
 use Rattle.lp.specs.declared.Floors.{Floors}
 use Rattle.lp.specs.Corners.{corners_of}
-use Rattle.answers.specs.Refusal.{refusal}
+use Rattle.answers.specs.declared.Refusal.{Refusal}
 use Rattle.records.specs.Layout.{v2}
 use Rattle.book.specs.declared.Head.{Head}
 use Rattle.book.specs.Reading.{refused, read_of, rules_of}
@@ -36,10 +36,10 @@ use Rattle.batching.proofs.Books.{Ready}
 use Rattle.batching.proofs.Runs.{counted, clear, few-rules, in-range}
 
 -- the book is refused
-pub outlines-refused : (s out : List ℕ) (n r : ℕ) →
-    read_of v2 s ≡ refused n r →
-    Outlines s out (Err (record { refusal = refusal n r; count = 0 })) out
-outlines-refused s out n r e =
+pub outlines-refused : (s out : List ℕ) {f : Refusal} →
+    read_of v2 s ≡ refused f.number f.at →
+    Outlines s out (Err (record { refusal = f; count = 0 })) out
+outlines-refused s out e =
     record {
       answer = sym (ap outlined_of (refused-first s (length out) e));
       output = sym (ap (λ x. outline.output_of x out) (refused-first s (length out) e));

@@ -10,7 +10,7 @@ ghost use Rattle.batching.specs.Asked.{Roomy};
 use laying::lay;
 use outline::Unlisted;
 use outlining::list_corners;
-use records::Version;
+use records::{Book, Version};
 
 // How many points were listed.
 fn count_of(listed: Option<usize>) -> usize
@@ -32,20 +32,20 @@ fn corners_in(
     requires { Roomy book.now records.old run.old ring.old keys.old }
     ensures { Outlines book.now out.old result out.new }
 {
-    let head = reading::read(Version::Two, book, &mut *records, &mut run[6..]);
-    let refusal = head.refusal;
-    if refusal.number != 0 {
-        return Err(Unlisted { refusal, count: 0 });
-    }
-    let terms = head.terms;
-    let n = head.n;
+    let book = Book {
+        version: Version::Two,
+        bytes: book,
+    };
+    let head = match reading::read(&book, &mut *records, &mut run[6..]) {
+        Ok(head) => head,
+        Err(refusal) => return Err(Unlisted { refusal, count: 0 }),
+    };
     let listed = lay(
-        terms.floors,
+        head.terms.floors,
         run,
-        &mut records[0..n],
+        &mut records[..head.n],
         &mut *ring,
         &mut *keys,
-        false,
     );
     list_corners(&*keys, count_of(listed), ring, out)
 }

@@ -2,9 +2,10 @@
 ghost use Rattle.std.specs.Prelude.{◌≡◌};
 ghost use Rattle.records.specs.Record.{rule_with, decoded_from};
 
+use answers::Cause;
 use causes::decoded;
 use records::fields::Fields;
-use records::{Fault, Rule, Sound};
+use records::{Rule, Sound};
 use signed::{signed16, signed32};
 
 // A rule, from its fields as they stand.
@@ -21,7 +22,7 @@ pub fn rule_in(f: Fields) -> Rule
 }
 
 // What a record of these fields comes to.
-pub fn judged(f: Fields) -> Result<Sound, Fault>
+pub fn judged(f: Fields) -> Result<Sound, Cause>
     ensures { result ≡ decoded_from f }
 {
     decoded(f.pad == 0, rule_in(f), f.link)

@@ -1,7 +1,8 @@
 -- The ring of the entries so far, from the triangle of the floors and the horizon on, and the walk that carries it along.
+use Rattle.std.specs.Prelude.{Option}
 use mathlib.Core.Path.{◌≡◌, refl, sym, ◌∙◌, ap, subst}
 use mathlib.Core.List.{List, [], ◌∷◌, ◌++◌}
-use mathlib.Core.Bool.{Bool, true, false}
+use mathlib.Core.Bool.{Bool, true}
 use Prim.Native.Nat.{ℕ, zero, suc, ◌+◌, ◌-◌, ◌/◌, ◌≤◌, ◌<◌}
 use native.Mathlib.Omega.{arith}
 use native.Mathlib.Numerals.{add-one}
@@ -23,36 +24,46 @@ use Rattle.boundary.proofs.Boundary.{Boundary}
 use Rattle.boundary.proofs.Insert.{Encloses}
 use Rattle.boundary.proofs.Grown.{triangle_encloses}
 use Rattle.boundary.proofs.Ends.{after}
-use Rattle.engine.specs.declared.insert.Arc.{Arc}
+use Rattle.boundary.specs.declared.Arc.{Arc}
+use Rattle.engine.specs.declared.insert.Held.{Held}
+use Rattle.engine.specs.declared.insert.Held.TheVariants.{Nothing, Kept, Cut}
+use Rattle.engine.specs.declared.between.Gap.{Gap}
 use Rattle.engine.specs.Entries.{entry, entries}
 use Rattle.engine.specs.Sizes.{Entries, Stepping, Walking}
-use Rattle.engine.specs.Row.{named, edge, edges, Named}
-use Rattle.engine.specs.Rings.{At, Ring, Inserting, Inserted, Holding}
-use Rattle.engine.specs.Carrying.{Between, SteppingAt, Growing, Grown, Advancing, Advanced, Carrying}
+use Rattle.engine.specs.Row.{named, edge, edges, Named, ring_of, cut_of, gap_in, gap_of}
+use Rattle.engine.specs.Rings.{When, Standing, Holds, Inserting, Stands, Inserted, Holding, Carries}
+use Rattle.engine.specs.Carrying.{Between, Beside, SteppingAt, Growing, Grown, Advancing, Advanced, Carrying}
 use Rattle.amounts.specs.Tests.{rule_in_range}
-use Rattle.engine.proofs.Rows.{ring-at, ring-small, size_small}
+use Rattle.engine.proofs.Rows.{ring-small, size_small}
 use Rattle.engine.proofs.Walks.{Walked, entries-grow, stepping, more-taken}
-use Rattle.engine.proofs.Drops.{arc, never-cut}
-use Rattle.engine.proofs.Insertions.{way_at, way_end}
+use Rattle.engine.proofs.Drops.{arc}
+use Rattle.engine.proofs.Insertions.{when-so, way_at, way_end}
 
 -- ---- one more entry
 
 fewer-entries : {e : List ℤ} {k m : ℕ} → k ≤ m → Entries e m → Entries e k
 fewer-entries b h = record { room = omega (arith, h.room); small = λ j c. h.small j (omega arith) }
 
-module _ {e : List ℤ} {run : List ℕ} {D : Constraint} {k : ℕ} {a : Arc} (t : Holding e run D k a) where
-  pub holding-ring : Entries e k → Ring e run a.lo a.n
-  holding-ring h = record { count = k; entries = h; fits = t.fits; named = t.named }
+holding-ring : {e : List ℤ} {run : List ℕ} {D : Constraint} {k : ℕ} → Entries e k → (a : Arc) → Holding e run D k a → Standing e run a
+holding-ring {k = k} h a t = record { ring = record { count = k; entries = h; fits = t.fits; named = t.named }; two = t.two }
 
+holding-holds :
+    (e : List ℤ) (run : List ℕ) (D : Constraint) (k : ℕ) (was : Held) →
+    Carries e run D k was →
+    Holds D (horizon ∷ entries e 0 k) e run (ring_of was)
+holding-holds e run D k was t =
+    when-so (Holding e run D k) (λ (a : Arc). Encloses D (horizon ∷ entries e 0 k) (edges e run a.lo a.n)) (λ a s. s.ring) (ring_of was) t
+
+module _ {e : List ℤ} {run : List ℕ} {D : Constraint} (k : ℕ) {was : Held} (t : Carries e run D k was) where
   pub holding_inserting :
       Entries e (k + 1) →
       SmallConstraint D →
       {h : Constraint} →
       h ≡ entry e k →
-      Inserting e run D (k + 1) h a.lo a.n
+      Inserting e run D (k + 1) h was
   holding_inserting h d is =
       record {
-        ring = holding-ring (fewer-entries (omega arith) h);
+        standing = when-so (Holding e run D k) (Standing e run) (holding-ring (fewer-entries (omega arith) h)) (ring_of was) t;
         size_small = d;
         h-small = subst SmallConstraint (sym is) (h.small k (omega arith));
         is = is ∙ ap (named e) (sym (add-one k));
@@ -61,24 +72,33 @@ module _ {e : List ℤ} {run : List ℕ} {D : Constraint} {k : ℕ} {a : Arc} (t
   pub holding-next :
       {h : Constraint} →
       h ≡ entry e k →
-      {next : Arc} {after : List ℕ} →
-      Inserted e run D (k + 1) h a.lo a.n next after →
-      Holding e after D (k + 1) next
+      {next : Held} {after : List ℕ} →
+      Inserted e run D (k + 1) h was next after →
+      Carries e after D (k + 1) next
   holding-next {h} is {next} {after} u =
-      record {
-        fits = u.fits;
-        named = u.named (k + 1) (omega arith) (λ j b. further (t.named j b));
-        ring = λ some.
-            subst (λ S. Encloses D S (edges e after next.lo next.n)) grown (u.ring (horizon ∷ entries e 0 k) t.ring some);
-      }
+      when-so (λ (a : Arc). Stands e run D (k + 1) h (ring_of was) a after) (Holding e after D (k + 1)) one (ring_of next) u.stands
     where
       further : {v : ℕ} → v ≤ k → v ≤ k + 1
       further b = omega arith
+
+      names : When (λ (a : Arc). Named (k + 1) run a.lo a.n) (ring_of was)
+      names = when-so (Holding e run D k) (λ (a : Arc). Named (k + 1) run a.lo a.n) (λ a s j b. further (s.named j b)) (ring_of was) t
 
       grown : (horizon ∷ entries e 0 k) ++ (h ∷ []) ≡ horizon ∷ entries e 0 (k + 1)
       grown =
           (λ i. horizon ∷ (entries e 0 k ++ (is i ∷ [])))
           ∙ ap (λ S. horizon ∷ S) (entries-grow e k ∙ ap (entries e 0) (sym (add-one k)))
+
+      one : (a : Arc) → Stands e run D (k + 1) h (ring_of was) a after → Holding e after D (k + 1) a
+      one a s =
+          record {
+            fits = s.fits;
+            two = s.two;
+            named = s.named (k + 1) (omega arith) names;
+            ring =
+                subst (λ S. Encloses D S (edges e after a.lo a.n)) grown
+                (s.ring (horizon ∷ entries e 0 k) (holding-holds e run D k was t));
+          }
 
 -- ---- the triangle
 
@@ -132,12 +152,13 @@ module _ {e : List ℤ} {run : List ℕ} {D : Constraint} {m : ℕ} (s : Growing
       never : (k : ℕ) → suc (suc (suc k)) < 3 → ⊥
       never k b = omega arith
 
-  pub grow-start : Holding e (seeded run p) D 2 (arc p 3 false)
+  pub grow-start : Holding e (seeded run p) D 2 (arc p 3)
   grow-start =
       record {
         fits = omega (arith, seeded-room, seeded-length);
+        two = omega arith;
         named = seeded-named;
-        ring = λ some.
+        ring =
             subst (λ D. Encloses D (horizon ∷ entries e 0 2) (edges e (seeded run p) p 3)) (sym s.size_is)
             (subst (Encloses (size s.floors) (horizon ∷ entries e 0 2)) (sym row)
             (subst (λ S. Encloses (size s.floors) S (triangle s.floors)) (λ i. horizon ∷ sym s.first i ∷ sym s.second i ∷ [])
@@ -152,95 +173,91 @@ module _ {e : List ℤ} {run : List ℕ} {D : Constraint} {m : ℕ} (s : Growing
   grow-taken b = fewer-entries (omega arith) s.entries
 
   pub grow-end :
-      {now : List ℕ} {a : Arc} {k : ℕ} →
-      Holding e now D k a →
+      {now : List ℕ} {was : Held} {k : ℕ} →
+      Carries e now D k was →
       k ≤ m →
       m ≤ k →
       length now ≡ length run →
-      Grown e run D m a now
-  grow-end {now} {a} {k} t b c same = record { same = same; holding = subst (λ (j : ℕ). Holding e now D j a) all t }
+      Grown e run D m was now
+  grow-end {now} {was} {k} t b c same = record { same = same; holding = subst (λ (j : ℕ). Carries e now D j was) all t }
     where
       all : k ≡ m
       all = omega arith
 
 -- ---- one rule
 
-module _ {f : Functional} {D : Constraint} {e : List ℤ} {run : List ℕ} {i : ℕ} {h : Constraint} {w : Walk} {a : Arc}
-    (s : Advancing f D e run i h w a) where
-  pub advance_inserting : Inserting e run D (i + 1) h a.lo a.n
-  advance_inserting = holding_inserting s.holding s.taken s.size_small s.is
+module _ {f : Functional} {D : Constraint} {e : List ℤ} {run : List ℕ} {i : ℕ} {h : Constraint} {w : Walk} {was : Held}
+    (s : Advancing f D e run i h w was) where
+  pub advance_inserting : Inserting e run D (i + 1) h was
+  advance_inserting = holding_inserting i s.holding s.taken s.size_small s.is
 
-  module _ {next : Arc} {now : List ℕ} (u : Inserted e run D (i + 1) h a.lo a.n next now) where
-    held : Holding e now D (i + 1) next
-    held = holding-next s.holding s.is u
+  module _ {next : Held} {now : List ℕ} (u : Inserted e run D (i + 1) h was next now) where
+    carries : Carries e now D (i + 1) next
+    carries = holding-next i s.holding s.is u
 
     pub advance-done :
         {r : Walk} →
         r ≡ step tie f (entries e 0 i) i h w →
-        Advanced f D e run i h w (record { walk = r; arc = next }) now
-    advance-done er = record { same = u.same; walk = er; holding = held }
+        Advanced f D e run i h w (record { walk = r; held = next }) now
+    advance-done er = record { same = u.same; walk = er; holding = carries }
 
-    module _ (c : next.cut ≡ true) where
-      pub second_at : At e now (next.lo + 1)
-      second_at = ring-at (holding-ring held s.taken) (next.lo + 1) (omega arith) (omega (arith, u.two c))
+    pub advance-beside : Beside e now next
+    advance-beside = go next carries
+      where
+        go : (x : Held) → Carries e now D (i + 1) x → Beside e now x
+        go Nothing t = tt
+        go (Kept a) t = tt
+        go (Cut a) t = holding-ring s.taken a t
 
-      pub last-at : At e now (next.lo + next.n - 1)
-      last-at =
-          ring-at (holding-ring held s.taken) (next.lo + next.n - 1) (omega (arith, u.two c)) (omega (arith, u.two c))
-
-      pub advance-between :
-          {k x : Constraint} →
-          k ≡ edge e now (next.lo + next.n - 1) →
-          x ≡ edge e now (next.lo + 1) →
-          Between e i h k x
-      advance-between ek ex =
+    -- the last edge of a ring that h has cut, h, and the second
+    module _ (a : Arc) (r : Standing e now a) (t : Stands e run D (i + 1) h (ring_of was) a now) (first : edge e now a.lo ≡ h) where
+      gap-between : Between e i h (gap_in e now a)
+      gap-between =
           record {
             size = D;
-            k-small =
-                subst SmallConstraint (sym ek)
-                (ring-small (holding-ring held s.taken) (next.lo + next.n - 1) (omega (arith, u.two c)) (omega (arith, u.two c)));
-            e-small =
-                subst SmallConstraint (sym ex)
-                (ring-small (holding-ring held s.taken) (next.lo + 1) (omega arith) (omega (arith, u.two c)));
+            before-small = ring-small r.ring (a.lo + a.n - 1) (omega (arith, r.two)) (omega (arith, r.two));
+            behind-small = ring-small r.ring (a.lo + 1) (omega arith) (omega (arith, r.two));
             before =
-                subst (λ k. Corner D (after (entries e 0 i) h) k h) (sym ek)
-                (subst (Corner D (after (entries e 0 i) h) (edge e now (next.lo + next.n - 1))) (u.first c)
-                (way_end (Corner D (after (entries e 0 i) h)) e now (edge e now next.lo) next.lo (next.n - 1)
-                (next.lo + next.n - 1) (omega (arith, u.two c)) row.edges));
+                subst (Corner D (after (entries e 0 i) h) (edge e now (a.lo + a.n - 1))) first
+                (way_end (Corner D (after (entries e 0 i) h)) e now (edge e now a.lo) a.lo (a.n - 1) (a.lo + a.n - 1)
+                (omega (arith, r.two)) row.edges);
             behind =
-                subst (Corner D (after (entries e 0 i) h) h) (sym ex)
-                (subst (λ r. Corner D (after (entries e 0 i) h) r (edge e now (next.lo + 1))) (u.first c)
-                (subst (λ (p : ℕ). Corner D (after (entries e 0 i) h) (edge e now next.lo) (edge e now p)) (sym (add-one next.lo))
-                (way_at (Corner D (after (entries e 0 i) h)) e now (edge e now next.lo) next.lo (next.n - 1) next.lo 0 none
-                (omega (arith, u.two c)) row.edges)));
+                subst (λ r. Corner D (after (entries e 0 i) h) r (edge e now (a.lo + 1))) first
+                (subst (λ (p : ℕ). Corner D (after (entries e 0 i) h) (edge e now a.lo) (edge e now p)) (sym (add-one a.lo))
+                (way_at (Corner D (after (entries e 0 i) h)) e now (edge e now a.lo) a.lo (a.n - 1) a.lo 0 none (omega (arith, r.two))
+                row.edges));
           }
         where
-          ring : Encloses D (after (entries e 0 i) h) (edges e now next.lo next.n)
-          ring = u.ring (horizon ∷ entries e 0 i) s.holding.ring (omega (arith, u.two c))
+          some : a.n ≡ suc (a.n - 1)
+          some = omega (arith, r.two)
 
-          some : next.n ≡ suc (next.n - 1)
-          some = omega (arith, u.two c)
-
-          none : next.lo ≡ next.lo + 0
+          none : a.lo ≡ a.lo + 0
           none = omega arith
 
-          row : Boundary D (after (entries e 0 i) h) (edge e now next.lo) (edges e now (suc next.lo) (next.n - 1))
-          row = subst (λ (n : ℕ). Encloses D (after (entries e 0 i) h) (edges e now next.lo n)) some ring
+          row : Boundary D (after (entries e 0 i) h) (edge e now a.lo) (edges e now (suc a.lo) (a.n - 1))
+          row =
+              subst (λ (n : ℕ). Encloses D (after (entries e 0 i) h) (edges e now a.lo n)) some
+              (t.ring (horizon ∷ entries e 0 i) (holding-holds e run D i was s.holding))
 
-      pub advance-stepping :
-          {t : Tie} →
-          t ≡ tie →
-          {k x : Constraint} →
-          k ≡ edge e now (next.lo + next.n - 1) →
-          x ≡ edge e now (next.lo + 1) →
-          SteppingAt f t e i h w true k x
-      advance-stepping et ek ex =
-          record { stepping = subst (λ t. Stepping f t e i h w) (sym et) s.stepping; between = λ cut. advance-between ek ex }
+    advance-between : When (Between e i h) (gap_of e now next)
+    advance-between = go next advance-beside u.stands u.first
+      where
+        go :
+            (x : Held) →
+            Beside e now x →
+            When (λ (a : Arc). Stands e run D (i + 1) h (ring_of was) a now) (ring_of x) →
+            When (λ (a : Arc). edge e now a.lo ≡ h) (cut_of x) →
+            When (Between e i h) (gap_of e now x)
+        go Nothing r t is = tt
+        go (Kept a) r t is = tt
+        go (Cut a) r t is = gap-between a r t is
 
-  -- h has not cut the ring
-  pub advance-plain : {t : Tie} → t ≡ tie → SteppingAt f t e i h w false h h
-  advance-plain et =
-      record { stepping = subst (λ t. Stepping f t e i h w) (sym et) s.stepping; between = λ cut. never-cut cut }
+    pub advance-stepping : {t : Tie} → t ≡ tie → {g : Option Gap} → g ≡ gap_of e now next → SteppingAt f t e i h w g
+    advance-stepping et eg =
+        record {
+          stepping = subst (λ t. Stepping f t e i h w) (sym et) s.stepping;
+          between = subst (When (Between e i h)) (sym eg) advance-between;
+        }
 
 -- ---- from entry i on
 
@@ -277,9 +294,9 @@ module _ {f : Functional} {floors : Floors} {l : List ℤ} {n : ℕ} {w : Walk} 
     pub carry_advancing :
         {D : Constraint} →
         D ≡ size floors →
-        {run : List ℕ} {a : Arc} →
-        Holding l run D j a →
-        Advancing f D l run j h v a
+        {run : List ℕ} {was : Held} →
+        Carries l run D j was →
+        Advancing f D l run j h v was
     carry_advancing is held =
         record {
           stepping = stepping s.walking later b e et so refl;

@@ -1,5 +1,6 @@
 -- A constraint h enters the ring. Between the two edges at its place the ring stays where their corner keeps h, and is cut where it is
 -- turned until the one is its last and the other its first. The ring encloses the larger system then, whichever system it enclosed.
+use Rattle.std.specs.Prelude.{Option, None, Some}
 use mathlib.Core.Path.{◌≡◌, refl, sym, ◌∙◌, ap, subst}
 use mathlib.Core.List.{List, [], ◌∷◌, ◌++◌}
 use mathlib.Core.Bool.{Bool, true, false}
@@ -7,7 +8,6 @@ use Prim.Native.Nat.{ℕ, zero, suc, ◌+◌, ◌-◌, ◌<◌}
 use native.Mathlib.Omega.{arith}
 use borrow.Author.Tests.{ltb-true, ltb-false}
 use lib.Dec.{ltb}
-use lib.ListN.{length}
 use lib.IntN.{ℤ}
 use Rattle.lp.specs.declared.Constraint.{Constraint}
 use Rattle.lp.specs.declared.Point.{Point}
@@ -18,12 +18,16 @@ use Rattle.boundary.proofs.Ways.{Way}
 use Rattle.boundary.proofs.Boundary.{Boundary}
 use Rattle.boundary.proofs.Insert.{Encloses}
 use Rattle.boundary.proofs.Faced.{stays_at, cut_encloses}
-use Rattle.engine.specs.declared.insert.Arc.{Arc}
-use Rattle.engine.specs.Row.{named, edge, edges, following, is_between, front_row}
-use Rattle.engine.specs.Rings.{Pair, Faces, Halving, Sought, Putting, Cut, Inserting, Inserted}
-use Rattle.engine.proofs.Rows.{meet-small, ring-pair, edges-last}
+use Rattle.boundary.specs.declared.Arc.{Arc}
+use Rattle.engine.specs.declared.insert.Held.{Held}
+use Rattle.engine.specs.declared.insert.Held.TheVariants as state
+use Rattle.exact.specs.Wrapped.{wrapped_point}
+use Rattle.exact.proofs.Exact.{meet-exact}
+use Rattle.engine.specs.Row.{named, edge, edges, Named, following, is_between, front_row, ring_of, row_by}
+use Rattle.engine.specs.Rings.{When, Pair, Faces, Turns, Halving, Sought, Putting, Put, Cut, Standing, Inserting, Inserted}
+use Rattle.engine.proofs.Rows.{meet-small, ring-pair}
+use Rattle.engine.proofs.Named.{edges-last}
 use Rattle.engine.proofs.Places.{place_is, following-is}
-use Rattle.engine.proofs.Drops.{arc, never-cut, nothing-named}
 
 -- ---- neighbours in the ring
 
@@ -73,155 +77,180 @@ module _ (e : List ℤ) (run : List ℕ) (D : Constraint) (S : List Constraint) 
           at 0 (following-is n k t) lo (omega arith)
           (way_end (Corner D S) e run (edge e run lo) lo m (lo + k) (omega (arith, ltb-false (k + 1) n t)) ring.edges)
 
--- ---- nothing is held
+-- ---- what is said of a thing, if there is one
 
-module _ {e : List ℤ} {run : List ℕ} {D : Constraint} {i : ℕ} {h : Constraint} {lo n : ℕ} where
-  pub inserted_none : {after : List ℕ} → length after ≡ length run → Inserted e run D i h lo n (arc 0 0 false) after
-  inserted_none {after} same =
-      record {
-        same = same;
-        fits = omega arith;
-        named = λ m below g. nothing-named m after;
-        ring = λ S held some. absurd (none some);
-        two = λ c. never-cut c;
-        first = λ c. never-cut c;
-      }
-    where
-      none : 0 < 0 → ⊥
-      none b = omega arith
+-- here is one
+pub given : {A : Type 0} (P : A → Type 0) {o : Option A} {x : A} → o ≡ Some x → When P o → P x
+given P is h = subst (When P) is h
+
+-- and what follows from it is said too
+pub when-so : {A : Type 0} (P Q : A → Type 0) → ((x : A) → P x → Q x) → (o : Option A) → When P o → When Q o
+when-so P Q f None h = tt
+when-so P Q f (Some x) h = f x h
 
 -- ---- h enters
 
-module _ {e : List ℤ} {run : List ℕ} {D : Constraint} {i : ℕ} {h : Constraint} {lo n : ℕ} (s : Inserting e run D i h lo n) (two : 1 < n)
-  where
-    pub insert-seeking : {w : Point} → w ≡ meet h D → Halving e run D w lo n
-    insert-seeking ew =
+module _ {e : List ℤ} {run : List ℕ} {D : Constraint} {i : ℕ} {h : Constraint} {was : Held} (s : Inserting e run D i h was)
+    {o : Option Arc} (eo : o ≡ ring_of was) {a : Arc} (ea : o ≡ Some a) where
+  held : ring_of was ≡ Some a
+  held = sym eo ∙ ea
+
+  pub stood : Standing e run a
+  stood = given (Standing e run) held s.standing
+
+  -- where its line meets that of the size, as it was worked out
+  met : {w : Point} → w ≡ wrapped_point (meet h D) → w ≡ meet h D
+  met em = em ∙ meet-exact (record { first = s.h-small; second = s.size_small })
+
+  pub insert-seeking : {w : Point} → w ≡ wrapped_point (meet h D) → Halving e run D w a.lo a.n
+  insert-seeking em =
+      record {
+        seeking = record { ring = stood.ring; two = stood.two; w-small = meet-small s.h-small s.size_small (met em) };
+        size_small = s.size_small;
+      }
+
+  module _ {w : Point} (em : w ≡ wrapped_point (meet h D)) {p : Option ℕ} (f : When (Sought e run w a.lo a.n) p) {k : ℕ}
+      (ek : p ≡ Some k) where
+    pub found : Sought e run w a.lo a.n k
+    found = given (Sought e run w a.lo a.n) ek f
+
+    placed : at_place D h (edge e run (a.lo + k)) (edge e run (a.lo + following a.n k)) ≡ true
+    placed =
+        place_is D h (edge e run (a.lo + k)) (edge e run (a.lo + following a.n k))
+        ∙ ap (λ (w : Point). is_between w (edge e run (a.lo + k)) (edge e run (a.lo + following a.n k))) (sym (met em))
+        ∙ found.between
+
+    follows : following a.n k < a.n
+    follows = go (ltb (k + 1) a.n) refl
+      where
+        at : (j : ℕ) → following a.n k ≡ j → j < a.n → following a.n k < a.n
+        at j ej b = subst (λ (j : ℕ). j < a.n) (sym ej) b
+
+        go : (t : Bool) → ltb (k + 1) a.n ≡ t → following a.n k < a.n
+        go true t = at (k + 1) (following-is a.n k t) (ltb-true (k + 1) a.n t)
+        go false t = at 0 (following-is a.n k t) (omega (arith, found.inside))
+
+    module _ {q : ℕ} (eq : q ≡ a.lo + following a.n k) where
+      pub insert-pair : Pair e run h (a.lo + k) q
+      insert-pair =
+          subst (λ (q : ℕ). Pair e run h (a.lo + k) q) (sym eq)
+          (ring-pair stood.ring s.h-small (a.lo + k) (a.lo + following a.n k) (omega arith) (omega (arith, found.inside)) (omega arith)
+          (omega (arith, follows)))
+
+      -- what the corner there keeps or breaks
+      pub insert-seen :
+          {t : Bool} →
+          t ≡ keeps_at h (edge e run (a.lo + k)) (edge e run q) →
+          {b : Bool} →
+          t ≡ b →
+          keeps_at h (edge e run (a.lo + k)) (edge e run (a.lo + following a.n k)) ≡ b
+      insert-seen et eb = ap (λ (q : ℕ). keeps_at h (edge e run (a.lo + k)) (edge e run q)) (sym eq) ∙ sym et ∙ eb
+
+    -- the corner there keeps h
+    pub insert-same :
+        keeps_at h (edge e run (a.lo + k)) (edge e run (a.lo + following a.n k)) ≡ true →
+        Inserted e run D i h was (state.Kept a) run
+    insert-same keeps =
         record {
-          seeking = record { ring = s.ring; two = omega arith; w-small = meet-small s.h-small s.size_small ew };
-          size_small = s.size_small;
+          same = refl;
+          stands =
+              record {
+                fits = stood.ring.fits;
+                two = stood.two;
+                named = λ m below g. given (λ (b : Arc). Named m run b.lo b.n) held g;
+                ring = λ S encloses.
+                    go S (a.n - 1) (omega (arith, stood.two)) (given (λ (b : Arc). Encloses D S (edges e run b.lo b.n)) held encloses);
+              };
+          first = tt;
         }
+      where
+        go :
+            (S : List Constraint) (m : ℕ) →
+            a.n ≡ suc m →
+            Encloses D S (edges e run a.lo a.n) →
+            Encloses D (S ++ (h ∷ [])) (edges e run a.lo a.n)
+        go S m en b =
+            subst (λ (j : ℕ). Encloses D (S ++ (h ∷ [])) (edges e run a.lo j)) (sym en)
+            (stays_at D S h (edge e run (a.lo + k)) (edge e run (a.lo + following a.n k)) placed
+            (corner-at e run D S a.lo a.n k m found.inside en ring) keeps (edge e run a.lo) (edges e run (suc a.lo) m) ring)
+          where
+            ring : Boundary D S (edge e run a.lo) (edges e run (suc a.lo) m)
+            ring = subst (λ (j : ℕ). Encloses D S (edges e run a.lo j)) en b
 
-    module _ {w : Point} (ew : w ≡ meet h D) {k : ℕ} (f : Sought e run w lo n k) (inside : k < n) where
-      placed : at_place D h (edge e run (lo + k)) (edge e run (lo + following n k)) ≡ true
-      placed =
-          place_is D h (edge e run (lo + k)) (edge e run (lo + following n k))
-          ∙ ap (λ (w : Point). is_between w (edge e run (lo + k)) (edge e run (lo + following n k))) (sym ew)
-          ∙ f.between inside
+    -- the ring is turned to begin behind its place
+    module _ {now : List ℕ} {r : Option ℕ} (u : Turns run a.lo a.n k r now) {at : ℕ} (et : r ≡ Some at) where
+      t : Faces run a.lo a.n k at now
+      t = given (λ (p : ℕ). Faces run a.lo a.n k p now) et u.faces
 
-      follows : following n k < n
-      follows = go (ltb (k + 1) n) refl
-        where
-          at : (j : ℕ) → following n k ≡ j → j < n → following n k < n
-          at j ej b = subst (λ (j : ℕ). j < n) (sym ej) b
-
-          go : (t : Bool) → ltb (k + 1) n ≡ t → following n k < n
-          go true t = at (k + 1) (following-is n k t) (ltb-true (k + 1) n t)
-          go false t = at 0 (following-is n k t) (omega arith)
-
-      module _ {q : ℕ} (eq : q ≡ lo + following n k) where
-        pub insert-pair : Pair e run h (lo + k) q
-        insert-pair =
-            subst (λ (q : ℕ). Pair e run h (lo + k) q) (sym eq)
-            (ring-pair s.ring s.h-small (lo + k) (lo + following n k) (omega arith) (omega arith) (omega arith)
-            (omega (arith, follows)))
-
-        -- what the corner there keeps or breaks
-        pub insert-seen :
-            {t : Bool} →
-            t ≡ keeps_at h (edge e run (lo + k)) (edge e run q) →
-            {b : Bool} →
-            t ≡ b →
-            keeps_at h (edge e run (lo + k)) (edge e run (lo + following n k)) ≡ b
-        insert-seen et eb = ap (λ (q : ℕ). keeps_at h (edge e run (lo + k)) (edge e run q)) (sym eq) ∙ sym et ∙ eb
-
-      -- the corner there keeps h
-      pub insert-same :
-          keeps_at h (edge e run (lo + k)) (edge e run (lo + following n k)) ≡ true →
-          Inserted e run D i h lo n (arc lo n false) run
-      insert-same kept =
+      pub insert_putting : Putting e now i h at a.n
+      insert_putting =
           record {
-            same = refl;
-            fits = s.ring.fits;
-            named = λ m below g. g;
-            ring = λ S held some. go S (n - 1) (omega arith) (held some);
-            two = λ c. never-cut c;
-            first = λ c. never-cut c;
+            cutting =
+                record {
+                  ring =
+                      record {
+                        count = stood.ring.count;
+                        entries = stood.ring.entries;
+                        fits = t.turned.fits;
+                        named = t.turned.named stood.ring.count stood.ring.named;
+                      };
+                  some = omega (arith, stood.two);
+                  h-small = s.h-small;
+                };
+            later = t.later;
+            is = s.is;
+          }
+
+      -- what was seen at the place is seen at the ends
+      seen :
+          (R : Constraint → Constraint → Bool) →
+          R (edge e now (at + a.n - 1)) (edge e now at) ≡ R (edge e run (a.lo + k)) (edge e run (a.lo + following a.n k))
+      seen R = λ j. R (named e (t.last j)) (named e (t.first j))
+
+      -- and its corner broken
+      pub insert-cut :
+          keeps_at h (edge e run (a.lo + k)) (edge e run (a.lo + following a.n k)) ≡ false →
+          {l : Option Arc} {after : List ℕ} →
+          Cut e now i h at a.n l after →
+          {next : Arc} →
+          l ≡ Some next →
+          Inserted e run D i h was (state.Cut next) after
+      insert-cut broken {l} {after} c {next} is =
+          record {
+            same = c.same ∙ t.turned.same;
+            stands =
+                record {
+                  fits = put.fits;
+                  two = put.two;
+                  named = λ m below g. put.named m below (t.turned.named m (given (λ (b : Arc). Named m run b.lo b.n) held g));
+                  ring = λ S encloses.
+                      subst (Encloses D (S ++ (h ∷ []))) (sym c.row ∙ ap (row_by (named e) after) is)
+                      (go S a.n (a.n - 2) (omega (arith, stood.two)) last
+                      (t.turned.ring e D S (given (λ (b : Arc). Encloses D S (edges e run b.lo b.n)) held encloses)));
+                };
+            first = put.first;
           }
         where
+          put : Put e now i h at a.n next after
+          put = given (λ (b : Arc). Put e now i h at a.n b after) is c.put
+
+          last : at + a.n - 1 ≡ suc at + (a.n - 2)
+          last = omega (arith, stood.two)
+
           go :
-              (S : List Constraint) (m : ℕ) →
-              n ≡ suc m →
-              Encloses D S (edges e run lo n) →
-              Encloses D (S ++ (h ∷ [])) (edges e run lo n)
-          go S m en b =
-              subst (λ (j : ℕ). Encloses D (S ++ (h ∷ [])) (edges e run lo j)) (sym en)
-              (stays_at D S h (edge e run (lo + k)) (edge e run (lo + following n k)) placed
-              (corner-at e run D S lo n k m inside en ring) kept (edge e run lo) (edges e run (suc lo) m) ring)
+              (S : List Constraint) (n m : ℕ) →
+              n ≡ suc (suc m) →
+              at + a.n - 1 ≡ suc at + m →
+              Encloses D S (edges e now at n) →
+              Encloses D (S ++ (h ∷ [])) (closed h (front_row h (edges e now at n)))
+          go S n m en el b =
+              subst (λ (j : ℕ). Encloses D (S ++ (h ∷ [])) (closed h (front_row h (edges e now at j)))) (sym en)
+              (subst (λ r. Encloses D (S ++ (h ∷ [])) (closed h (front_row h r))) (sym row)
+              (cut_encloses D S h (edge e now (suc at + m)) (edge e now at)
+              (subst (λ (p : ℕ). at_place D h (edge e now p) (edge e now at) ≡ true) el (seen (at_place D h) ∙ placed))
+              (subst (λ (p : ℕ). keeps_at h (edge e now p) (edge e now at) ≡ false) el (seen (keeps_at h) ∙ broken))
+              (edges e now (suc at) m)
+              (subst (Encloses D S) row (subst (λ (j : ℕ). Encloses D S (edges e now at j)) en b))))
             where
-              ring : Boundary D S (edge e run lo) (edges e run (suc lo) m)
-              ring = subst (λ (j : ℕ). Encloses D S (edges e run lo j)) en b
-
-      -- the ring is turned to begin behind its place
-      module _ {now : List ℕ} {at : ℕ} (t : Faces run lo n k at now) where
-        pub insert_putting : Putting e now i h at n
-        insert_putting =
-            record {
-              cutting =
-                  record {
-                    ring =
-                        record {
-                          count = s.ring.count;
-                          entries = s.ring.entries;
-                          fits = t.turned.fits;
-                          named = t.turned.named s.ring.count s.ring.named;
-                        };
-                    some = omega arith;
-                    h-small = s.h-small;
-                  };
-              later = t.later;
-              is = s.is;
-            }
-
-        -- what was seen at the place is seen at the ends
-        seen : (R : Constraint → Constraint → Bool) →
-            R (edge e now (at + n - 1)) (edge e now at) ≡ R (edge e run (lo + k)) (edge e run (lo + following n k))
-        seen R = λ j. R (named e (t.last j)) (named e (t.first j))
-
-        -- and its corner broken
-        pub insert-cut :
-            keeps_at h (edge e run (lo + k)) (edge e run (lo + following n k)) ≡ false →
-            {next : Arc} {after : List ℕ} →
-            Cut e now i h at n next after →
-            Inserted e run D i h lo n next after
-        insert-cut broken c =
-            record {
-              same = c.same ∙ t.turned.same;
-              fits = c.fits;
-              named = λ m below g. c.named m below (t.turned.named m g);
-              ring = λ S held some.
-                  subst (Encloses D (S ++ (h ∷ []))) (sym c.row)
-                  (go S n (n - 2) (omega arith) last (t.turned.ring e D S (held (omega arith))));
-              two = c.two;
-              first = c.first;
-            }
-          where
-            last : at + n - 1 ≡ suc at + (n - 2)
-            last = omega arith
-
-            go :
-                (S : List Constraint) (n' m : ℕ) →
-                n' ≡ suc (suc m) →
-                at + n - 1 ≡ suc at + m →
-                Encloses D S (edges e now at n') →
-                Encloses D (S ++ (h ∷ [])) (closed h (front_row h (edges e now at n')))
-            go S n' m en el b =
-                subst (λ (j : ℕ). Encloses D (S ++ (h ∷ [])) (closed h (front_row h (edges e now at j)))) (sym en)
-                (subst (λ r. Encloses D (S ++ (h ∷ [])) (closed h (front_row h r))) (sym row)
-                (cut_encloses D S h (edge e now (suc at + m)) (edge e now at)
-                (subst (λ (p : ℕ). at_place D h (edge e now p) (edge e now at) ≡ true) el (seen (at_place D h) ∙ placed))
-                (subst (λ (p : ℕ). keeps_at h (edge e now p) (edge e now at) ≡ false) el (seen (keeps_at h) ∙ broken))
-                (edges e now (suc at) m)
-                (subst (Encloses D S) row (subst (λ (j : ℕ). Encloses D S (edges e now at j)) en b))))
-              where
-                row : edges e now at (suc (suc m)) ≡ edge e now at ∷ (edges e now (suc at) m ++ (edge e now (suc at + m) ∷ []))
-                row = ap (λ l. edge e now at ∷ l) (edges-last e now (suc at) m)
+              row : edges e now at (suc (suc m)) ≡ edge e now at ∷ (edges e now (suc at) m ++ (edge e now (suc at + m) ∷ []))
+              row = ap (λ l. edge e now at ∷ l) (edges-last (named e) now (suc at) m)

@@ -48,7 +48,8 @@ module _ {e : List ℤ} {run : List ℕ} {w : Point} {lo n : ℕ} where
   pub sought-inner : {k : ℕ} → k + 1 < n → is_between w (edge e run (lo + k)) (edge e run (lo + k + 1)) ≡ true → Sought e run w lo n k
   sought-inner {k} b so =
       record {
-        between = λ inside.
+        inside = omega arith;
+        between =
             ap (λ (j : ℕ). is_between w (edge e run (lo + k)) (edge e run (lo + j))) (following-is n k (lt-ltb (k + 1) n b))
             ∙ ap (λ (q : ℕ). is_between w (edge e run (lo + k)) (edge e run q)) here
             ∙ so;
@@ -65,10 +66,16 @@ module _ {e : List ℤ} {run : List ℕ} {w : Point} {lo n : ℕ} where
       none = omega arith
 
   -- between the last edge and the first
-  pub sought-last : {k : ℕ} → n ≤ k + 1 → is_between w (edge e run (lo + k)) (edge e run lo) ≡ true → Sought e run w lo n k
-  sought-last {k} b so =
+  pub sought-last :
+      {k : ℕ} →
+      k < n →
+      n ≤ k + 1 →
+      is_between w (edge e run (lo + k)) (edge e run lo) ≡ true →
+      Sought e run w lo n k
+  sought-last {k} inside b so =
       record {
-        between = λ inside.
+        inside = inside;
+        between =
             ap (λ (j : ℕ). is_between w (edge e run (lo + k)) (edge e run (lo + j))) (following-is n k (le-ltb (k + 1) n b))
             ∙ ap (λ (q : ℕ). is_between w (edge e run (lo + k)) (edge e run q)) here
             ∙ so;
@@ -76,10 +83,3 @@ module _ {e : List ℤ} {run : List ℕ} {w : Point} {lo n : ℕ} where
     where
       here : lo + 0 ≡ lo
       here = omega arith
-
-  -- nowhere
-  pub sought-none : Sought e run w lo n n
-  sought-none = record { between = λ inside. absurd (never inside) }
-    where
-      never : n < n → ⊥
-      never b = omega arith

@@ -25,7 +25,7 @@ use Rattle.model.specs.declared.State.TheVariants.{Ended, Going}
 use Rattle.model.specs.declared.Walk.{Walk}
 use Rattle.model.specs.Scan.{facing, direction, tightest}
 use Rattle.model.specs.Step.{alone, resettled, restart, narrow, improved, breaks, going, settled, recounted, stepped, step}
-use Rattle.model.specs.Bounds.{SmallPoint, SmallRay, SmallCone, SmallBest, SmallState}
+use Rattle.model.specs.Bounds.{SmallPoint, SmallCone, SmallBest, SmallState}
 use Rattle.engine.specs.Start.{kept_or_restarted}
 
 -- ---- the order of points
@@ -50,14 +50,6 @@ above-last f d = go (lt_z (pos 0) (along f d)) (lt_z (along f d) (pos 0))
     go false false = refl
 
 -- ---- the parts of what is within the bounds
-
-pub cone_rays :
-    {cone : Option (Ray × Ray)} →
-    SmallCone cone →
-    {lo hi : Ray} →
-    cone ≡ Some (lo, hi) →
-    SmallRay lo × SmallRay hi
-cone_rays s e = subst SmallCone e s
 
 pub best-point : {b : Option Point} → SmallBest b → {v : Point} → b ≡ Some v → SmallPoint v
 best-point s e = subst SmallBest e s

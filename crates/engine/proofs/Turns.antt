@@ -1,6 +1,7 @@
 -- The ring turned within its run by one edge, forwards or backwards: it holds the same edges, and encloses what it enclosed. Turns follow
 -- one another, one record for each loop with its start, its step and its end; and what was copied says which edges are the last and the
 -- first then.
+use Rattle.std.specs.Prelude.{Some}
 use mathlib.Core.Path.{◌≡◌, refl, sym, ◌∙◌, ap, subst}
 use mathlib.Core.List.{List, [], ◌∷◌, ◌++◌}
 use mathlib.Core.Bool.{Bool, true, false}
@@ -17,7 +18,7 @@ use Rattle.boundary.proofs.Boundary.{turned, rotated}
 use Rattle.boundary.proofs.Insert.{Encloses}
 use Rattle.engine.specs.Row.{named, edge, edges, Named, following}
 use Rattle.engine.specs.Rings.{Forwards, Backwards, Turned, Faces, Turns}
-use Rattle.engine.proofs.Rows.{edges-same, edges-last}
+use Rattle.engine.proofs.Named.{edges-same, edges-last}
 use Rattle.engine.proofs.Places.{following-is}
 
 -- ---- a ring that begins with its second edge, and one that begins with its last
@@ -53,8 +54,8 @@ module _ (run : List ℕ) (lo m : ℕ) (room : lo + suc m < length run) where
 
   row : (e : List ℤ) → edges e after (suc lo) (suc m) ≡ edges e run (suc lo) m ++ (edge e run lo ∷ [])
   row e =
-      edges-last e after (suc lo) m
-      ∙ λ i. edges-same e after run (suc lo) (suc lo) m others i ++ (named e (last i) ∷ [])
+      edges-last (named e) after (suc lo) m
+      ∙ λ i. edges-same (named e) after run (suc lo) (suc lo) m others i ++ (named e (last i) ∷ [])
 
   names : (c : ℕ) → Named c run lo (suc m) → Named c after (suc lo) (suc m)
   names c g k b = go (ltb k m) refl
@@ -107,7 +108,7 @@ module _ (run : List ℕ) (lo m : ℕ) (fits : suc lo + suc m ≤ length run) wh
   others-back k b = get_or-set_other run lo (suc lo + k) (get_or run (suc lo + m) 0) 0 (λ c. omega arith)
 
   row_back : (e : List ℤ) → edges e before-first lo (suc m) ≡ edge e run (suc lo + m) ∷ edges e run (suc lo) m
-  row_back e = λ i. named e (first_back i) ∷ edges-same e before-first run (suc lo) (suc lo) m others-back i
+  row_back e = λ i. named e (first_back i) ∷ edges-same (named e) before-first run (suc lo) (suc lo) m others-back i
 
   names-back : (c : ℕ) → Named c run (suc lo) (suc m) → Named c before-first lo (suc m)
   names-back c g zero b =
@@ -130,7 +131,7 @@ module _ (run : List ℕ) (lo m : ℕ) (fits : suc lo + suc m ≤ length run) wh
         ring = λ e D S b.
             subst (Encloses D S) (sym (row_back e))
             (back_encloses D S (edge e run (suc lo + m)) (edges e run (suc lo) m)
-            (subst (Encloses D S) (edges-last e run (suc lo) m) b));
+            (subst (Encloses D S) (edges-last (named e) run (suc lo) m) b));
       }
 
 turned-back :
@@ -370,10 +371,7 @@ module _ {before : List ℕ} {lo n k : ℕ} (s : Backwards before lo n k) where
             here : at ≡ lo + 0
             here = omega (arith, end, s.inside, ltb-false (k + 1) n t)
 
--- ---- no room for either
+-- ---- where there is room
 
-pub turns-not : {run : List ℕ} {lo n k : ℕ} → Turns run lo n k 0 run
-turns-not = record { same = refl; faces = λ b. absurd (never b) }
-  where
-    never : 0 < 0 → ⊥
-    never b = omega arith
+pub turns-there : {run : List ℕ} {lo n k at : ℕ} {now : List ℕ} → Faces run lo n k at now → Turns run lo n k (Some at) now
+turns-there f = record { same = f.turned.same; faces = f }

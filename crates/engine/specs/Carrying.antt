@@ -16,12 +16,14 @@ use Rattle.model.specs.Bounds.{SmallWalk}
 use Rattle.boundary.specs.Size.{size}
 use Rattle.boundary.proofs.Corner.{Corner}
 use Rattle.boundary.proofs.Ends.{after}
-use Rattle.engine.specs.declared.insert.Arc.{Arc}
+use Rattle.engine.specs.declared.insert.Held.{Held}
+use Rattle.engine.specs.declared.between.Gap.{Gap}
 use Rattle.engine.specs.declared.carry.Carried.{Carried}
 use Rattle.engine.specs.Entries.{entry, entries}
 use Rattle.amounts.specs.Tests.{rule_in_range}
 use Rattle.engine.specs.Sizes.{Entries, Restarting, Moving, Improving, Stepping, Walking}
-use Rattle.engine.specs.Rings.{Holding}
+use Rattle.engine.specs.Row.{cut_of}
+use Rattle.engine.specs.Rings.{When, Standing, Carries}
 
 -- ---- the change-over
 
@@ -31,41 +33,40 @@ changes_over budget n rest = ltb budget 1 && ltb 48 rest && leb n 8190
 
 -- ---- the ends of a new edge
 
--- the edge of h lies between those of k and e: walked upwards it ends at k, and else at e
-abbrev pub end_point : Bool → Constraint → Constraint → Constraint → Point
-end_point up h k e = elim up [ true ↦ meet k h | false ↦ meet h e ]
+-- the edge of h lies in the gap: walked upwards it ends at the edge before it, and else at the one behind it
+abbrev pub end_point : Bool → Constraint → Gap → Point
+end_point up h gap = elim up [ true ↦ meet gap.before h | false ↦ meet h gap.behind ]
 
-pub record Ends (h k e : Constraint) : Type 0 where
+pub record Ends (h : Constraint) (gap : Gap) : Type 0 where
   pub h-small : SmallConstraint h
-  pub k-small : SmallConstraint k
-  pub e-small : SmallConstraint e
+  pub before-small : SmallConstraint gap.before
+  pub behind-small : SmallConstraint gap.behind
 
 -- in a ring that encloses the first n entries with h
-pub record Between (l : List ℤ) (n : ℕ) (h k e : Constraint) : Type 0 where
+pub record Between (l : List ℤ) (n : ℕ) (h : Constraint) (gap : Gap) : Type 0 where
   pub size : Constraint
-  pub k-small : SmallConstraint k
-  pub e-small : SmallConstraint e
-  pub before : Corner size (after (entries l 0 n) h) k h
-  pub behind : Corner size (after (entries l 0 n) h) h e
+  pub before-small : SmallConstraint gap.before
+  pub behind-small : SmallConstraint gap.behind
+  pub before : Corner size (after (entries l 0 n) h) gap.before h
+  pub behind : Corner size (after (entries l 0 n) h) h gap.behind
 
 -- if h has cut the ring
-pub record RestartingAt (t : Tie) (l : List ℤ) (n : ℕ) (h : Constraint) (cut : Bool) (k e : Constraint) : Type 0 where
+pub record RestartingAt (t : Tie) (l : List ℤ) (n : ℕ) (h : Constraint) (gap : Option Gap) : Type 0 where
   pub restarting : Restarting t l n h
-  pub between : cut ≡ true → Between l n h k e
+  pub between : When (Between l n h) gap
 
-pub record MovingAt (f : Functional) (t : Tie) (l : List ℤ) (n : ℕ) (h : Constraint) (cut : Bool) (k e : Constraint) : Type 0 where
+pub record MovingAt (f : Functional) (t : Tie) (l : List ℤ) (n : ℕ) (h : Constraint) (gap : Option Gap) : Type 0 where
   pub moving : Moving f t l n h
-  pub between : cut ≡ true → Between l n h k e
+  pub between : When (Between l n h) gap
 
 pub record ImprovingAt (f : Functional) (t : Tie) (l : List ℤ) (n : ℕ) (h : Constraint) (cone : Option (Ray × Ray)) (b : Option Point)
-    (broken cut : Bool) (k e : Constraint) : Type 0 where
+    (broken : Bool) (gap : Option Gap) : Type 0 where
   pub improving : Improving f t l n h cone b broken
-  pub between : cut ≡ true → Between l n h k e
+  pub between : When (Between l n h) gap
 
-pub record SteppingAt (f : Functional) (t : Tie) (l : List ℤ) (n : ℕ) (h : Constraint) (w : Walk) (cut : Bool)
-    (k e : Constraint) : Type 0 where
+pub record SteppingAt (f : Functional) (t : Tie) (l : List ℤ) (n : ℕ) (h : Constraint) (w : Walk) (gap : Option Gap) : Type 0 where
   pub stepping : Stepping f t l n h w
-  pub between : cut ≡ true → Between l n h k e
+  pub between : When (Between l n h) gap
 
 -- ---- the ring of the entries so far
 
@@ -81,26 +82,30 @@ pub record Growing (e : List ℤ) (run : List ℕ) (D : Constraint) (m : ℕ) : 
   pub few : m ≤ 8192
   pub room : 8 ≤ length run
 
-pub record Grown (e : List ℤ) (before : List ℕ) (D : Constraint) (m : ℕ) (arc : Arc) (run : List ℕ) : Type 0 where
+pub record Grown (e : List ℤ) (before : List ℕ) (D : Constraint) (m : ℕ) (held : Held) (run : List ℕ) : Type 0 where
   pub same : length run ≡ length before
-  pub holding : Holding e run D m arc
+  pub holding : Carries e run D m held
 
 -- ---- one rule, at entry i
 
-pub record Advancing (f : Functional) (D : Constraint) (e : List ℤ) (run : List ℕ) (i : ℕ) (h : Constraint) (w : Walk) (arc : Arc) : Type 0
-  where
-    pub stepping : Stepping f tie e i h w
-    pub is : h ≡ entry e i
-    pub few : i < 8192
-    pub taken : Entries e (i + 1)
-    pub size_small : SmallConstraint D
-    pub holding : Holding e run D i arc
+-- the edges beside the first, if the ring has been cut
+abbrev pub Beside : List ℤ → List ℕ → Held → Type 0
+Beside e run held = When (Standing e run) (cut_of held)
+
+pub record Advancing (f : Functional) (D : Constraint) (e : List ℤ) (run : List ℕ) (i : ℕ) (h : Constraint) (w : Walk)
+    (held : Held) : Type 0 where
+  pub stepping : Stepping f tie e i h w
+  pub is : h ≡ entry e i
+  pub few : i < 8192
+  pub taken : Entries e (i + 1)
+  pub size_small : SmallConstraint D
+  pub holding : Carries e run D i held
 
 pub record Advanced (f : Functional) (D : Constraint) (e : List ℤ) (before : List ℕ) (i : ℕ) (h : Constraint) (w : Walk) (r : Carried)
     (run : List ℕ) : Type 0 where
   pub same : length run ≡ length before
   pub walk : r.walk ≡ step tie f (entries e 0 i) i h w
-  pub holding : Holding e run D (i + 1) r.arc
+  pub holding : Carries e run D (i + 1) r.held
 
 -- ---- from entry i on
 

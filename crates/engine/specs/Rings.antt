@@ -1,16 +1,24 @@
 -- What the functions of the region's boundary ask, and what they hand back, one record for each. They say of the ring that it encloses a
--- system, whichever system that is; and which of its turnings the run holds is left open, so that any search for a place will do.
-use Rattle.std.specs.Prelude.{◌≡◌, List, [], ◌∷◌, ◌++◌, true, ℕ, ◌+◌, ◌*◌, ◌-◌, ◌^◌, ◌≤◌, ◌<◌, length, get_or, ℤ}
+-- system, whichever system that is; and which of its turnings the run holds is left open, so that any search for a place will do. Of a
+-- place that was not found, and of a ring that is not held, nothing is said.
+use Rattle.std.specs.Prelude.{◌≡◌, List, [], ◌∷◌, ◌++◌, true, ℕ, ◌+◌, ◌*◌, ◌-◌, ◌^◌, ◌≤◌, ◌<◌, length, get_or, ℤ, Option, None, Some}
 use Rattle.lp.specs.declared.Constraint.{Constraint}
 use Rattle.lp.specs.declared.Point.{Point}
 use Rattle.lp.specs.Range.{SmallConstraint}
 use Rattle.boundary.specs.Size.{horizon}
 use Rattle.boundary.specs.Ring.{closed}
 use Rattle.boundary.proofs.Insert.{Encloses}
+pub use Rattle.exact.specs.Sizes.{Meeting}
 use Rattle.engine.specs.Entries.{entries}
 use Rattle.engine.specs.Sizes.{Entries, SmallTriple}
-use Rattle.engine.specs.Row.{named, edge, edges, Named, following, is_between, front_row, back_row}
-use Rattle.engine.specs.declared.insert.Arc.{Arc}
+use Rattle.engine.specs.Row.{edges_by, named, edge, edges, Named, following, is_between, front_row, back_row, ring_of, cut_of, row_by}
+use Rattle.boundary.specs.declared.Arc.{Arc}
+use Rattle.engine.specs.declared.insert.Held.{Held}
+
+-- what is said of a thing, if there is one
+abbrev pub When : {A : Type 0} → (A → Type 0) → Option A → Type 0
+When P None = Unit {0}
+When P (Some a) = P a
 
 -- ---- one edge, and a corner
 
@@ -20,11 +28,6 @@ pub record At (e : List ℤ) (run : List ℕ) (k : ℕ) : Type 0 where
   pub room : 3 * get_or run k 0 ≤ length e
 
 -- h at the corner of p and q
-pub record Meeting (h p q : Constraint) : Type 0 where
-  pub h-small : SmallConstraint h
-  pub p-small : SmallConstraint p
-  pub q-small : SmallConstraint q
-
 pub record Pair (e : List ℤ) (run : List ℕ) (h : Constraint) (i j : ℕ) : Type 0 where
   pub first : At e run i
   pub second : At e run j
@@ -83,9 +86,9 @@ pub record Faces (before : List ℕ) (lo n k : ℕ) (at : ℕ) (after : List ℕ
   pub first : get_or after at 0 ≡ get_or before (lo + following n k) 0
 
 -- if there was room
-pub record Turns (before : List ℕ) (lo n k : ℕ) (at : ℕ) (after : List ℕ) : Type 0 where
+pub record Turns (before : List ℕ) (lo n k : ℕ) (at : Option ℕ) (after : List ℕ) : Type 0 where
   pub same : length after ≡ length before
-  pub faces : 0 < at → Faces before lo n k at after
+  pub faces : When (λ (p : ℕ). Faces before lo n k p after) at
 
 -- ---- the search for the place of a constraint whose line meets that of the size in w
 
@@ -103,9 +106,10 @@ pub record Halving (e : List ℤ) (run : List ℕ) (D : Constraint) (w : Point) 
   pub seeking : Seeking e run w lo n
   pub size_small : SmallConstraint D
 
--- it is between edge k and the one that follows; k is n where no place was found
+-- it is between edge k and the one that follows
 pub record Sought (e : List ℤ) (run : List ℕ) (w : Point) (lo n k : ℕ) : Type 0 where
-  pub between : k < n → is_between w (edge e run (lo + k)) (edge e run (lo + following n k)) ≡ true
+  pub inside : k < n
+  pub between : is_between w (edge e run (lo + k)) (edge e run (lo + following n k)) ≡ true
 
 -- ---- what h leaves of the ring
 
@@ -114,16 +118,16 @@ pub record Cutting (e : List ℤ) (run : List ℕ) (h : Constraint) (lo n : ℕ)
   pub some : 0 < n
   pub h-small : SmallConstraint h
 
--- i edges at the front are dropped
-pub record Dropped (e : List ℤ) (run : List ℕ) (lo n : ℕ) (h : Constraint) (i : ℕ) : Type 0 where
+-- i edges at the front are dropped, whatever the run's indices name
+pub record Dropped (name : ℕ → Constraint) (run : List ℕ) (lo n : ℕ) (h : Constraint) (i : ℕ) : Type 0 where
   pub some : i < n
-  pub row : edges e run (lo + i) (n - i) ≡ front_row h (edges e run lo n)
+  pub row : edges_by name run (lo + i) (n - i) ≡ front_row h (edges_by name run lo n)
 
 -- k edges are left when those at the back are dropped
-pub record Left (e : List ℤ) (run : List ℕ) (lo n : ℕ) (h : Constraint) (k : ℕ) : Type 0 where
+pub record Left (name : ℕ → Constraint) (run : List ℕ) (lo n : ℕ) (h : Constraint) (k : ℕ) : Type 0 where
   pub some : 0 < k
   pub fewer : k ≤ n
-  pub row : edges e run lo k ≡ back_row h (edges e run lo n)
+  pub row : edges_by name run lo k ≡ back_row h (edges_by name run lo n)
 
 -- there is room for one more before them; index i names h
 pub record Putting (e : List ℤ) (run : List ℕ) (i : ℕ) (h : Constraint) (lo n : ℕ) : Type 0 where
@@ -131,14 +135,18 @@ pub record Putting (e : List ℤ) (run : List ℕ) (i : ℕ) (h : Constraint) (l
   pub later : 0 < lo
   pub is : h ≡ named e i
 
--- the run holds the row with both ends cut, and h before it, or nothing
-pub record Cut (e : List ℤ) (before : List ℕ) (i : ℕ) (h : Constraint) (lo n : ℕ) (next : Arc) (after : List ℕ) : Type 0 where
-  pub same : length after ≡ length before
+-- a ring stands there, with h as its first edge
+pub record Put (e : List ℤ) (before : List ℕ) (i : ℕ) (h : Constraint) (lo n : ℕ) (next : Arc) (after : List ℕ) : Type 0 where
   pub fits : next.lo + next.n ≤ length after
-  pub row : edges e after next.lo next.n ≡ closed h (front_row h (edges e before lo n))
+  pub two : 2 ≤ next.n
   pub named : (m : ℕ) → i ≤ m → Named m before lo n → Named m after next.lo next.n
-  pub two : next.cut ≡ true → 2 ≤ next.n
-  pub first : next.cut ≡ true → edge e after next.lo ≡ h
+  pub first : edge e after next.lo ≡ h
+
+-- the run holds the row with both ends cut, and h before it, or nothing
+pub record Cut (e : List ℤ) (before : List ℕ) (i : ℕ) (h : Constraint) (lo n : ℕ) (next : Option Arc) (after : List ℕ) : Type 0 where
+  pub same : length after ≡ length before
+  pub row : row_by (named e) after next ≡ closed h (front_row h (edges e before lo n))
+  pub put : When (λ (a : Arc). Put e before i h lo n a after) next
 
 -- ---- h enters
 
@@ -146,29 +154,44 @@ pub record Following (lo n k : ℕ) : Type 0 where
   pub inside : k < n
   pub room : lo + n < 2 ^ 64
 
--- a run of no edges holds no ring, and says nothing; else the ring encloses the system
-abbrev pub Holds : Constraint → List Constraint → List ℤ → List ℕ → ℕ → ℕ → Type 0
-Holds D S e run lo n = 0 < n → Encloses D S (edges e run lo n)
+-- two edges or more
+pub record Standing (e : List ℤ) (run : List ℕ) (arc : Arc) : Type 0 where
+  pub ring : Ring e run arc.lo arc.n
+  pub two : 2 ≤ arc.n
 
-pub record Inserting (e : List ℤ) (run : List ℕ) (D : Constraint) (i : ℕ) (h : Constraint) (lo n : ℕ) : Type 0 where
-  pub ring : Ring e run lo n
+-- if a ring is held, it encloses the system
+abbrev pub Holds : Constraint → List Constraint → List ℤ → List ℕ → Option Arc → Type 0
+Holds D S e run = When (λ (a : Arc). Encloses D S (edges e run a.lo a.n))
+
+pub record Inserting (e : List ℤ) (run : List ℕ) (D : Constraint) (i : ℕ) (h : Constraint) (held : Held) : Type 0 where
+  pub standing : When (Standing e run) (ring_of held)
   pub size_small : SmallConstraint D
   pub h-small : SmallConstraint h
   pub is : h ≡ named e i
 
--- where h has cut the ring it is the first edge, and others follow
-pub record Inserted (e : List ℤ) (before : List ℕ) (D : Constraint) (i : ℕ) (h : Constraint) (lo n : ℕ) (next : Arc) (after : List ℕ) :
-    Type 0 where
-  pub same : length after ≡ length before
+-- a ring stands there, where it stood before as that of arc, if one was held
+pub record Stands (e : List ℤ) (before : List ℕ) (D : Constraint) (i : ℕ) (h : Constraint) (arc : Option Arc) (next : Arc)
+    (after : List ℕ) : Type 0 where
   pub fits : next.lo + next.n ≤ length after
-  pub named : (m : ℕ) → i ≤ m → Named m before lo n → Named m after next.lo next.n
-  pub ring : (S : List Constraint) → Holds D S e before lo n → Holds D (S ++ (h ∷ [])) e after next.lo next.n
-  pub two : next.cut ≡ true → 2 ≤ next.n
-  pub first : next.cut ≡ true → edge e after next.lo ≡ h
+  pub two : 2 ≤ next.n
+  pub named : (m : ℕ) → i ≤ m → When (λ (a : Arc). Named m before a.lo a.n) arc → Named m after next.lo next.n
+  pub ring : (S : List Constraint) → Holds D S e before arc → Encloses D (S ++ (h ∷ [])) (edges e after next.lo next.n)
+
+-- where h has cut the ring it is the first edge
+pub record Inserted (e : List ℤ) (before : List ℕ) (D : Constraint) (i : ℕ) (h : Constraint) (held next : Held) (after : List ℕ) : Type 0
+  where
+    pub same : length after ≡ length before
+    pub stands : When (λ (a : Arc). Stands e before D i h (ring_of held) a after) (ring_of next)
+    pub first : When (λ (a : Arc). edge e after a.lo ≡ h) (cut_of next)
 
 -- ---- the ring of the first m entries
 
 pub record Holding (e : List ℤ) (run : List ℕ) (D : Constraint) (m : ℕ) (arc : Arc) : Type 0 where
   pub fits : arc.lo + arc.n ≤ length run
+  pub two : 2 ≤ arc.n
   pub named : Named m run arc.lo arc.n
-  pub ring : Holds D (horizon ∷ entries e 0 m) e run arc.lo arc.n
+  pub ring : Encloses D (horizon ∷ entries e 0 m) (edges e run arc.lo arc.n)
+
+-- if one is held
+abbrev pub Carries : List ℤ → List ℕ → Constraint → ℕ → Held → Type 0
+Carries e run D m held = When (Holding e run D m) (ring_of held)

@@ -14,26 +14,8 @@ use Rattle.model.specs.declared.Walk.{Walk}
 use Rattle.model.specs.Step.{breaks}
 use Rattle.model.specs.Bounds.{SmallPoint, SmallRay, SmallFound, SmallCone, SmallBest, SmallState}
 use Rattle.lp.specs.Range.{SmallConstraint, SmallFunctional, SmallTie, SmallFloors}
+pub use Rattle.exact.specs.Sizes.{Lines, Gaining}
 use Rattle.engine.specs.Entries.{entry}
-
--- of two products
-pub record Factors (p q s t : ℤ) : Type 0 where
-  pub p-small : Within 1000000000 p
-  pub q-small : Within 1000000000 q
-  pub s-small : Within 1000000000 s
-  pub t-small : Within 1000000000 t
-
-pub record Lines (r s : Constraint) : Type 0 where
-  pub first : SmallConstraint r
-  pub second : SmallConstraint s
-
-pub record Risen (r : Constraint) (d : Ray) : Type 0 where
-  pub constraint : SmallConstraint r
-  pub ray : SmallRay d
-
-pub record Gained (f : Functional) (d : Ray) : Type 0 where
-  pub functional : SmallFunctional f
-  pub ray : SmallRay d
 
 -- entry k is within the list
 pub record Room (l : List ℤ) (k : ℕ) : Type 0 where
@@ -72,14 +54,6 @@ pub record OrderAlong (f : Functional) (t : Tie) (d : Ray) : Type 0 where
   pub objective : SmallFunctional f
   pub tie : SmallTie t
   pub ray : SmallRay d
-
-pub record Narrowing (h : Constraint) (cone : Option (Ray × Ray)) : Type 0 where
-  pub constraint : SmallConstraint h
-  pub rays : SmallCone cone
-
-pub record Gaining (f : Functional) (cone : Option (Ray × Ray)) : Type 0 where
-  pub functional : SmallFunctional f
-  pub rays : SmallCone cone
 
 -- ---- a constraint h that arrives at index n
 

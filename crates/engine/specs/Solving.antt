@@ -1,13 +1,12 @@
 -- The promise of `solve`. What `solve` hands back is the model's walk along the rules that stand in the run of numbers, if
 -- all numbers are within their ranges and the run has room; what the run holds afterwards is the floors before the same rules.
-use Rattle.std.specs.Prelude.{◌≡◌, List, Bool, true, false, cond, ◌&&◌, ℕ, ◌+◌, ◌*◌, leb, length, ℤ, pos, Option, None, Some}
+use Rattle.std.specs.Prelude.{◌≡◌, List, Bool, cond, ◌&&◌, ℕ, ◌+◌, ◌*◌, leb, length, ℤ, Option, None, Some}
 use Rattle.lp.specs.declared.Constraint.{Constraint}
 use Rattle.lp.specs.declared.Functional.{Functional}
 use Rattle.lp.specs.declared.Floors.{Floors}
 use Rattle.lp.specs.declared.Terms.{Terms}
 use Rattle.lp.specs.declared.Point.{Point}
 use Rattle.lp.specs.declared.Certificate.{Certificate}
-use Rattle.lp.specs.Program.{point}
 use Rattle.lp.specs.Outcome.{every}
 use Rattle.lp.specs.Start.{Start, none, at}
 use Rattle.lp.specs.Document.{tie}
@@ -30,15 +29,6 @@ certificate_of (Going s rays b) = nobody
 abbrev pub start_pair : Start → Option Point
 start_pair none = None
 start_pair (at s) = Some s
-
--- the start pair in two numbers
-abbrev pub is_held : Option Point → Bool
-is_held None = false
-is_held (Some s) = true
-
-abbrev pub held_point : Option Point → Point
-held_point None = point (pos 0) (pos 0) (pos 0)
-held_point (Some s) = s
 
 abbrev pub solution_of : Functional → Walk → Solution
 solution_of f w =

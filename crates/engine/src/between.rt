@@ -1,7 +1,7 @@
-// A step of the walk that carries the region's boundary along. Where the new constraint h has cut it, between edges k and e, a start point
-// or an optimum that moves, moves to an end of the new edge, so that no pass over the entries is made. Where the edge ends at infinity, or
-// h has not cut the boundary, a pass is made if a point moves at all. The functions stand beside those of the plain walk and call none of
-// them: a function with one caller is compiled into it, and so the plain walk stays quick.
+// A step of the walk that carries the region's boundary along. Where the new constraint h has cut it, in the gap between two edges, a start
+// point or an optimum that moves, moves to an end of the new edge, so that no pass over the entries is made. Where the edge ends at
+// infinity, or h has not cut the boundary, a pass is made if a point moves at all. The functions stand beside those of the plain walk and
+// call none of them: a function with one caller is compiled into it, and so the plain walk stays quick.
 ghost use Rattle.std.specs.Prelude.{◌≡◌};
 ghost use Rattle.lp.specs.Outcome.{gain_order};
 ghost use Rattle.model.specs.Step.{tightest_point, improved as improved_of, step as step_of};
@@ -9,23 +9,33 @@ ghost use Rattle.engine.specs.Entries.{entries as entries_of};
 ghost use Rattle.engine.specs.Start.{kept_or_restarted};
 ghost use Rattle.engine.specs.Carrying.{end_point, Ends, RestartingAt, MovingAt, ImprovingAt, SteppingAt};
 
-use crate::cone::{gaining, narrow};
-use crate::exact::{direction, facing, is_level, keeps, meet};
 use crate::optimum::breaks;
-use crate::order::{tie_upward, upward};
+use crate::order::{Order, tie_upward, upward};
 use crate::scan::tightest;
-use crate::start::{alone, resettled};
+use crate::start::{alone, is_level, resettled};
 use crate::walk::{counted, going};
+use exact::{direction, facing, gaining, keeps, meet, narrow};
 use fraction::reduce;
-use lp::{Certificate, Constraint, Functional, Point, Ray, Tie};
+use lp::{Certificate, Constraint, Point, Ray, Tie};
 use model::{State, Walk};
 
+// The two edges between which a constraint has cut the boundary: the ring goes from the one to it, and from it to the other.
+#[derive(Clone, Copy)]
+pub struct Gap {
+    pub before: Constraint,
+    pub behind: Constraint,
+}
+
 // The end of the new edge in the direction in which its line is walked.
-fn end_point(up: bool, h: Constraint, k: Constraint, e: Constraint) -> Point
-    requires { Ends h k e }
-    ensures { result ≡ end_point up h k e }
+fn end_point(up: bool, h: Constraint, gap: Gap) -> Point
+    requires { Ends h gap }
+    ensures { result ≡ end_point up h gap }
 {
-    if up { meet(k, h) } else { meet(h, e) }
+    if up {
+        meet(gap.before, h)
+    } else {
+        meet(h, gap.behind)
+    }
 }
 
 fn start_at(
@@ -35,11 +45,9 @@ fn start_at(
     h: Constraint,
     s: Point,
     kept: bool,
-    cut: bool,
-    k: Constraint,
-    e: Constraint,
+    gap: Option<Gap>,
 ) -> Result<Point, Certificate>
-    requires { RestartingAt tie entries.now n h cut k e }
+    requires { RestartingAt tie entries.now n h gap }
     ensures { result ≡ kept_or_restarted tie (entries_of entries.now 0 n) n h s kept }
 {
     if kept {
@@ -49,8 +57,8 @@ fn start_at(
         return Err(alone(n));
     }
     let side = tie_upward(tie, direction(h));
-    if cut {
-        let p = end_point(side, h, k, e);
+    if let Some(gap) = gap {
+        let p = end_point(side, h, gap);
         if 0 < p.d {
             return Ok(reduce(p));
         }
@@ -59,22 +67,13 @@ fn start_at(
     resettled(entries, side, n, h, found)
 }
 
-fn moved_to(
-    objective: Functional,
-    tie: Tie,
-    entries: &[i64],
-    n: usize,
-    h: Constraint,
-    cut: bool,
-    k: Constraint,
-    e: Constraint,
-) -> Point
-    requires { MovingAt objective tie entries.now n h cut k e }
-    ensures { result ≡ tightest_point (gain_order objective tie) (entries_of entries.now 0 n) h }
+fn moved_to(order: &Order, entries: &[i64], n: usize, h: Constraint, gap: Option<Gap>) -> Point
+    requires { MovingAt order.now.objective order.now.tie entries.now n h gap }
+    ensures { result ≡ tightest_point (gain_order order.now.objective order.now.tie) (entries_of entries.now 0 n) h }
 {
-    let side = upward(objective, tie, direction(h));
-    if cut {
-        let p = end_point(side, h, k, e);
+    let side = upward(order, direction(h));
+    if let Some(gap) = gap {
+        let p = end_point(side, h, gap);
         if 0 < p.d {
             return reduce(p);
         }
@@ -87,29 +86,27 @@ fn moved_to(
 
 // The best pair after one more constraint; broken says whether it broke it.
 fn improved_at(
-    objective: Functional,
-    tie: Tie,
+    order: &Order,
     entries: &[i64],
     n: usize,
     h: Constraint,
     cone: Option<(Ray, Ray)>,
     best: Option<Point>,
     broken: bool,
-    cut: bool,
-    k: Constraint,
-    e: Constraint,
+    gap: Option<Gap>,
 ) -> Option<Point>
-    requires { ImprovingAt objective tie entries.now n h cone best broken cut k e }
-    ensures { result ≡ improved_of (gain_order objective tie) objective (entries_of entries.now 0 n) h cone best }
+    requires { ImprovingAt order.now.objective order.now.tie entries.now n h cone best broken gap }
+    ensures { result ≡ improved_of (gain_order order.now.objective order.now.tie) order.now.objective
+        (entries_of entries.now 0 n) h cone best }
 {
     match best {
-        None => match gaining(objective, cone) {
+        None => match gaining(order.objective, cone) {
             Some(_) => None,
-            None => Some(moved_to(objective, tie, entries, n, h, cut, k, e)),
+            None => Some(moved_to(order, entries, n, h, gap)),
         },
         Some(v) => {
             if broken {
-                Some(moved_to(objective, tie, entries, n, h, cut, k, e))
+                Some(moved_to(order, entries, n, h, gap))
             } else {
                 Some(v)
             }
@@ -117,20 +114,17 @@ fn improved_at(
     }
 }
 
-// What the walk holds after one more constraint h, at index n. Cut says whether h lies between k and e.
+// What the walk holds after one more constraint h, at index n. The gap is that in which h has cut the boundary, if it has.
 pub fn step_at(
-    objective: Functional,
-    tie: Tie,
+    order: &Order,
     entries: &[i64],
     n: usize,
     h: Constraint,
     walk: Walk,
-    cut: bool,
-    k: Constraint,
-    e: Constraint,
+    gap: Option<Gap>,
 ) -> Walk
-    requires { SteppingAt objective tie entries.now n h walk cut k e }
-    ensures { result ≡ step_of tie objective (entries_of entries.now 0 n) n h walk }
+    requires { SteppingAt order.now.objective order.now.tie entries.now n h walk gap }
+    ensures { result ≡ step_of order.now.tie order.now.objective (entries_of entries.now 0 n) n h walk }
 {
     let state = walk.state;
     let State::Going(s, cone, best) = state else {
@@ -142,12 +136,10 @@ pub fn step_at(
     let kept = keeps(h, s);
     let restarts = counted(walk.restarts, !kept);
     let place = n - 1;
-    match start_at(tie, entries, n, h, s, kept, cut, k, e) {
+    match start_at(order.tie, entries, n, h, s, kept, gap) {
         Ok(p) => {
             let wedge = narrow(h, cone);
-            let next = improved_at(
-                objective, tie, entries, n, h, wedge, best, broken, cut, k, e,
-            );
+            let next = improved_at(order, entries, n, h, wedge, best, broken, gap);
             going(p, wedge, next, moves, opened, restarts)
         }
         Err(c) => Walk {

@@ -3,14 +3,16 @@
 ghost use Rattle.std.specs.Prelude.{◌≡◌};
 ghost use Rattle.engine.specs.Entries.{entries as entries_of};
 ghost use Rattle.engine.specs.Solving.{rules_solved};
-ghost use Rattle.engine.specs.Carrying.{Advancing, Advanced, Carrying, CarryingIn};
+ghost use Rattle.engine.specs.Row.{gap_of};
+ghost use Rattle.engine.specs.Carrying.{Beside, Advancing, Advanced, Carrying, CarryingIn};
 
 use crate::Solution;
-use crate::between::step_at;
+use crate::between::{Gap, step_at};
 use crate::edges::edge;
 use crate::entries::entry;
 use crate::grow::{grow, size};
-use crate::insert::{Arc, insert};
+use crate::insert::{Held, insert};
+use crate::order::Order;
 use crate::verdict::solution;
 use crate::walk::tie;
 use amounts::range::rule_in_range;
@@ -20,7 +22,21 @@ use model::Walk;
 #[derive(Clone, Copy)]
 pub struct Carried {
     pub walk: Walk,
-    pub arc: Arc,
+    pub held: Held,
+}
+
+// The edges between which a rule has cut the ring: the last and the second.
+fn gap_of(run: &[i64], ring: &[u16], held: Held) -> Option<Gap>
+    requires { Beside run.now ring.now held }
+    ensures { result ≡ gap_of run.now ring.now held }
+{
+    let Held::Cut(arc) = held else {
+        return None;
+    };
+    Some(Gap {
+        before: edge(run, ring, arc.lo + arc.n - 1),
+        behind: edge(run, ring, arc.lo + 1),
+    })
 }
 
 // One more rule h, at entry i.
@@ -32,21 +48,19 @@ fn advance(
     i: usize,
     h: Constraint,
     walk: Walk,
-    arc: Arc,
+    held: Held,
 ) -> Carried
-    requires { Advancing objective size run.now ring.old i h walk arc }
+    requires { Advancing objective size run.now ring.old i h walk held }
     ensures { Advanced objective size run.now ring.old i h walk result ring.new }
 {
-    let arc = insert(size, run, &mut *ring, (i + 1) as u16, h, arc);
-    if arc.cut {
-        let lo = arc.lo;
-        let e = edge(run, &*ring, lo + 1);
-        let k = edge(run, &*ring, lo + arc.n - 1);
-        let walk = step_at(objective, tie(), run, i, h, walk, true, k, e);
-        return Carried { walk, arc };
-    }
-    let walk = step_at(objective, tie(), run, i, h, walk, false, h, h);
-    Carried { walk, arc }
+    let order = Order {
+        objective,
+        tie: tie(),
+    };
+    let held = insert(size, run, &mut *ring, (i + 1) as u16, h, held);
+    let gap = gap_of(run, &*ring, held);
+    let walk = step_at(&order, run, i, h, walk, gap);
+    Carried { walk, held }
 }
 
 fn carry_in(
@@ -63,14 +77,14 @@ fn carry_in(
 {
     let size = size(floors);
     let end = n + 2;
-    let mut arc = grow(size, run, &mut *ring, i);
+    let mut held = grow(size, run, &mut *ring, i);
     let mut walk = walk;
     for k in i..end {
         let h = entry(run, k);
         if rule_in_range(h) {
-            let next = advance(objective, size, run, &mut *ring, k, h, walk, arc);
+            let next = advance(objective, size, run, &mut *ring, k, h, walk, held);
             walk = next.walk;
-            arc = next.arc;
+            held = next.held;
         } else {
             return None;
         }

@@ -1,12 +1,13 @@
 // The edges of the region's boundary: a run of indices names them among the entries of a system. Index 0 names the line at infinity, and
-// index k + 1 entry k.
+// index k + 1 entry k. The two runs are handed in side by side: an insertion changes the one and reads the other, so that a struct of both
+// would be put together anew for each look at an edge.
 ghost use Rattle.std.specs.Prelude.{◌≡◌};
 ghost use Rattle.boundary.specs.Ring.{keeps_at};
 ghost use Rattle.engine.specs.Row.{edge as edge_of, is_between};
 ghost use Rattle.engine.specs.Rings.{At, Pair, Place};
 
 use crate::entries::entry;
-use crate::exact::{keeps, meet, reaches};
+use exact::{keeps, keeps_at, reaches};
 use lp::{Constraint, Point};
 
 // The edge at place k of the ring's run.
@@ -27,7 +28,7 @@ pub fn corner_keeps(run: &[i64], ring: &[u16], h: Constraint, i: usize, j: usize
     ensures { result ≡ keeps_at h (edge_of run.now ring.now i)
         (edge_of run.now ring.now j) }
 {
-    keeps(h, meet(edge(run, ring, i), edge(run, ring, j)))
+    keeps_at(h, edge(run, ring, i), edge(run, ring, j))
 }
 
 // Whether a constraint belongs between the edges at places i and j. The turns from the one to it and from it to the other are asked of the

@@ -5,7 +5,8 @@ ghost use Rattle.boundary.specs.Size.{size as size_of};
 ghost use Rattle.engine.specs.Carrying.{Growing, Grown};
 
 use crate::entries::entry;
-use crate::insert::{Arc, insert};
+use crate::insert::{Held, insert};
+use boundary::Arc;
 use lp::{Constraint, Floors};
 
 // The size of a point: x + y + d, measured from the floors.
@@ -21,7 +22,7 @@ pub fn size(floors: Floors) -> Constraint
 }
 
 // The ring of the first m entries. It begins in the middle of its run, with room on both sides.
-pub fn grow(size: Constraint, run: &[i64], ring: &mut [u16], m: usize) -> Arc
+pub fn grow(size: Constraint, run: &[i64], ring: &mut [u16], m: usize) -> Held
     requires { Growing run.now ring.old size m }
     ensures { Grown run.now ring.old size m result ring.new }
 {
@@ -29,14 +30,10 @@ pub fn grow(size: Constraint, run: &[i64], ring: &mut [u16], m: usize) -> Arc
     ring[lo] = 2;
     ring[lo + 1] = 0;
     ring[lo + 2] = 1;
-    let mut arc = Arc {
-        lo,
-        n: 3,
-        cut: false,
-    };
+    let mut held = Held::Kept(Arc { lo, n: 3 });
     for k in 2..m {
         let i = (k + 1) as u16;
-        arc = insert(size, run, &mut *ring, i, entry(run, k), arc);
+        held = insert(size, run, &mut *ring, i, entry(run, k), held);
     }
-    arc
+    held
 }

@@ -6,10 +6,8 @@
 
 mod between;
 mod carry;
-mod cone;
 mod edges;
 mod entries;
-mod exact;
 mod grow;
 mod insert;
 mod optimum;

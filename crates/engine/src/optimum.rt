@@ -6,18 +6,17 @@ ghost use Rattle.model.specs.Step.{tightest_point, improved as improved_of, brea
 ghost use Rattle.engine.specs.Entries.{entries as entries_of};
 ghost use Rattle.engine.specs.Sizes.{Moving, Improving, Breaking};
 
-use crate::cone::gaining;
-use crate::exact::{direction, facing, keeps};
-use crate::order::upward;
+use crate::order::{Order, upward};
 use crate::scan::tightest;
+use exact::{direction, facing, gaining, keeps};
 use fraction::reduce;
-use lp::{Constraint, Functional, Point, Ray, Tie};
+use lp::{Constraint, Point, Ray};
 
-fn moved(objective: Functional, tie: Tie, entries: &[i64], n: usize, h: Constraint) -> Point
-    requires { Moving objective tie entries.now n h }
-    ensures { result ≡ tightest_point (gain_order objective tie) (entries_of entries.now 0 n) h }
+fn moved(order: &Order, entries: &[i64], n: usize, h: Constraint) -> Point
+    requires { Moving order.now.objective order.now.tie entries.now n h }
+    ensures { result ≡ tightest_point (gain_order order.now.objective order.now.tie) (entries_of entries.now 0 n) h }
 {
-    let side = upward(objective, tie, direction(h));
+    let side = upward(order, direction(h));
     match tightest(entries, n, facing(side, h)) {
         None => Point { x: 0, y: 0, d: 1 },
         Some(met) => reduce(met.point),
@@ -27,8 +26,7 @@ fn moved(objective: Functional, tie: Tie, entries: &[i64], n: usize, h: Constrai
 // The best pair after one more constraint. Whether it broke the constraint is handed in, since the walk counts that too. A pair that stays
 // is put together from its numbers: so the walk's loop holds them in registers, where a copied pair goes through memory.
 pub fn improved(
-    objective: Functional,
-    tie: Tie,
+    order: &Order,
     entries: &[i64],
     n: usize,
     h: Constraint,
@@ -36,17 +34,18 @@ pub fn improved(
     best: Option<Point>,
     broken: bool,
 ) -> Option<Point>
-    requires { Improving objective tie entries.now n h cone best broken }
-    ensures { result ≡ improved_of (gain_order objective tie) objective (entries_of entries.now 0 n) h cone best }
+    requires { Improving order.now.objective order.now.tie entries.now n h cone best broken }
+    ensures { result ≡ improved_of (gain_order order.now.objective order.now.tie) order.now.objective
+        (entries_of entries.now 0 n) h cone best }
 {
     match best {
-        None => match gaining(objective, cone) {
+        None => match gaining(order.objective, cone) {
             Some(_) => None,
-            None => Some(moved(objective, tie, entries, n, h)),
+            None => Some(moved(order, entries, n, h)),
         },
         Some(v) => {
             if broken {
-                Some(moved(objective, tie, entries, n, h))
+                Some(moved(order, entries, n, h))
             } else {
                 Some(Point {
                     x: v.x,

@@ -3,8 +3,15 @@ ghost use Rattle.std.specs.Prelude.{◌≡◌};
 ghost use Rattle.lp.specs.Outcome.{above, tie_order, gain_order};
 ghost use Rattle.engine.specs.Sizes.{TieAlong, OrderAlong};
 
-use crate::exact::{gains, loses};
+use exact::{gains, loses};
 use lp::{Functional, Ray, Tie};
+
+// The functionals that are compared: the objective, then the tie's.
+#[derive(Clone, Copy)]
+pub struct Order {
+    pub objective: Functional,
+    pub tie: Tie,
+}
 
 // Upward by the tie alone.
 pub fn tie_upward(tie: Tie, d: Ray) -> bool
@@ -23,15 +30,15 @@ pub fn tie_upward(tie: Tie, d: Ray) -> bool
 }
 
 // Upward by the objective, then by the tie.
-pub fn upward(objective: Functional, tie: Tie, d: Ray) -> bool
-    requires { OrderAlong objective tie d }
-    ensures { result ≡ above (gain_order objective tie) d }
+pub fn upward(order: &Order, d: Ray) -> bool
+    requires { OrderAlong order.now.objective order.now.tie d }
+    ensures { result ≡ above (gain_order order.now.objective order.now.tie) d }
 {
-    if gains(objective, d) {
+    if gains(order.objective, d) {
         return true;
     }
-    if loses(objective, d) {
+    if loses(order.objective, d) {
         return false;
     }
-    tie_upward(tie, d)
+    tie_upward(order.tie, d)
 }

@@ -8,7 +8,7 @@ ghost use Rattle.engine.specs.Held.{farthest, tightened, found_of};
 ghost use Rattle.engine.specs.Sizes.{Tightening, Along, Checking};
 
 use crate::entries::entry;
-use crate::exact::{det, keeps, meet, opposite};
+use exact::{det, direction, keeps, meet};
 use lp::{Constraint, Point};
 use model::Met;
 
@@ -18,12 +18,13 @@ fn at_infinity(line: Constraint) -> Met
     requires { SmallConstraint line }
     ensures { result ≡ farthest line }
 {
+    let along = direction(line);
     Met {
         index: 0,
         entry: line,
         point: Point {
-            x: line.b,
-            y: opposite(line.a),
+            x: along.dx,
+            y: along.dy,
             d: 0,
         },
     }

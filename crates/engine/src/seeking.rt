@@ -2,10 +2,11 @@
 // other. The constraint is known by the point w in which its line meets that of the size. Each place is looked at before it is handed back,
 // so that the search may go any way, and no law about the order of angles is needed.
 ghost use Rattle.std.specs.Prelude.{◌<◌};
-ghost use Rattle.engine.specs.Rings.{Ordering, Seeking, Halving, Sought};
+ghost use Rattle.engine.specs.Rings.{Ordering, Seeking, Halving, Sought, When};
 
 use crate::edges::{edge, is_between};
-use crate::exact::{keeps, meet};
+use boundary::Arc;
+use exact::{keeps, meet};
 use lp::{Constraint, Point};
 
 // Whether x comes before the constraint, or with it, on the way round from the ring's first edge; v is where that meets the size, and early
@@ -27,18 +28,18 @@ fn comes_before(v: Point, early: bool, x: Constraint, w: Point) -> bool
 }
 
 // The last edge that comes before the constraint, by halving. What is halved is no range that a `for` could go over.
-fn halved(size: Constraint, run: &[i64], ring: &[u16], w: Point, lo: usize, n: usize) -> usize
-    requires { Halving run.now ring.now size w lo n }
-    ensures { result < n }
+fn halved(size: Constraint, run: &[i64], ring: &[u16], w: Point, arc: Arc) -> usize
+    requires { Halving run.now ring.now size w arc.lo arc.n }
+    ensures { result < arc.n }
 {
-    let first = edge(run, ring, lo);
+    let first = edge(run, ring, arc.lo);
     let v = meet(size, first);
     let early = keeps(first, w);
     let mut from = 0;
-    let mut to = n;
+    let mut to = arc.n;
     while from + 1 < to {
         let middle = from + (to - from) / 2;
-        let x = edge(run, ring, lo + middle);
+        let x = edge(run, ring, arc.lo + middle);
         if comes_before(v, early, x, w) {
             from = middle;
         } else {
@@ -48,39 +49,39 @@ fn halved(size: Constraint, run: &[i64], ring: &[u16], w: Point, lo: usize, n: u
     from
 }
 
-// The first edge behind which the constraint belongs; n, if it is none but perhaps the last.
-fn first_place(run: &[i64], ring: &[u16], w: Point, lo: usize, n: usize) -> usize
-    requires { Seeking run.now ring.now w lo n }
-    ensures { Sought run.now ring.now w lo n result }
+// The first edge behind which the constraint belongs, if it is one but the last.
+fn first_place(run: &[i64], ring: &[u16], w: Point, arc: Arc) -> Option<usize>
+    requires { Seeking run.now ring.now w arc.lo arc.n }
+    ensures { When (Sought run.now ring.now w arc.lo arc.n) result }
 {
-    for k in 0..n - 1 {
-        let p = lo + k;
+    for k in 0..arc.n - 1 {
+        let p = arc.lo + k;
         if is_between(run, ring, w, p, p + 1) {
-            return k;
+            return Some(k);
         }
     }
-    n
+    None
 }
 
-// The edge behind which the constraint belongs, counted from the ring's first; n, if it is none. Where one rule after the other cuts the
+// The edge behind which the constraint belongs, counted from the ring's first, if one is found. Where one rule after the other cuts the
 // same corner that is the first or the last, and these are looked at first.
-pub fn seek(size: Constraint, run: &[i64], ring: &[u16], w: Point, lo: usize, n: usize) -> usize
-    requires { Halving run.now ring.now size w lo n }
-    ensures { Sought run.now ring.now w lo n result }
+pub fn seek(size: Constraint, run: &[i64], ring: &[u16], w: Point, arc: Arc) -> Option<usize>
+    requires { Halving run.now ring.now size w arc.lo arc.n }
+    ensures { When (Sought run.now ring.now w arc.lo arc.n) result }
 {
-    if is_between(run, ring, w, lo, lo + 1) {
-        return 0;
+    if is_between(run, ring, w, arc.lo, arc.lo + 1) {
+        return Some(0);
     }
-    let last = n - 1;
-    if is_between(run, ring, w, lo + last, lo) {
-        return last;
+    let last = arc.n - 1;
+    if is_between(run, ring, w, arc.lo + last, arc.lo) {
+        return Some(last);
     }
-    let k = halved(size, run, ring, w, lo, n);
+    let k = halved(size, run, ring, w, arc);
     if k < last {
-        let p = lo + k;
+        let p = arc.lo + k;
         if is_between(run, ring, w, p, p + 1) {
-            return k;
+            return Some(k);
         }
     }
-    first_place(run, ring, w, lo, n)
+    first_place(run, ring, w, arc)
 }

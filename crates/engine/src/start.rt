@@ -1,17 +1,27 @@
 // The start point, which says whether the system is feasible: when a constraint breaks it, it moves to the tightest point on that
 // constraint's line, or there is none and three constraints say why.
-ghost use Rattle.std.specs.Prelude.{◌≡◌};
-ghost use Rattle.model.specs.Step.{alone as alone_of, line_weight, conflict as conflict_of, resettled as resettled_of, restart as restart_of};
+ghost use Rattle.std.specs.Prelude.{◌≡◌, ◌&&◌};
+ghost use Rattle.lp.specs.Certificate.{is_zero};
+ghost use Rattle.model.specs.Step.{alone as alone_of, line_weight, conflict as conflict_of};
+ghost use Rattle.model.specs.Step.{resettled as resettled_of, restart as restart_of};
 ghost use Rattle.engine.specs.Entries.{entries as entries_of};
 ghost use Rattle.engine.specs.Sizes.{Lines, Conflicting, Resettling, Restarting};
 ghost use Rattle.engine.specs.Start.{kept_or_restarted};
 
-use crate::exact::{det, direction, facing, is_level};
 use crate::order::tie_upward;
 use crate::scan::{first_broken, tightest};
+use exact::{det, direction, facing};
 use fraction::reduce;
 use lp::{Certificate, Constraint, Point, Tie};
 use model::Met;
+use witness::is_zero;
+
+// A rule with a = b = 0, which has no line.
+pub fn is_level(h: Constraint) -> bool
+    ensures { result ≡ is_zero h.a && is_zero h.b }
+{
+    is_zero(h.a) && is_zero(h.b)
+}
 
 // 0 is at most c, with c below 0: the rule at index n needs no other entry.
 pub fn alone(n: usize) -> Certificate

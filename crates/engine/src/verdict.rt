@@ -6,7 +6,7 @@ ghost use Rattle.engine.specs.Solving.{solution_of};
 ghost use Rattle.engine.specs.Sizes.{Gaining, Answering};
 
 use crate::Solution;
-use crate::cone::gaining;
+use exact::gaining;
 use fraction::reduce_ray;
 use lp::{Certificate, Functional, Outcome, Point, Ray};
 use model::{State, Walk};

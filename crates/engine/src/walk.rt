@@ -13,13 +13,13 @@ ghost use Rattle.engine.specs.Carrying.{changes_over};
 
 use crate::Solution;
 use crate::carry::carry_on;
-use crate::cone::{gaining, narrow};
 use crate::entries::entry;
-use crate::exact::keeps;
 use crate::optimum::{breaks, improved};
+use crate::order::Order;
 use crate::start::start;
 use crate::verdict::solution;
 use amounts::range::rule_in_range;
+use exact::{gaining, keeps, narrow};
 use lp::{Constraint, Floors, Functional, Point, Ray, Tie};
 use model::{State, Walk};
 
@@ -55,16 +55,9 @@ pub fn going(
 }
 
 // What the walk holds after one more constraint h, at index n.
-pub fn step(
-    objective: Functional,
-    tie: Tie,
-    entries: &[i64],
-    n: usize,
-    h: Constraint,
-    walk: Walk,
-) -> Walk
-    requires { Stepping objective tie entries.now n h walk }
-    ensures { result ≡ step_of tie objective (entries_of entries.now 0 n) n h walk }
+pub fn step(order: &Order, entries: &[i64], n: usize, h: Constraint, walk: Walk) -> Walk
+    requires { Stepping order.now.objective order.now.tie entries.now n h walk }
+    ensures { result ≡ step_of order.now.tie order.now.objective (entries_of entries.now 0 n) n h walk }
 {
     let state = walk.state;
     let State::Going(s, cone, best) = state else {
@@ -76,10 +69,10 @@ pub fn step(
     let kept = keeps(h, s);
     let restarts = counted(walk.restarts, !kept);
     let place = n - 1;
-    match start(tie, entries, n, h, s, kept) {
+    match start(order.tie, entries, n, h, s, kept) {
         Ok(p) => {
             let wedge = narrow(h, cone);
-            let next = improved(objective, tie, entries, n, h, wedge, best, broken);
+            let next = improved(order, entries, n, h, wedge, best, broken);
             going(p, wedge, next, moves, opened, restarts)
         }
         Err(c) => Walk {
@@ -152,6 +145,10 @@ pub fn walk_rules(objective: Functional, floors: Floors, run: &[i64], n: usize) 
     ensures { result ≡ rules_solved objective floors (entries_of run.now 2 n) }
 {
     let end = n + 2;
+    let order = Order {
+        objective,
+        tie: tie(),
+    };
     let mut walk = begin(objective, floors);
     let mut budget = allowed(n);
     for i in 2..end {
@@ -159,7 +156,7 @@ pub fn walk_rules(objective: Functional, floors: Floors, run: &[i64], n: usize) 
         if rule_in_range(h) {
             let moves = walk.moves;
             let restarts = walk.restarts;
-            walk = step(objective, tie(), run, i, h, walk);
+            walk = step(&order, run, i, h, walk);
             if (moves < walk.moves) | (restarts < walk.restarts) {
                 let next = i + 1;
                 budget = left_over(budget, next);

@@ -1,10 +1,9 @@
--- Records passed: one by one, by eight, and as far as sixteen bits tell.
+-- Records passed: one by one, and by eight.
 use mathlib.Core.Path.{◌≡◌, refl, sym, ◌∙◌, ap, subst}
 use mathlib.Core.List.{List}
 use mathlib.Core.Bool.{Bool, true, false, ◌||◌}
-use Prim.Native.Nat.{ℕ, zero, suc, ◌+◌, ◌-◌, ◌%◌, ◌≤◌, ◌<◌}
+use Prim.Native.Nat.{ℕ, zero, suc, ◌+◌, ◌-◌, ◌≤◌, ◌<◌}
 use native.Mathlib.Omega.{arith}
-use native.Mathlib.Nat.{mod-eq_of_lt}
 use native.Mathlib.Decide.{dec_lt}
 use borrow.Author.Tests.{eq-eqb}
 use lib.Dec.{T, eqb}
@@ -64,14 +63,3 @@ module _ {l : List ℕ} {wanted : ℕ} where
       go : (k : ℕ) → k < i + 1 → Dec (k < i) → get_or l k 0 ≡ wanted → ⊥
       go k h (yes c) q = p.none k c q
       go k h (no c) q = d (ap (λ j. get_or l j 0) (here k h c) ∙ q)
-
--- A record has sixteen bits: where it differs from the lowest sixteen of a number, it differs from the number.
-pub passed-wide :
-    {l : List ℕ} {wanted i : ℕ} →
-    ((k : ℕ) → get_or l k 0 < 65536) →
-    Passed l (wanted % 65536) i →
-    Passed l wanted i
-passed-wide {l} {wanted} {i} small p = record { inside = p.inside; none = λ k b q. differs k (p.none k b) q }
-  where
-    differs : (k : ℕ) → (get_or l k 0 ≡ wanted % 65536 → ⊥) → get_or l k 0 ≡ wanted → ⊥
-    differs k d q = d (q ∙ sym (mod-eq_of_lt (subst (λ r. r < 65536) q (small k))))

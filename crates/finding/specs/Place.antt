@@ -1,10 +1,10 @@
 -- The place of a number in a run of records, and what the private functions hand back.
-use Rattle.std.specs.Prelude.{◌≡◌, List, [], ◌∷◌, Bool, true, false, ◌||◌, ℕ, zero, suc, ◌+◌, ◌≤◌, ◌<◌, eqb, length, get_or}
+use Rattle.std.specs.Prelude.{◌≡◌, List, [], ◌∷◌, Bool, true, false, ◌||◌, ℕ, zero, suc, ◌+◌, ◌≤◌, ◌<◌, eqb, length, get_or, Option, Some, None, option_map}
 
--- the first place of a number, or the length where it stands nowhere
-abbrev pub place_of : List ℕ → ℕ → ℕ
-place_of [] wanted = 0
-place_of (i ∷ is) wanted = elim (eqb i wanted) [ true ↦ 0 | false ↦ suc (place_of is wanted) ]
+-- the first place of a number, if it stands in the run
+abbrev pub place_of : List ℕ → ℕ → Option ℕ
+place_of [] wanted = None
+place_of (i ∷ is) wanted = elim (eqb i wanted) [ true ↦ Some 0 | false ↦ option_map suc (place_of is wanted) ]
 
 -- whether one of the records from place i to place i + n is wanted
 abbrev pub some_of : List ℕ → ℕ → ℕ → ℕ → Bool

@@ -36,15 +36,15 @@ fn passed(records: &[u16], wanted: u16) -> usize
     i
 }
 
-// The first place of the wanted number, or the length of the run if it stands nowhere in it.
-pub fn place(records: &[u16], wanted: u64) -> usize
+// The first place of the wanted number, if it stands in the run. A number of more than sixteen bits is in no record.
+pub fn place(records: &[u16], wanted: u64) -> Option<usize>
     ensures { result ≡ place_of records.now wanted }
 {
-    let start = passed(records, (wanted % 65536) as u16);
-    for i in start..records.len() {
-        if records[i] as u64 == wanted {
-            return i;
+    let wanted = u16::try_from(wanted).ok()?;
+    for i in passed(records, wanted)..records.len() {
+        if records[i] == wanted {
+            return Some(i);
         }
     }
-    records.len()
+    None
 }

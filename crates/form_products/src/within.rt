@@ -26,14 +26,13 @@ fn scaled(f: Form, g: Form) -> Value
     })
 }
 
-// The product of two forms: a flaw of its own if neither is a constant. A constant's coefficients are 0, and any form here is within the limit.
+// The product of two forms: a flaw of its own if neither is a constant. A constant's coefficients are 0, and any form here is within the
+// limit.
 pub fn multiplied(f: Form, g: Form) -> Value
     requires { SmallForms f g }
     ensures { Valued (multiplied_of f g) result }
 {
-    if bounded(f, 0, 1000000000) {
-        scaled(f, g)
-    } else if bounded(g, 0, 1000000000) {
+    if bounded(f, 0, 1000000000) || bounded(g, 0, 1000000000) {
         scaled(f, g)
     } else {
         Err(Flaw::Product)

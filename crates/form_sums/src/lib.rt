@@ -9,7 +9,7 @@ ghost use Rattle.forms.specs.Value.{conclude as conclude_of};
 ghost use Rattle.forms.specs.Small.{Valued};
 
 use forms::operands::{held, limited, paired};
-use forms::{Form, Typed, Value};
+use forms::{Form, Sense, Typed, Value};
 use within::{add_forms, finished, sub_forms};
 
 mod within;
@@ -36,9 +36,9 @@ pub fn difference(v: Value, w: Value) -> Value
 }
 
 // The rule of two sides, or the flaw of the left one, the right one, or the last.
-pub fn conclude(kind: usize, v: Value, w: Value) -> Typed
-    ensures { result ≡ conclude_of kind (held_of v) (held_of w) }
+pub fn conclude(sense: Sense, v: Value, w: Value) -> Typed
+    ensures { result ≡ conclude_of sense (held_of v) (held_of w) }
 {
     let (f, g) = paired(v, w)?;
-    finished(kind, f, g)
+    finished(sense, f, g)
 }

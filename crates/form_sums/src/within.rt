@@ -4,7 +4,7 @@ ghost use Rattle.forms.specs.Value.{add_forms, sub_forms, final, written};
 ghost use Rattle.forms.specs.Small.{SmallForms, SmallPair};
 
 use forms::operands::bounded;
-use forms::{Flaw, Form, Typed, Written};
+use forms::{Flaw, Form, Sense, Typed, Written};
 
 fn add(y: i64, z: i64) -> i64
     requires { SmallPair y z }
@@ -43,9 +43,9 @@ pub fn sub_forms(f: Form, g: Form) -> Form
 }
 
 // The rule of two sides: the final a, b and c are within their limits, else the flaw of their size.
-pub fn finished(kind: usize, f: Form, g: Form) -> Typed
+pub fn finished(sense: Sense, f: Form, g: Form) -> Typed
     requires { SmallForms f g }
-    ensures { result ≡ final (written kind f g) }
+    ensures { result ≡ final (written sense f g) }
 {
     let over = sub_forms(f, g);
     let under = sub_forms(g, f);
@@ -59,7 +59,7 @@ pub fn finished(kind: usize, f: Form, g: Form) -> Typed
         1000000000,
     ) {
         Ok(Written {
-            kind: kind,
+            sense,
             a: over.a,
             b: over.b,
             c: under.c,

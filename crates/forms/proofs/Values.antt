@@ -16,6 +16,7 @@ use Rattle.forms.specs.declared.Form.{Form}
 use Rattle.std.specs.Prelude.{Ok, Err}
 use Rattle.forms.specs.declared.Flaw.{Flaw}
 use Rattle.forms.specs.declared.Flaw.TheVariants.{Size}
+use Rattle.forms.specs.declared.Sense.{Sense}
 use Rattle.forms.specs.declared.Written.{Written}
 use Rattle.forms.specs.Value.{Value, Typed, inside, bounded, limit, form, limited, numeral, neg_form, constant, combine, written, final, conclude, no_rule}
 use Rattle.forms.specs.Small.{SmallForm, SmallForms, Small, Pair, pair_of, SmallIn, Paired, Valued}
@@ -165,7 +166,7 @@ combine-pair op (Ok f) (Ok g) = refl
 combine-pair op (Ok f) (Err e) = refl
 combine-pair op (Err e) w = refl
 
-conclude-pair : (k : ℕ) (v w : Value) → conclude k v w ≡ joined (λ f g. final (written k f g)) no_rule (pair_of v w)
+conclude-pair : (k : Sense) (v w : Value) → conclude k v w ≡ joined (λ f g. final (written k f g)) no_rule (pair_of v w)
 unfolding conclude
 conclude-pair k (Ok f) (Ok g) = refl
 conclude-pair k (Ok f) (Err e) = refl
@@ -181,7 +182,7 @@ module _ {v w : Value} {p : Pair} (x : Paired v w p) where
       Valued (combine op v w) r
   combined op e h = same-value (sym (combine-pair op v w ∙ ap (joined op Err) (sym x.same ∙ e))) h
 
-  pub concluded : (k : ℕ) {q : Pair} {r : Typed} →
+  pub concluded : (k : Sense) {q : Pair} {r : Typed} →
       p ≡ q →
       r ≡ joined (λ f g. final (written k f g)) no_rule q →
       r ≡ conclude k v w
@@ -194,14 +195,14 @@ pub negated-small : {f g : Form} → SmallForm f → g ≡ neg_form f → SmallF
 negated-small {f} h e =
     subst SmallForm (sym e) (record { a = within-opposite h.a; b = within-opposite h.b; c = within-opposite h.c })
 
-abbrev writing : ℕ → ℤ → ℤ → ℤ → Written
-writing k a b c = record { kind = k; a = a; b = b; c = c }
+abbrev writing : Sense → ℤ → ℤ → ℤ → Written
+writing k a b c = record { sense = k; a = a; b = b; c = c }
 
-pub written_is : (k : ℕ) {a a' b b' c c' : ℤ} →
+pub written_is : (k : Sense) {a a' b b' c c' : ℤ} →
     a ≡ a' →
     b ≡ b' →
     c ≡ c' →
-    ◌≡◌ {A = Written} (record { kind = k; a = a; b = b; c = c }) (record { kind = k; a = a'; b = b'; c = c' })
+    ◌≡◌ {A = Written} (record { sense = k; a = a; b = b; c = c }) (record { sense = k; a = a'; b = b'; c = c' })
 written_is k {a} {a'} {b} {b'} {c} {c'} p q r =
     ap (λ (x : ℤ). writing k x b c) p ∙ ap (λ (x : ℤ). writing k a' x c) q ∙ ap (λ (x : ℤ). writing k a' b' x) r
 

@@ -1,12 +1,14 @@
--- What the operations on values are: a form a·x + b·y + c, or the refusal, 14 or 15, of the first number or operation concerned: the
--- left operand, then the right operand, then the operation itself, 14 before 15. Of two sides: the left, then the right, then the
--- final a, b and c.
+-- What the operations on values are: a form a·x + b·y + c, or the flaw, a product's or a size's, of the first number or operation
+-- concerned: the left operand, then the right operand, then the operation itself, a product's flaw before a size's. Of two sides: the
+-- left, then the right, then the final a, b and c.
 use Rattle.std.specs.Prelude.{Bool, ◌&&◌, cond, ℕ, leb, ℤ, pos, nat_abs, ◌+ℤ◌, ◌-ℤ◌, ◌*ℤ◌, Result, Ok, Err}
 use Rattle.answers.specs.declared.Refusal.{Refusal}
 use Rattle.answers.specs.Refusal.{refusal}
 use Rattle.forms.specs.declared.Form.{Form}
 use Rattle.forms.specs.declared.Flaw.{Flaw}
 use Rattle.forms.specs.declared.Flaw.TheVariants.{Text, Product, Size}
+use Rattle.forms.specs.declared.Sense.{Sense}
+use Rattle.forms.specs.declared.Sense.TheVariants.{AtMost, AtLeast}
 use Rattle.forms.specs.declared.Written.{Written}
 
 -- a part of a text comes to a form or a flaw, and a whole text to a rule or a flaw
@@ -40,7 +42,7 @@ form a b c = record { a = a; b = b; c = c }
 abbrev pub bounded : ℕ → ℕ → Form → Bool
 bounded n m f = inside n f.a && (inside n f.b && inside m f.c)
 
--- a form whose numbers are at most 1,000,000,000 either way, else 15
+-- a form whose numbers are at most 1,000,000,000 either way, else the flaw of its size
 unfoldable pub limited : Form → Value
 limited f = cond (bounded limit limit f) (Ok f) (Err Size)
 
@@ -71,7 +73,7 @@ neg_form f = form (pos 0 -ℤ f.a) (pos 0 -ℤ f.b) (pos 0 -ℤ f.c)
 
 -- ---- operations on values
 
--- the left operand's refusal, else the right one's, else the operation
+-- the left operand's flaw, else the right one's, else the operation
 abbrev pub after : (Form → Value) → Value → Value
 after op (Ok f) = op f
 after op (Err e) = Err e
@@ -98,15 +100,20 @@ held v = after limited v
 
 -- ---- rules
 
+-- document 01's numbers of the two relations
+abbrev pub kind_of : Sense → ℕ
+kind_of AtMost = 1
+kind_of AtLeast = 2
+
 -- no rule, for that flaw
 abbrev pub no_rule : Flaw → Typed
 no_rule e = Err e
 
 -- a and b are the left coefficients less the right, c the right constant less the left
-abbrev pub written : ℕ → Form → Form → Written
-written k f g = record { kind = k; a = f.a -ℤ g.a; b = f.b -ℤ g.b; c = g.c -ℤ f.c }
+abbrev pub written : Sense → Form → Form → Written
+written k f g = record { sense = k; a = f.a -ℤ g.a; b = f.b -ℤ g.b; c = g.c -ℤ f.c }
 
--- a and b at most 32,767 and c at most 1,000,000,000 either way, else 15
+-- a and b at most 32,767 and c at most 1,000,000,000 either way, else the flaw of their size
 unfoldable pub final : Written → Typed
 final w = cond (bounded 32767 limit (form w.a w.b w.c)) (Ok w) (no_rule Size)
 
@@ -114,5 +121,5 @@ abbrev pub then : (Form → Typed) → Value → Typed
 then op (Ok f) = op f
 then op (Err e) = no_rule e
 
-unfoldable pub conclude : ℕ → Value → Value → Typed
+unfoldable pub conclude : Sense → Value → Value → Typed
 conclude k l r = then (λ f. then (λ g. final (written k f g)) r) l

@@ -5,10 +5,10 @@
 #![tactic(auto)]
 
 ghost use Rattle.std.specs.Prelude.{◌≡◌};
-ghost use Rattle.forms.specs.Value.{numeral as numeral_of, refusal_of};
+ghost use Rattle.forms.specs.Value.{kind_of, numeral as numeral_of, refusal_of};
 ghost use Rattle.forms.specs.Small.{Valued};
 
-use answers::Refusal;
+use answers::{Cause, Refusal};
 
 pub mod operands;
 
@@ -33,22 +33,41 @@ impl Flaw {
     pub fn refusal(self) -> Refusal
         ensures { result ≡ refusal_of self }
     {
-        let number = match self {
-            Flaw::Text => 13,
-            Flaw::Product => 14,
-            Flaw::Size => 15,
+        let cause = match self {
+            Flaw::Text => Cause::Text,
+            Flaw::Product => Cause::Product,
+            Flaw::Size => Cause::Size,
         };
-        Refusal { number, at: 0 }
+        Refusal::of(cause, 0)
     }
 }
 
 // The value of a part of a text: a form, or the flaw of the first number or operation concerned.
 pub type Value = Result<Form, Flaw>;
 
-// A rule as written, kind 2 not turned round.
+// The relation of a rule: its left side is at most the right one, or at least that.
+#[derive(Clone, Copy)]
+pub enum Sense {
+    AtMost,
+    AtLeast,
+}
+
+impl Sense {
+    // The kind by which document 01 numbers it.
+    pub fn number(self) -> u8
+        ensures { result ≡ kind_of self }
+    {
+        match self {
+            Sense::AtMost => 1,
+            Sense::AtLeast => 2,
+        }
+    }
+}
+
+// A rule as written, one with at-least not turned round.
 #[derive(Clone, Copy)]
 pub struct Written {
-    pub kind: usize,
+    pub sense: Sense,
     pub a: i64,
     pub b: i64,
     pub c: i64,

@@ -1,5 +1,5 @@
-// What is handed to programs in other languages, as numbers: a count or a refusal as one number, what the checker of slips says as one number,
-// and a start pair in a lent run.
+// What is handed to programs in other languages, as numbers: a count or a refusal as one number, what the checker of slips says as one
+// number, and a start pair in a lent run.
 
 #![tactic(auto)]
 

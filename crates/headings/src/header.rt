@@ -1,12 +1,14 @@
-// The header's tests, the causes 1 to 5, and the floors that its tail says.
-ghost use Rattle.std.specs.Prelude.{◌≡◌, ◌-◌, ◌/◌, length, eqb, ltb, not, ◌||◌};
-ghost use Rattle.records.specs.Layout.{layout_of, width};
-ghost use Rattle.records.specs.Record.{record_at, fields_of};
-ghost use Rattle.records.specs.Header.{floors_in, tail_set, bad_length, header_fault};
+// The header's tests, the causes 1 to 5, and the floors that its tail says. What depends on the version is a `match` of constants in each
+// function, so that a division by a constant compiles to a product.
+ghost use Rattle.std.specs.Prelude.{◌≡◌, length, eqb, ltb, not, ◌||◌};
+ghost use Rattle.records.specs.Layout.{layout_of};
+ghost use Rattle.records.specs.Header.{floors_in, tail_set, bad_length};
+ghost use Rattle.headings.specs.Tests.{other_version, other_count, least_objective, cause_in};
 
+use answers::Cause;
 use lp::Floors;
-use records::Version;
 use records::fields::Fields;
+use records::{Book, Version};
 use signed::{least, signed16};
 
 // Whether a length is under the shortest, over the longest, or leaves a rest.
@@ -16,43 +18,52 @@ fn misfit(length: usize, shortest: usize, longest: usize, rest: usize) -> bool
     length < shortest || longest < length || rest != 0
 }
 
-// Cause 1. The divisors are constants, so that no division is left in the compiled code.
-fn bad_length(version: Version, book: &[u8]) -> bool
-    ensures { result ≡ bad_length (layout_of version) book.now }
+// Cause 1.
+fn bad_length(book: &Book) -> bool
+    ensures { result ≡ bad_length book.now.layout book.now.bytes }
 {
-    let length = book.len();
-    match version {
+    let length = book.bytes.len();
+    match book.version {
         Version::One => misfit(length, 12, 3072, length % 12),
         Version::Two => misfit(length, 14, 57344, length % 14),
     }
 }
 
-// What a header has in the place of a kind.
-fn version_number(version: Version) -> u8
-    ensures { result ≡ (layout_of version).version }
+// Cause 2: the version's number does not stand in the place of a kind, or the padding is not zero.
+fn other_version(book: &Book, f: Fields) -> bool
+    ensures { result ≡ other_version book.now.layout f }
 {
-    match version {
+    let number = match book.version {
         Version::One => 1,
         Version::Two => 2,
-    }
+    };
+    f.kind != number || f.pad != 0
 }
 
-// How many records there are after the header.
-fn after_header(version: Version, book: &[u8]) -> usize
-    ensures { result ≡ length book.now / width (layout_of version) - 1 }
+// Cause 3: the count is not that of the records after the header.
+fn other_count(book: &Book, f: Fields) -> bool
+    ensures { result ≡ other_count book.now.layout book.now.bytes f }
 {
-    let length = book.len();
-    match version {
-        Version::One => (length / 12).saturating_sub(1),
-        Version::Two => (length / 14).saturating_sub(1),
-    }
+    let length = book.bytes.len();
+    let records = match book.version {
+        Version::One => length / 12,
+        Version::Two => length / 14,
+    };
+    f.label as usize != records.saturating_sub(1)
+}
+
+// Cause 4.
+fn least_objective(f: Fields) -> bool
+    ensures { result ≡ least_objective f }
+{
+    least(signed16(f.a)) || least(signed16(f.b))
 }
 
 // Cause 5: version 1 has nothing to say in the tail.
-fn bad_tail(version: Version, tail: u32) -> bool
-    ensures { result ≡ tail_set (layout_of version) tail }
+fn bad_tail(book: &Book, tail: u32) -> bool
+    ensures { result ≡ tail_set book.now.layout tail }
 {
-    match version {
+    match book.version {
         Version::One => tail != 0,
         Version::Two => false,
     }
@@ -72,32 +83,25 @@ pub fn floors_in(version: Version, tail: u32) -> Floors
     }
 }
 
-// The first of the causes 1 to 5 that applies to a book with these fields in its header, or 0. Each test is a line of its own, in the order
-// of the format's table.
-pub fn fault(version: Version, book: &[u8], f: Fields) -> u8
-    requires { f ≡ fields_of (layout_of version) (record_at (layout_of version) book.now 0) }
-    ensures { result ≡ header_fault (layout_of version) book.now }
+// The first of the causes 1 to 5 that applies to a book with these fields in its header, if one does. Each test is a line of its own, in
+// the order of the format's table.
+pub fn cause_in(book: &Book, f: Fields) -> Option<Cause>
+    ensures { result ≡ cause_in book.now.layout book.now.bytes f }
 {
-    if bad_length(version, book) {
-        return 1;
+    if bad_length(book) {
+        return Some(Cause::Length);
     }
-    if f.kind != version_number(version) {
-        return 2;
+    if other_version(book, f) {
+        return Some(Cause::Version);
     }
-    if f.pad != 0 {
-        return 2;
+    if other_count(book, f) {
+        return Some(Cause::Count);
     }
-    if f.label as usize != after_header(version, book) {
-        return 3;
+    if least_objective(f) {
+        return Some(Cause::Objective);
     }
-    if least(signed16(f.a)) {
-        return 4;
+    if bad_tail(book, f.c) {
+        return Some(Cause::Tail);
     }
-    if least(signed16(f.b)) {
-        return 4;
-    }
-    if bad_tail(version, f.c) {
-        return 5;
-    }
-    0
+    None
 }

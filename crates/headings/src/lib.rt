@@ -1,4 +1,4 @@
-// What a book's header says: the terms that its chain is planned under, the count, the first link, and the first of the causes 1 to 5.
+// What a book's header says: the terms that its chain is planned under, the count and the first link, or the first of the causes 1 to 5.
 
 #![tactic(auto)]
 
@@ -7,27 +7,38 @@ mod header;
 ghost use Rattle.std.specs.Prelude.{◌≡◌};
 ghost use Rattle.records.specs.Layout.{layout_of};
 ghost use Rattle.records.specs.Header.{heading_of};
+ghost use Rattle.headings.specs.Tests.{heading_in};
 
-use header::{fault, floors_in};
+use answers::Cause;
+use header::{cause_in, floors_in};
 use lp::{Functional, Terms};
-use records::fields::fields_at;
-use records::{Heading, Version};
+use records::fields::Fields;
+use records::{Book, Heading, Version};
 use signed::signed16;
 
-// What a book's header says.
-pub fn heading_of(version: Version, book: &[u8]) -> Heading
-    ensures { result ≡ heading_of (layout_of version) book.now }
+// What a header of these fields says.
+fn said(version: Version, f: Fields) -> Heading
+    ensures { result ≡ heading_in (layout_of version) f }
 {
-    let f = fields_at(version, book, 0);
     let objective = Functional {
         p: i64::from(signed16(f.a)),
         q: i64::from(signed16(f.b)),
     };
     let floors = floors_in(version, f.c);
     Heading {
-        fault: fault(version, book, f),
         terms: Terms { objective, floors },
         count: f.label,
         link: f.link,
+    }
+}
+
+// What a book's header says, or the first cause that turns it back.
+pub fn heading_of(book: &Book) -> Result<Heading, Cause>
+    ensures { result ≡ heading_of book.now.layout book.now.bytes }
+{
+    let f = book.fields_at(0);
+    match cause_in(book, f) {
+        Some(cause) => Err(cause),
+        None => Ok(said(book.version, f)),
     }
 }

@@ -9,6 +9,8 @@ use lib.Seq.{get_or-append-add, get_or-take, length-take-le}
 use lib.IntN.{ℤ, pos}
 use Rattle.lp.specs.declared.Terms.{Terms}
 use Rattle.records.specs.Layout.{v2}
+use Rattle.std.proofs.Common.{Result}
+use Rattle.answers.specs.declared.Refusal.{Refusal}
 use Rattle.book.specs.declared.Head.{Head}
 use Rattle.book.specs.Reading.{accepted, Entry, read_of, passed_of, rules_of}
 use Rattle.book.specs.Runs.{put_records, put_rules}
@@ -93,7 +95,7 @@ module _ (s : List ℕ) (n : ℕ) (names : List ℕ) (l : List ℤ) (asked : Beh
   rules-room : length part-rules ≡ length l - (6 + 3 * n)
   rules-room = simp (length-take, length-drop) (omega arith)
 
-  module _ (h : Head) (records' : List ℕ) (rules' : List ℤ) (read : ReadInto v2 s part-names part-rules h records' rules') where
+  module _ (h : Result Head Refusal) (records' : List ℕ) (rules' : List ℤ) (read : ReadInto v2 s part-names part-rules h records' rules') where
     abbrev names' : List ℕ
     names' = take n names ++ (records' ++ drop (length names - n) (drop n names))
 

@@ -1,6 +1,6 @@
 -- From what reading both books left in the runs to the answer: a refused site, a refused tenant, or the plan of the single list, which is
 -- always made, since the numbers of accepted books are all in range and the runs have room.
-use Rattle.std.specs.Prelude.{None, Some, Ok, Err}
+use Rattle.std.specs.Prelude.{None, Some, Ok}
 use mathlib.Core.Path.{◌≡◌, refl, sym, ◌∙◌, ap, subst}
 use mathlib.Core.List.{List, [], ◌∷◌, ◌++◌, map}
 use Prim.Native.Nat.{ℕ, zero, suc, ◌+◌, ◌-◌, ◌≤◌, ◌<◌}
@@ -14,11 +14,8 @@ use Rattle.lp.specs.declared.Terms.{Terms}
 use Rattle.lp.specs.Range.{SmallSystem}
 use Rattle.lp.specs.Document.{tie}
 use Rattle.records.specs.Layout.{v2}
-use Rattle.book.specs.declared.Head.{Head}
 use Rattle.book.specs.Reading.{Reading, refused, accepted, Entry, read_of, rules_of, records_of}
-use Rattle.book.specs.Promises.{head_of}
 use Rattle.book.proofs.Bounds.{chain-count, count_room, index-within, rules-small, terms-small}
-use Rattle.book.proofs.Causes.{refusal-number}
 use Rattle.answers.specs.declared.Plan.{Plan}
 use Rattle.engine.specs.declared.Solution.{Solution}
 use Rattle.engine.specs.Solving.{solution_of, solved_of}
@@ -26,11 +23,10 @@ use Rattle.engine.proofs.Tests.{solved}
 use Rattle.model.specs.Step.{walk}
 use Rattle.plans.specs.Planning.{PlannedAs, plan_of}
 use Rattle.plans.proofs.Finish.{finished}
-use Rattle.joining.specs.declared.JointRefusal.TheVariants.{Site, Tenant}
 use Rattle.joining.specs.declared.read.Heads.{Heads}
 use Rattle.joining.specs.Joining.{tenant_name, joined_names, joined_rules, joined_of, JoinedBy, Joins}
 use Rattle.joint_terms.specs.Terms.{joined_terms}
-use Rattle.joining.specs.Running.{Laid, ReadsBoth, Renaming, Renamed}
+use Rattle.joining.specs.Running.{Laid, ReadBy, ReadsBoth, Renaming, Renamed}
 use Rattle.joining.proofs.Both.{length-rules, length-records}
 use Rattle.joint_terms.proofs.Compared.{joined_small}
 
@@ -48,55 +44,17 @@ tenant-named (x ∷ l) (suc k) h = tenant-named l k (omega arith)
 
 -- ---- two books that read as r
 
-module _ (s u : List ℕ) (r : Heads) (names : List ℕ) (l : List ℤ) (read : ReadsBoth s u r names l) where
-  site_of : (x : Reading) → read_of v2 s ≡ x → r.site ≡ head_of x
-  site_of x e = read.site ∙ ap head_of e
-
-  tenant_of : (x : Reading) → read_of v2 u ≡ x → r.tenant ≡ head_of x
-  tenant_of x e = read.tenant ∙ ap head_of e
-
-  -- no refusal has the number 0
-  site-clear : {n i : ℕ} → r.site.refusal.number ≡ 0 → read_of v2 s ≡ refused n i → ⊥
-  site-clear {n} {i} clear e =
-      refusal-number v2 s e (sym (ap (λ (h : Head). h.refusal.number) (site_of (refused n i) e)) ∙ clear)
-
-  tenant-clear : {n i : ℕ} → r.tenant.refusal.number ≡ 0 → read_of v2 u ≡ refused n i → ⊥
-  tenant-clear {n} {i} clear e =
-      refusal-number v2 u e (sym (ap (λ (h : Head). h.refusal.number) (tenant_of (refused n i) e)) ∙ clear)
-
-  -- ---- a refused book
-
-  pub site-turned : (r.site.refusal.number ≡ 0 → ⊥) → Joins s u (Err (Site r.site.refusal))
-  site-turned some = record { answered = go (read_of v2 s) refl }
-    where
-      go : (x : Reading) → read_of v2 s ≡ x → JoinedBy (joined_of x (read_of v2 u)) (Err (Site r.site.refusal))
-      go (refused n i) e = ap (λ (h : Head). Err (Site h.refusal)) (site_of (refused n i) e)
-      go (accepted t es) e = absurd (some (ap (λ (h : Head). h.refusal.number) (site_of (accepted t es) e)))
-
-  pub tenant-turned : r.site.refusal.number ≡ 0 →
-      (r.tenant.refusal.number ≡ 0 → ⊥) →
-      Joins s u (Err (Tenant r.tenant.refusal))
-  tenant-turned clear some = record { answered = go (read_of v2 s) (read_of v2 u) refl refl }
-    where
-      go : (x y : Reading) → read_of v2 s ≡ x → read_of v2 u ≡ y → JoinedBy (joined_of x y) (Err (Tenant r.tenant.refusal))
-      go (refused n i) y e q = absurd (site-clear clear e)
-      go (accepted t es) (refused n i) e q = ap (λ (h : Head). Err (Tenant h.refusal)) (tenant_of (refused n i) q)
-      go (accepted t es) (accepted t' fs) e q =
-          absurd (some (ap (λ (h : Head). h.refusal.number) (tenant_of (accepted t' fs) q)))
-
-  -- ---- two accepted ones
-
+module _ (s u : List ℕ) (r : Heads) (names : List ℕ) (l : List ℤ) (read : ReadsBoth s u (Ok r) names l) where
   module _
       (t t' : Terms) (es fs : List Entry)
-      (e : read_of v2 s ≡ accepted t es) (q : read_of v2 u ≡ accepted t' fs) where
-    laid : Laid es fs names l
-    laid = read.laid t t' es fs e q
-
+      (e : read_of v2 s ≡ accepted t es) (q : read_of v2 u ≡ accepted t' fs)
+      (same : r ≡ record { site = record { terms = t; n = length es }; tenant = record { terms = t'; n = length fs } })
+      (laid : Laid es fs names l) where
     site-count : r.site.n ≡ length es
-    site-count = ap (λ (h : Head). h.n) (site_of (accepted t es) e)
+    site-count = ap (λ (h : Heads). h.site.n) same
 
     tenant-count : r.tenant.n ≡ length fs
-    tenant-count = ap (λ (h : Head). h.n) (tenant_of (accepted t' fs) q)
+    tenant-count = ap (λ (h : Heads). h.tenant.n) same
 
     few-rules : r.site.n + r.tenant.n ≤ 8190
     few-rules =
@@ -128,8 +86,7 @@ module _ (s u : List ℕ) (r : Heads) (names : List ℕ) (l : List ℤ) (read : 
         (solution_of (joined_terms t t').objective
         (walk tie (joined_terms t t').floors (joined_terms t t').objective (joined_rules es fs)))
     planned =
-        (λ i. solved_of (joined_terms (site_of (accepted t es) e i).terms (tenant_of (accepted t' fs) q i).terms) l
-        (site-count i + tenant-count i))
+        (λ i. solved_of (joined_terms (same i).site.terms (same i).tenant.terms) l ((same i).site.n + (same i).tenant.n))
         ∙ solved (joined_terms t t') l (length es + length fs) (joined_small t t' (terms-small v2 s e) (terms-small v2 u q))
         laid.room (subst SmallSystem (sym laid.rules) together)
         ∙ ap (λ (S : List Constraint). Some
@@ -165,52 +122,55 @@ module _ (s u : List ℕ) (r : Heads) (names : List ℕ) (l : List ℤ) (read : 
           p ≡ plan_of names' x →
           PlannedAs (joined_terms t t') (joined_names es fs) (joined_rules es fs) p
       answer {x} w {p} f =
-          subst (PlannedAs (joined_terms t t') (joined_names es fs) (joined_rules es fs)) (sym (f ∙ ap (plan_of names') same))
+          subst (PlannedAs (joined_terms t t') (joined_names es fs) (joined_rules es fs)) (sym (f ∙ ap (plan_of names') walked))
           (finished (joined_terms t t') (joined_names es fs) (joined_rules es fs)
           (joined_small t t' (terms-small v2 s e) (terms-small v2 u q)).floors-small together names' agree)
         where
-          same : x ≡ solution_of (joined_terms t t').objective
+          walked : x ≡ solution_of (joined_terms t t').objective
               (walk tie (joined_terms t t').floors (joined_terms t t').objective (joined_rules es fs))
-          same = let both = w ∙ planned in cc
+          walked = let both = w ∙ planned in cc
 
-  -- ---- neither is refused
+  -- ---- what follows from two accepted books follows
 
-  module _ (clear : r.site.refusal.number ≡ 0) (clear' : r.tenant.refusal.number ≡ 0) where
-    -- what follows from two accepted books follows
-    either : {A : Type 0} →
-        ((t t' : Terms) (es fs : List Entry) → read_of v2 s ≡ accepted t es → read_of v2 u ≡ accepted t' fs → A) →
-        A
-    either {A} f = go (read_of v2 s) (read_of v2 u) refl refl
-      where
-        go : (x y : Reading) → read_of v2 s ≡ x → read_of v2 u ≡ y → A
-        go (refused n i) y e q = absurd (site-clear clear e)
-        go (accepted t es) (refused n i) e q = absurd (tenant-clear clear' q)
-        go (accepted t es) (accepted t' fs) e q = f t t' es fs e q
+  either : {A : Type 0} →
+      ((t t' : Terms) (es fs : List Entry) →
+      read_of v2 s ≡ accepted t es →
+      read_of v2 u ≡ accepted t' fs →
+      r ≡ record { site = record { terms = t; n = length es }; tenant = record { terms = t'; n = length fs } } →
+      Laid es fs names l →
+      A) →
+      A
+  either {A} f = go (read_of v2 s) (read_of v2 u) refl refl read.reads
+    where
+      go : (x y : Reading) → read_of v2 s ≡ x → read_of v2 u ≡ y → ReadBy x y (Ok r) names l → A
+      go (refused n i) y e q h = absurd (let z : ◌≡◌ {A = ℕ} 0 1 = cc in let b : ⊥ = omega arith in b)
+      go (accepted t es) (refused n i) e q h = absurd (let z : ◌≡◌ {A = ℕ} 0 1 = cc in let b : ⊥ = omega arith in b)
+      go (accepted t es) (accepted t' fs) e q h = f t t' es fs e q (let both = h.0 in cc) h.1
 
-    pub rules-few : r.site.n + r.tenant.n ≤ 8190
-    rules-few = either few-rules
+  pub rules-few : r.site.n + r.tenant.n ≤ 8190
+  rules-few = either few-rules
 
-    pub renames : Renaming names r.site.n r.tenant.n
-    renames = either renaming
+  pub renames : Renaming names r.site.n r.tenant.n
+  renames = either renaming
 
-    pub never-outside :
-        None ≡ solved_of (joined_terms r.site.terms r.tenant.terms) l (r.site.n + r.tenant.n) →
-        ⊥
-    never-outside w =
-        either (λ t t' es fs e q. let clash = w ∙ planned t t' es fs e q in let z : ◌≡◌ {A = ℕ} 0 1 = cc in let b : ⊥ = omega arith in b)
+  pub never-outside :
+      None ≡ solved_of (joined_terms r.site.terms r.tenant.terms) l (r.site.n + r.tenant.n) →
+      ⊥
+  never-outside w =
+      either (λ t t' es fs e q same laid. let clash = w ∙ planned t t' es fs e q same laid in let z : ◌≡◌ {A = ℕ} 0 1 = cc in let b : ⊥ = omega arith in b)
 
-    pub joined-planned : (names' : List ℕ) →
-        Renamed names r.site.n r.tenant.n names' →
-        {x : Solution} →
-        Some x ≡ solved_of (joined_terms r.site.terms r.tenant.terms) l (r.site.n + r.tenant.n) →
-        {p : Plan} →
-        p ≡ plan_of names' x →
-        Joins s u (Ok p)
-    joined-planned names' renamed {x} w {p} f =
-        either
-        (λ t t' es fs e q. record {
-          answered =
-              subst (λ (y : Reading). JoinedBy (joined_of y (read_of v2 u)) (Ok p)) (sym e)
-              (subst (λ (y : Reading). JoinedBy (joined_of (accepted t es) y) (Ok p)) (sym q)
-              (answer t t' es fs e q names' renamed w f));
-        })
+  pub joined-planned : (names' : List ℕ) →
+      Renamed names r.site.n r.tenant.n names' →
+      {x : Solution} →
+      Some x ≡ solved_of (joined_terms r.site.terms r.tenant.terms) l (r.site.n + r.tenant.n) →
+      {p : Plan} →
+      p ≡ plan_of names' x →
+      Joins s u (Ok p)
+  joined-planned names' renamed {x} w {p} f =
+      either
+      (λ t t' es fs e q same laid. record {
+        answered =
+            subst (λ (y : Reading). JoinedBy (joined_of y (read_of v2 u)) (Ok p)) (sym e)
+            (subst (λ (y : Reading). JoinedBy (joined_of (accepted t es) y) (Ok p)) (sym q)
+            (answer t t' es fs e q same laid names' renamed w f));
+      })

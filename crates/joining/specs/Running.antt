@@ -1,15 +1,19 @@
 -- Two books joined, as the private functions go about it: what they ask of the runs that they are lent, and what they leave in them. Nothing
 -- here stands in a promise of a function that can be called from outside.
-use Rattle.std.specs.Prelude.{◌≡◌, Bool, ◌&&◌, List, ◌++◌, ℕ, ◌+◌, ◌*◌, ◌≤◌, ◌<◌, leb, length, get_or, ℤ, pos}
+use Rattle.std.specs.Prelude.{◌≡◌, Bool, ◌&&◌, List, ◌++◌, ℕ, ◌+◌, ◌*◌, ◌≤◌, ◌<◌, leb, length, get_or, ℤ, pos, Result, Ok, Err}
 use Rattle.lp.specs.declared.Constraint.{Constraint}
 use Rattle.lp.specs.declared.Terms.{Terms}
 use Rattle.lp.specs.Program.{constraint}
+use Rattle.answers.specs.declared.Refusal.{Refusal}
+use Rattle.answers.specs.Refusal.{refusal}
 use Rattle.records.specs.Layout.{v2}
 use Rattle.book.specs.declared.Head.{Head}
-use Rattle.book.specs.Reading.{accepted, Entry, read_of, rules_of, records_of}
+use Rattle.book.specs.Reading.{Reading, refused, accepted, Entry, read_of, rules_of, records_of}
 use Rattle.book.specs.Runs.{Few}
 use Rattle.book.specs.Promises.{head_of}
 use Rattle.engine.specs.Entries.{entry, entries}
+use Rattle.joining.specs.declared.JointRefusal.{JointRefusal}
+use Rattle.joining.specs.declared.JointRefusal.TheVariants.{Site, Tenant}
 use Rattle.joining.specs.declared.read.Heads.{Heads}
 
 abbrev pub no_rule : Constraint
@@ -41,7 +45,8 @@ pub record Stand (es : List Entry) (n : ℕ) (names : List ℕ) (l : List ℤ) :
   pub named : (i : ℕ) → i < length es → get_or names (n + i) 0 ≡ get_or (records_of es) i 0
   pub ruled : (i : ℕ) → i < length es → entry l (n + i + 2) ≡ get_or (rules_of es) i no_rule
 
-pub record ReadsBehind (s : List ℕ) (n : ℕ) (names : List ℕ) (l : List ℤ) (r : Head) (names' : List ℕ) (l' : List ℤ) : Type 0 where
+pub record ReadsBehind (s : List ℕ) (n : ℕ) (names : List ℕ) (l : List ℤ) (r : Result Head Refusal) (names' : List ℕ)
+    (l' : List ℤ) : Type 0 where
   pub answer : r ≡ head_of (read_of v2 s)
   pub same_names : length names' ≡ length names
   pub same_length : length l' ≡ length l
@@ -63,13 +68,15 @@ pub record Laid (es fs : List Entry) (names : List ℕ) (l : List ℤ) : Type 0 
   pub tenant-names : (i : ℕ) → i < length fs → get_or names (length es + i) 0 ≡ get_or (records_of fs) i 0
   pub rules : entries l 2 (length es + length fs) ≡ rules_of es ++ rules_of fs
 
-pub record ReadsBoth (s u : List ℕ) (r : Heads) (names : List ℕ) (l : List ℤ) : Type 0 where
-  pub site : r.site ≡ head_of (read_of v2 s)
-  pub tenant : r.tenant ≡ head_of (read_of v2 u)
-  pub laid : (t t' : Terms) (es fs : List Entry) →
-      read_of v2 s ≡ accepted t es →
-      read_of v2 u ≡ accepted t' fs →
-      Laid es fs names l
+-- the first refusal of the two, or what both read as and their chains
+abbrev pub ReadBy : Reading → Reading → Result Heads JointRefusal → List ℕ → List ℤ → Type 0
+ReadBy (refused n i) y r names l = r ≡ Err (Site (refusal n i))
+ReadBy (accepted t es) (refused n i) r names l = r ≡ Err (Tenant (refusal n i))
+ReadBy (accepted t es) (accepted t' fs) r names l =
+    (r ≡ Ok (record { site = record { terms = t; n = length es }; tenant = record { terms = t'; n = length fs } })) × Laid es fs names l
+
+pub record ReadsBoth (s u : List ℕ) (r : Result Heads JointRefusal) (names : List ℕ) (l : List ℤ) : Type 0 where
+  pub reads : ReadBy (read_of v2 s) (read_of v2 u) r names l
 
 -- ---- the tenant's records named
 

@@ -1,8 +1,10 @@
 // Both books read into the same two runs, the tenant's chain behind the site's, and the tenant's records named apart from the site's.
 ghost use Rattle.joining.specs.Running.{Behind, ReadsBehind, Roomy, ReadsBoth, Renaming, Renamed};
 
+use crate::JointRefusal;
+use answers::Refusal;
 use book::Head;
-use records::Version;
+use records::{Book, Version};
 
 // What the two books read as, but for their chains.
 #[derive(Clone, Copy)]
@@ -12,25 +14,39 @@ pub struct Heads {
 }
 
 // Reads a book into the runs behind n rules that stand there.
-fn read_behind(book: &[u8], names: &mut [u16], entries: &mut [i64], n: usize) -> Head
+fn read_behind(
+    bytes: &[u8],
+    names: &mut [u16],
+    entries: &mut [i64],
+    n: usize,
+) -> Result<Head, Refusal>
     requires { Behind names.old entries.old n }
-    ensures { ReadsBehind book.now n names.old entries.old result names.new entries.new }
+    ensures { ReadsBehind bytes.now n names.old entries.old result names.new entries.new }
 {
     let at = 6 + 3 * n;
-    reading::read(Version::Two, book, &mut names[n..], &mut entries[at..])
+    let book = Book {
+        version: Version::Two,
+        bytes,
+    };
+    reading::read(&book, &mut names[n..], &mut entries[at..])
 }
 
-// Reads both. A refused site leaves no rules, and the tenant is then read for nothing.
-pub fn read_both(site: &[u8], tenant: &[u8], names: &mut [u16], entries: &mut [i64]) -> Heads
+// Reads both. The site's refusal comes before any of the tenant's.
+pub fn read_both(
+    site: &[u8],
+    tenant: &[u8],
+    names: &mut [u16],
+    entries: &mut [i64],
+) -> Result<Heads, JointRefusal>
     requires { Roomy site.now tenant.now names.old entries.old }
     ensures { ReadsBoth site.now tenant.now result names.new entries.new }
 {
-    let first = read_behind(site, &mut *names, &mut *entries, 0);
-    let n = first.n;
-    let second = read_behind(tenant, &mut *names, &mut *entries, n);
-    Heads {
-        site: first,
-        tenant: second,
+    match read_behind(site, &mut *names, &mut *entries, 0) {
+        Err(refusal) => Err(JointRefusal::Site(refusal)),
+        Ok(site) => match read_behind(tenant, names, entries, site.n) {
+            Err(refusal) => Err(JointRefusal::Tenant(refusal)),
+            Ok(tenant) => Ok(Heads { site, tenant }),
+        },
     }
 }
 

@@ -4,10 +4,10 @@ ghost use Rattle.joining.specs.Running.{Roomy};
 
 use crate::JointRefusal;
 use crate::read::{read_both, rename};
-use answers::Plan;
+use answers::{Cause, Plan, Refusal};
 use joint_terms::joined_terms;
 
-// The site's refusal comes before any of the tenant's. Accepted books' numbers are all in range, so that the engine plans their rules.
+// Accepted books' numbers are all in range, so that the engine plans their rules, and the refusal beside its plan never comes.
 pub fn join_in(
     site: &[u8],
     tenant: &[u8],
@@ -17,24 +17,16 @@ pub fn join_in(
     requires { Roomy site.now tenant.now names.old entries.old }
     ensures { Joins site.now tenant.now result }
 {
-    let heads = read_both(site, tenant, &mut *names, &mut *entries);
+    let heads = read_both(site, tenant, &mut *names, &mut *entries)?;
     let first = heads.site;
-    let refusal = first.refusal;
-    if refusal.number != 0 {
-        return Err(JointRefusal::Site(refusal));
-    }
     let second = heads.tenant;
-    let refusal = second.refusal;
-    if refusal.number != 0 {
-        return Err(JointRefusal::Tenant(refusal));
-    }
     rename(&mut *names, first.n, second.n);
     match engine::solve(
         joined_terms(first.terms, second.terms),
         &mut *entries,
         first.n + second.n,
     ) {
-        None => Err(JointRefusal::Tenant(refusal)),
+        None => Err(JointRefusal::Tenant(Refusal::of(Cause::Bound, 0))),
         Some(solution) => Ok(plans::plan_of(solution, &*names)),
     }
 }

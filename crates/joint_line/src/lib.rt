@@ -14,7 +14,7 @@ use answers::{Plan, Refusal};
 use joining::JointRefusal;
 use line::append_turned;
 use report::Naming;
-use text::append_word;
+use text::{Line, append_word};
 
 // The line of a book that is turned back.
 fn refused_line(tenant: bool, refusal: Refusal, out: &mut [u8]) -> usize
@@ -23,9 +23,10 @@ fn refused_line(tenant: bool, refusal: Refusal, out: &mut [u8]) -> usize
     if out.len() < 256 {
         return 0;
     }
-    let end = append_turned(tenant, refusal, out);
-    append_word(b"\n", out, end);
-    end + 1
+    let mut line = Line { out, at: 0 };
+    append_turned(tenant, refusal, &mut line);
+    append_word(b"\n", &mut line);
+    line.at
 }
 
 // The line of an answer, at the start of a buffer of at least 256 bytes, and its length. A smaller buffer is left as it is, and 0 handed

@@ -1,31 +1,30 @@
-// The line of a book that is turned back, part by part, in a buffer that has room for it. Each function writes at a place and hands back the
-// place after what it wrote.
-ghost use Rattle.text.specs.Append.{HasRoom, Appended};
+// The line of a book that is turned back, part by part, on a line that has room for it.
+ghost use Rattle.text.specs.Line.{RoomIn, Added};
 ghost use Rattle.joint_line.specs.JointLine.{book_name, turned};
 
 use answers::Refusal;
 use numerals::append_number;
-use text::append_word;
+use text::{Line, append_word};
 
 // The name of a book.
-fn append_book(tenant: bool, out: &mut [u8], at: usize) -> usize
-    requires { HasRoom out.old at 7 }
-    ensures { Appended out.old at (book_name tenant) 7 out.new result }
+fn append_book(tenant: bool, line: &mut Line)
+    requires { RoomIn line.old 7 }
+    ensures { Added line.old (book_name tenant) 7 line.new }
 {
     if tenant {
-        append_word(b" tenant", out, at)
+        append_word(b" tenant", line)
     } else {
-        append_word(b" site", out, at)
+        append_word(b" site", line)
     }
 }
 
 // The line of a book that is turned back, but for its line feed.
-pub fn append_turned(tenant: bool, refusal: Refusal, out: &mut [u8]) -> usize
-    requires { HasRoom out.old 0 56 }
-    ensures { Appended out.old 0 (turned tenant refusal) 56 out.new result }
+pub fn append_turned(tenant: bool, refusal: Refusal, line: &mut Line)
+    requires { RoomIn line.old 56 }
+    ensures { Added line.old (turned tenant refusal) 56 line.new }
 {
-    let book = append_word(b"refused", out, 0);
-    let number = append_book(tenant, out, book);
-    let record = append_number(refusal.number as usize, out, number);
-    append_number(refusal.at as usize, out, record)
+    append_word(b"refused", line);
+    append_book(tenant, line);
+    append_number(refusal.number as usize, line);
+    append_number(refusal.at as usize, line);
 }

@@ -5,42 +5,37 @@
 mod again;
 mod tables;
 
-ghost use Rattle.records.specs.Layout.{layout_of};
 ghost use Rattle.book.specs.Judging.{Judges};
 
 use again::again;
-use answers::Refusal;
+use answers::{Cause, Refusal};
 use reader::visit;
-use records::{Sound, Version};
-use rules::number_of;
+use records::{Book, Sound};
 use tables::{note, noted};
 
 // A link of the chain judged, which record `at` holds, by the labels met on the n records passed before it. A record that was passed was
 // sound then, and its label is noted, so a link back to it is found by its label. The label of a sound rule is noted; else the table stays
 // as it is. A link of 0 ends the chain and is not for judging: it would be taken for one to the header.
 pub fn judge(
-    version: Version,
-    book: &[u8],
+    book: &Book,
     labels: &mut [u64],
     count: u16,
     n: usize,
     at: u16,
     link: u16,
 ) -> Result<Sound, Refusal>
-    ensures { Judges (layout_of version) book.now labels.old count n at link
-        result labels.new }
+    ensures { Judges book.now.layout book.now.bytes labels.old count n at link result labels.new }
 {
     if link > count {
-        return Err(Refusal { number: 6, at });
+        return Err(Refusal::of(Cause::Link, at));
     }
-    let decoded = visit(version, book, link);
-    let Ok(sound) = decoded else {
-        let number = number_of(decoded);
-        return Err(Refusal { number, at: link });
+    let sound = match visit(book, link) {
+        Ok(sound) => sound,
+        Err(cause) => return Err(Refusal::of(cause, link)),
     };
     let label = sound.rule.label;
     if noted(&*labels, label) {
-        return again(version, book, n, at, link);
+        return Err(again(book, n, at, link));
     }
     note(labels, label);
     Ok(sound)

@@ -8,7 +8,7 @@ use borrow.Author.Tests.{ne_eqb}
 use native.Mathlib.Omega.{arith}
 use Rattle.language.specs.Grammar.{Factor, Term, Side, Relation, Rule, number, rate_x, rate_y, minus, group, factor, times, term, plus, less, at_most, at_least, pad, spell_factor, spell_term, spell_side, spell_relation, spell, Digits, none, more, LawfulFactor, LawfulTerm, LawfulSide, LawfulRule}
 use Rattle.forms.specs.Value.{Value, negated, sum, difference, product, conclude}
-use Rattle.language.specs.Value.{value_factor, value_term, value_side, kind_of, value_rule}
+use Rattle.language.specs.Value.{value_factor, value_term, value_side, sense_of, value_rule}
 use Rattle.language.specs.Parser.{answer}
 use Rattle.language.proofs.Complete.{unique-sides}
 use Rattle.language.proofs.Language.{answered}
@@ -154,8 +154,8 @@ mutual
 pub bare-worth : (r : Rule) → value_rule (bare r) ≡ value_rule r
 unfolding value_rule
 bare-worth r =
-    ap (λ (v : Value). conclude (kind_of r.relation) v (value_side (bare_side r.right))) (worth-side r.left)
-    ∙ ap (conclude (kind_of r.relation) (value_side r.left)) (worth-side r.right)
+    ap (λ (v : Value). conclude (sense_of r.relation) v (value_side (bare_side r.right))) (worth-side r.left)
+    ∙ ap (conclude (sense_of r.relation) (value_side r.left)) (worth-side r.right)
 
 -- ---- each text in one way, spaces aside
 

@@ -71,6 +71,7 @@ pub one-factor : Begins terms
 unfolding spell_factor LawfulFactor value_factor
 one-factor = record { lawful = λ a d l. l; spelt = λ a r. refl; worth = λ a. refl; step = term-step }
 
+-- Each `refl` here and of sides computes at constructors of its own: a lemma over the item would take them all as premises, and be longer.
 pub by_star : Joins terms 42 times product
 unfolding spell_factor LawfulFactor value_factor
 by_star =
@@ -80,8 +81,7 @@ by_star =
       no_space = refl;
       lawful = λ b i a d l m. (l, m);
       spelt = λ b i a r. refl;
-      worth =
-          λ b i a. refl;
+      worth = λ b i a. refl;
       step = factors_star;
     }
 
@@ -116,8 +116,7 @@ by_plus =
       no_space = refl;
       lawful = λ b i a d l m. (l, m);
       spelt = λ b i a r. refl;
-      worth =
-          λ b i a. refl;
+      worth = λ b i a. refl;
       step = terms-plus;
     }
 
@@ -130,7 +129,6 @@ by-minus =
       no_space = refl;
       lawful = λ b i a d l m. (l, m);
       spelt = λ b i a r. refl;
-      worth =
-          λ b i a. refl;
+      worth = λ b i a. refl;
       step = terms-less;
     }

@@ -9,8 +9,9 @@ use lib.ListN.{length, length-append}
 use borrow.Author.Tests.{le-leb, ne_eqb}
 use Rattle.forms.specs.Value.{Value}
 use Rattle.language.specs.Grammar.{Factor, Term, Side, Relation, Rule, number, rate_x, rate_y, minus, group, factor, times, term, plus, less, at_most, at_least, pad, spell_factor, spell_term, spell_side, spell_relation, spell, Digits, more, Number, LawfulFactor, LawfulTerm, LawfulSide, LawfulRule}
-use Rattle.language.specs.Parser.{Parsed, fail, got, bind, first, digit, lead, skip, run, past, next, beyond, closed, number_at, factor_by, term_by, side_by, side_of, ended, right_of, relation_of, parse}
-use Rattle.language.proofs.Digits.{run-digit, past-digit, run-other, past-other, run_none, past-none}
+use Rattle.scanning.specs.Bytes.{first, digit, run, past}
+use Rattle.language.specs.Parser.{Parsed, fail, got, bind, lead, skip, next, beyond, closed, number_at, factor_by, term_by, side_by, side_of, ended, right_of, relation_of, parse}
+use Rattle.scanning.proofs.Runs.{run-digit, past-digit, run-other, past-other, run_none, past-none}
 use Rattle.language.proofs.Steps.{factor-digit, factor-x, factor-y, factor-minus, factor-group, factors-end, terms-end}
 use Rattle.language.proofs.Rules.{rule, right-got, relation-most, relation-least}
 use Rattle.language.proofs.Chain.{Chain, Begins, Joins, terms, sides, one-factor, one-term, by_star, by_plus, by-minus}

@@ -4,12 +4,14 @@ use mathlib.Core.Path.{◌≡◌, refl}
 use mathlib.Core.List.{map, [], ◌∷◌}
 use lib.IntN.{pos, neg_ℤ}
 use Rattle.std.specs.Prelude.{Ok}
+use Rattle.forms.specs.declared.Sense.TheVariants.{AtMost}
 use Rattle.language.specs.Grammar as G
 use Rattle.language.specs.Grammar.{number, rate_x, rate_y, minus, factor, times, term, less, at_most, spell, spell_side, spell_term, spell_factor, spell_relation, pad}
 use Rattle.text.specs.Number.{value_from}
 use Rattle.forms.specs.Value.{limited, numeral, constant, multiplied, negated, sum, difference, product, final, conclude}
 use Rattle.language.specs.Value.{value_factor, value_term, value_side, value_rule}
-use Rattle.language.specs.Parser.{answer, parse, got, relation_of, right_of, side_of, side_by, more_terms, term_by, more_factors, factor_by, lead, skip, run, past}
+use Rattle.scanning.specs.Bytes.{run, past}
+use Rattle.language.specs.Parser.{answer, parse, got, relation_of, right_of, side_of, side_by, more_terms, term_by, more_factors, factor_by, lead, skip}
 use Rattle.text.specs.Text.{text}
 use Rattle.language.specs.Examples.{Example, examples}
 
@@ -33,7 +35,7 @@ pub tree_spells : spell tree ≡ text "-2*x - y -3<=4"
 unfolding spell spell_side spell_term spell_factor spell_relation pad
 tree_spells = refl
 
-pub tree-value : value_rule tree ≡ Ok (record { kind = 1; a = neg_ℤ (pos 2); b = neg_ℤ (pos 1); c = pos 7 })
+pub tree-value : value_rule tree ≡ Ok (record { sense = AtMost; a = neg_ℤ (pos 2); b = neg_ℤ (pos 1); c = pos 7 })
 unfolding limited value_from numeral constant multiplied negated sum difference product value_factor value_term value_side final conclude value_rule
 tree-value = refl
 

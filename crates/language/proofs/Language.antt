@@ -1,5 +1,5 @@
 -- The language, read exactly. A text is answered with the value of the one lawful tree that spells it, or there is no such tree and it
--- is refused 13.
+-- is answered with the flaw of a text.
 use mathlib.Core.Path.{◌≡◌, refl, ap, sym, ◌∙◌, subst}
 use mathlib.Core.Logic.{◌⊎◌, inl, inr}
 use mathlib.Core.Bool.{Bool, true, false, cond}

@@ -12,12 +12,14 @@ use borrow.Author.Tests.{leb-true}
 use Rattle.forms.specs.declared.Form.{Form}
 use Rattle.std.specs.Prelude.{Ok, Err}
 use Rattle.forms.specs.declared.Flaw.TheVariants.{Text, Product, Size}
+use Rattle.forms.specs.declared.Sense.{Sense}
+use Rattle.forms.specs.declared.Sense.TheVariants.{AtMost, AtLeast}
 use Rattle.forms.specs.declared.Written.{Written}
 use Rattle.language.specs.Grammar as G
-use Rattle.language.specs.Grammar.{number, rate_x, rate_y, minus, group, factor, times, term, plus, less, at_most, at_least}
+use Rattle.language.specs.Grammar.{number, rate_x, rate_y, minus, group, factor, times, term, plus, less}
 use Rattle.text.specs.Number.{value_from}
-use Rattle.forms.specs.Value.{Value, Typed, number_of, refusal_of, inside, limit, form, limited, numeral, constant, multiplied, mul_forms, add_forms, sub_forms, negated, sum, difference, product, combine, no_rule, written, final, conclude}
-use Rattle.language.specs.Value.{value_factor, value_term, value_side, kind_of, value_rule}
+use Rattle.forms.specs.Value.{Value, Typed, kind_of, number_of, refusal_of, inside, limit, form, limited, numeral, constant, multiplied, mul_forms, add_forms, sub_forms, negated, sum, difference, product, combine, no_rule, written, final, conclude}
+use Rattle.language.specs.Value.{value_factor, value_term, value_side, sense_of, value_rule}
 use Rattle.language.specs.Parser.{answer}
 use Rattle.language.proofs.Language.{answered, Reads, Refuses, language}
 
@@ -103,9 +105,13 @@ mutual
 abbrev pub Kind : ℕ → Type 0
 Kind k = (k ≡ 1) ⊎ (k ≡ 2)
 
+kind-of : (k : Sense) → Kind (kind_of k)
+kind-of AtMost = inl refl
+kind-of AtLeast = inr refl
+
 -- an accepted rule: kind 1 or 2, a and b at most 32,767 and c at most 1,000,000,000 either way
 pub record InRange (w : Written) : Type 0 where
-  pub kind : Kind w.kind
+  pub kind : Kind (kind_of w.sense)
   pub a : nat_abs w.a ≤ 32767
   pub b : nat_abs w.b ≤ 32767
   pub c : nat_abs w.c ≤ 1000000000
@@ -114,9 +120,9 @@ abbrev pub Sound : Typed → Type 0
 Sound (Ok w) = InRange w
 Sound (Err e) = Fault (refusal_of e).number × ((refusal_of e).at ≡ 0)
 
-final-sound : (w : Written) → Kind w.kind → Sound (final w)
+final-sound : (w : Written) → Sound (final w)
 unfolding final
-final-sound w k = go (inside 32767 w.a) refl (inside 32767 w.b) refl (inside limit w.c) refl
+final-sound w = go (inside 32767 w.a) refl (inside 32767 w.b) refl (inside limit w.c) refl
   where
     go : (s : Bool) →
         inside 32767 w.a ≡ s →
@@ -127,7 +133,7 @@ final-sound w k = go (inside 32767 w.a) refl (inside 32767 w.b) refl (inside lim
         Sound (cond (s && (t && u)) (Ok w) (no_rule Size))
     go true e true f true g =
         record {
-          kind = k;
+          kind = kind-of w.sense;
           a = leb-true (nat_abs w.a) 32767 e;
           b = leb-true (nat_abs w.b) 32767 f;
           c = leb-true (nat_abs w.c)
@@ -137,22 +143,18 @@ final-sound w k = go (inside 32767 w.a) refl (inside 32767 w.b) refl (inside lim
     go true e false f u g = (inr refl, refl)
     go false e t f u g = (inr refl, refl)
 
-conclude-sound : (k : ℕ) → Kind k → (v w : Value) → Plain v → Plain w → Sound (conclude k v w)
+conclude-sound : (k : Sense) (v w : Value) → Plain v → Plain w → Sound (conclude k v w)
 unfolding conclude
-conclude-sound k h (Ok f) (Ok g) p q = final-sound (written k f g) h
-conclude-sound k h (Ok f) (Err e) p q = (q, refl)
-conclude-sound k h (Err e) (Ok g) p q = (p, refl)
-conclude-sound k h (Err e) (Err d) p q = (p, refl)
-
-kind-of : (k : G.Relation) → Kind (kind_of k)
-kind-of at_most = inl refl
-kind-of at_least = inr refl
+conclude-sound k (Ok f) (Ok g) p q = final-sound (written k f g)
+conclude-sound k (Ok f) (Err e) p q = (q, refl)
+conclude-sound k (Err e) (Ok g) p q = (p, refl)
+conclude-sound k (Err e) (Err d) p q = (p, refl)
 
 -- a tree's value is a rule within its limits, or 14, or 15
 pub value-sound : (r : G.Rule) → Sound (value_rule r)
 unfolding value_rule
 value-sound r =
-    conclude-sound (kind_of r.relation) (kind-of r.relation) (value_side r.left) (value_side r.right) (side-plain r.left)
+    conclude-sound (sense_of r.relation) (value_side r.left) (value_side r.right) (side-plain r.left)
     (side-plain r.right)
 
 not_thirteen : Fault 13 → ⊥

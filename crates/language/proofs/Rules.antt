@@ -5,7 +5,8 @@ use mathlib.Core.List.{List}
 use Prim.Native.Nat.{ℕ}
 use lib.Dec.{eqb}
 use Rattle.language.specs.Grammar.{Side, Relation, Rule, at_most, at_least}
-use Rattle.language.specs.Parser.{Parsed, fail, got, bind, first, tail, lead, skip, next, beyond, side_of, ended, right_of, relation_of}
+use Rattle.scanning.specs.Bytes.{first, tail}
+use Rattle.language.specs.Parser.{Parsed, fail, got, bind, lead, skip, next, beyond, side_of, ended, right_of, relation_of}
 
 abbrev pub rule : Side → ℕ → Relation → Side → ℕ → Rule
 rule a i k b j = record { left = a; gap = i; relation = k; right = b; end = j }

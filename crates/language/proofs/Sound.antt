@@ -9,8 +9,9 @@ use lib.ListN.{length}
 use borrow.Author.Tests.{leb-true, eqb-true}
 use Rattle.forms.specs.Value.{Value}
 use Rattle.language.specs.Grammar.{Factor, Term, Side, Relation, Rule, number, rate_x, rate_y, minus, group, at_most, at_least, pad, spell_factor, spell_term, spell_side, spell_relation, spell, Digits, none, more, LawfulFactor, LawfulTerm, LawfulSide}
-use Rattle.language.specs.Parser.{Parsed, fail, got, bind, first, tail, digit, lead, skip, run, past, next, beyond, inner, closed, number_at, factor_by, term_by, more_factors, side_by, more_terms, side_of, ended, right_of, relation_of, parse}
-use Rattle.language.proofs.Digits.{digit_range, run-some}
+use Rattle.scanning.specs.Bytes.{first, tail, digit, run, past}
+use Rattle.language.specs.Parser.{Parsed, fail, got, bind, lead, skip, next, beyond, inner, closed, number_at, factor_by, term_by, more_factors, side_by, more_terms, side_of, ended, right_of, relation_of, parse}
+use Rattle.scanning.proofs.Runs.{digit_range, run-some}
 use Rattle.language.proofs.Chain.{Chain, Begins, Joins, one-factor, one-term, by_star, by_plus, by-minus}
 use Rattle.language.proofs.Rules.{rule}
 

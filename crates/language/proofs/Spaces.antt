@@ -7,7 +7,8 @@ use native.Mathlib.Omega.{arith}
 use lib.Dec.{eqb}
 use lib.ListN.{length}
 use Rattle.language.specs.Grammar.{pad}
-use Rattle.language.specs.Parser.{first, tail, digit, lead, skip, next, beyond}
+use Rattle.scanning.specs.Bytes.{first, tail, digit}
+use Rattle.language.specs.Parser.{lead, skip, next, beyond}
 
 pub lead-pad : (i : ℕ) (q : List ℕ) → lead q ≡ 0 → lead (pad i q) ≡ i
 unfolding lead pad

@@ -5,7 +5,8 @@ use mathlib.Core.List.{List}
 use Prim.Native.Nat.{ℕ, suc}
 use lib.Dec.{eqb}
 use Rattle.language.specs.Grammar.{Term, Side, rate_x, rate_y, minus, factor, times, term, plus, less}
-use Rattle.language.specs.Parser.{fail, got, bind, digit, lead, skip, next, beyond, inner, closed, number_at, factor_by, term_by, more_factors, side_by, more_terms}
+use Rattle.scanning.specs.Bytes.{digit}
+use Rattle.language.specs.Parser.{fail, got, bind, lead, skip, next, beyond, inner, closed, number_at, factor_by, term_by, more_factors, side_by, more_terms}
 
 module _ (k d : ℕ) (s : List ℕ) where
   pub factor-digit : digit (next s) ≡ true → factor_by (suc k) d s ≡ number_at (lead s) (skip s)

@@ -1,6 +1,7 @@
 -- The parser as a function of texts: side, term and factor call each other, and the remaining text falls. It hands back the tree that
 -- it read. A call takes one unit of fuel, of which three for each byte and three more are enough.
-use Rattle.std.specs.Prelude.{Bool, cond, ◌&&◌, List, [], ◌∷◌, ℕ, zero, suc, ◌+◌, ◌*◌, leb, eqb, length}
+use Rattle.std.specs.Prelude.{cond, List, [], ◌∷◌, ℕ, zero, suc, ◌+◌, ◌*◌, leb, eqb, length}
+use Rattle.scanning.specs.Bytes.{first, tail, digit, run, past}
 use Rattle.forms.specs.declared.Flaw.TheVariants.{Text}
 use Rattle.language.specs.Grammar.{Factor, Term, Side, Relation, Rule, number, rate_x, rate_y, minus, group, factor, times, term, plus, less, at_most, at_least}
 use Rattle.forms.specs.Value.{Typed, no_rule}
@@ -15,19 +16,6 @@ abbrev pub bind : {A B : Type 0} → Parsed A → (A → List ℕ → Parsed B) 
 bind fail f = fail
 bind (got a r) f = f a r
 
--- ---- bytes
-
-abbrev pub first : List ℕ → ℕ
-first [] = 0
-first (b ∷ s) = b
-
-abbrev pub tail : List ℕ → List ℕ
-tail [] = []
-tail (b ∷ s) = s
-
-abbrev pub digit : ℕ → Bool
-digit b = leb 48 b && leb b 57
-
 -- ---- spaces: how many there are, and the text after them
 
 unfoldable pub lead : List ℕ → ℕ
@@ -38,15 +26,7 @@ unfoldable pub skip : List ℕ → List ℕ
 skip [] = []
 skip (b ∷ s) = cond (eqb b 32) (skip s) (b ∷ s)
 
--- ---- digits: as many as there are, and the text after them
-
-unfoldable pub run : List ℕ → List ℕ
-run [] = []
-run (b ∷ s) = cond (digit b) (b ∷ run s) []
-
-unfoldable pub past : List ℕ → List ℕ
-past [] = []
-past (b ∷ s) = cond (digit b) (past s) (b ∷ s)
+-- ---- a number of at most ten digits
 
 abbrev pub number_at : ℕ → List ℕ → Parsed Factor
 number_at i s = cond (leb (length (run s)) 10) (got (number i (run s)) (past s)) fail
@@ -125,6 +105,6 @@ abbrev pub judged : Parsed Rule → Typed
 judged fail = no_rule Text
 judged (got r s) = value_rule r
 
--- what a text reads as: 13 if it is too long or spells no rule, else the value of its rule
+-- what a text reads as: the flaw of a text if it is too long or spells no rule, else the value of its rule
 unfoldable pub answer : List ℕ → Typed
 answer s = cond (leb (length s) 120) (judged (parse s)) (no_rule Text)

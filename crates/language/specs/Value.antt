@@ -1,8 +1,10 @@
--- The value of a tree: the form a·x + b·y + c that it comes to, or the refusal, 14 or 15, of the first number or operation concerned.
+-- The value of a tree: the form a·x + b·y + c that it comes to, or the flaw, a product's or a size's, of the first number or operation.
 -- Of a rule: the left side, then the right, then the final a, b and c. It rests on the trees (Grammar) and on the operations on values
 -- (`forms`).
-use Rattle.std.specs.Prelude.{ℕ, pos, Ok}
+use Rattle.std.specs.Prelude.{pos, Ok}
 use Rattle.text.specs.Number.{value_from}
+use Rattle.forms.specs.declared.Sense.{Sense}
+use Rattle.forms.specs.declared.Sense.TheVariants.{AtMost, AtLeast}
 use Rattle.forms.specs.Value.{Value, Typed, form, numeral, negated, sum, difference, product, conclude}
 use Rattle.language.specs.Grammar as G
 use Rattle.language.specs.Grammar.{number, rate_x, rate_y, minus, group, factor, times, term, plus, less, at_most, at_least}
@@ -26,9 +28,9 @@ unfoldable mutual
 
 -- ---- rules
 
-abbrev pub kind_of : G.Relation → ℕ
-kind_of at_most = 1
-kind_of at_least = 2
+abbrev pub sense_of : G.Relation → Sense
+sense_of at_most = AtMost
+sense_of at_least = AtLeast
 
 unfoldable pub value_rule : G.Rule → Typed
-value_rule r = conclude (kind_of r.relation) (value_side r.left) (value_side r.right)
+value_rule r = conclude (sense_of r.relation) (value_side r.left) (value_side r.right)

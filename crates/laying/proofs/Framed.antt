@@ -3,10 +3,10 @@
 use Rattle.std.specs.Prelude.{Option, None, Some}
 use mathlib.Core.Path.{◌≡◌, refl, sym, ◌∙◌, ap, ap₂, subst}
 use mathlib.Core.List.{List, ◌∷◌}
-use mathlib.Core.Bool.{Bool, true, false, cond}
+use mathlib.Core.Bool.{true, cond}
 use Prim.Native.Nat.{ℕ, zero, suc, ◌+◌, ◌*◌, ◌≤◌}
 use native.Mathlib.Omega.{arith}
-use lib.ListN.{length, get_or, set}
+use lib.ListN.{length, set}
 use lib.Seq.{set-get_or}
 use lib.IntN.{ℤ, pos}
 use Rattle.lp.specs.declared.Constraint.{Constraint}
@@ -21,7 +21,7 @@ use Rattle.boundary.specs.Size.{horizon}
 use Rattle.boundary.specs.Ring.{grown, corners}
 use Rattle.region.specs.Listing.{Lists, taken, framed, corners_of, put_points}
 use Rattle.region.proofs.Theorems.{order-names-rules}
-use Rattle.region.proofs.Frames.{fit, fit-taken, framed-length, framed-x, framed-y, framed-horizon, chosen-framed}
+use Rattle.region.proofs.Frames.{fit-taken, framed-length, framed-x, framed-y, framed-horizon, chosen-framed}
 use Rattle.laying.specs.Laying.{Names}
 use Rattle.laying.specs.Asked.{Stays}
 use Rattle.laying.specs.Asked as asked
@@ -58,16 +58,6 @@ framed-twice f e n room =
     ∙ put_present F (n + 2) horizon (framed-horizon f e n room)
 
 -- ---- what a listing leaves
-
--- a sample of the rules was listed, or not
-pub stays : (f : Floors) (e : List ℤ) (n : ℕ) {order ring ring' : List ℕ} {out e' out' : List ℤ} {r : Option ℕ} →
-    Lists f e n order ring out r e' ring' out' →
-    Stays f e n e'
-stays f e n {order = order} {ring = ring} {out = out} {e' = e'} l = go (taken f e n order (length ring) (length out)) refl l.run
-  where
-    go : (b : Bool) → taken f e n order (length ring) (length out) ≡ b → e' ≡ cond b (framed f e n) e → Stays f e n e'
-    go true t q = let x = fit f e n order (length ring) (length out) t in asked.framed q x.room x.rules
-    go false t q = asked.untouched q
 
 -- all of them are listed from what was left as from the run before
 module _

@@ -1,4 +1,4 @@
--- The promise of `lay` on each of its two ways; and what is listed where all numbers are within their ranges.
+-- The promise of `lay_sampled` where corners are listed; and what is listed where all numbers are within their ranges.
 use Rattle.std.specs.Prelude.{Option, None, Some}
 use mathlib.Core.Path.{◌≡◌, refl, sym, ◌∙◌, ap}
 use mathlib.Core.List.Memᴰ
@@ -17,13 +17,13 @@ use Rattle.lp.specs.Range.{SmallConstraint, SmallSystem}
 use Rattle.theory.proofs.Lists.{for-members}
 use Rattle.engine.specs.Entries.{entries}
 use Rattle.amounts.specs.Tests.{rule_in_range, floors_in_range}
-use Rattle.amounts.proofs.Tests.{both, rule-small, floors-small}
+use Rattle.amounts.proofs.Tests.{both, rule-small}
 use Rattle.region.specs.Listing.{Lists, taken, framed, corners_of, put_points}
 use Rattle.region.proofs.Theorems.{places, order-names-rules, listed-at-most}
-use Rattle.region.proofs.Frames.{fit, fit-taken, outside}
+use Rattle.region.proofs.Frames.{fit, fit-taken}
 use Rattle.region.proofs.Points.{read_point, corners-read}
 use Rattle.laying.specs.Laying.{Names, roomy, ready, within, Lays}
-use Rattle.laying.specs.Asked.{Ordering, Ordered}
+use Rattle.laying.specs.Asked.{Ordered}
 use Rattle.laying.proofs.Framed.{framed-rules, lists-again}
 
 -- corners are listed
@@ -77,53 +77,27 @@ module _ (f : Floors) (e : List ℤ) (n ring corners : ℕ) where
 
 -- ---- the promise
 
-module _ (f : Floors) (e : List ℤ) (order ring : List ℕ) (corners : List ℤ) {t : Bool}
-    (told : t ≡ ready f (length order) (length ring) (length corners)) where
-  module _ (so : t ≡ true) where
-    x : Ready f (length order) (length ring) (length corners)
-    x = ready-said f (length order) (length ring) (length corners) (sym told ∙ so)
+module _
+    (f : Floors) (e : List ℤ) (order ring : List ℕ) (corners : List ℤ)
+    {t : Bool} (told : t ≡ ready f (length order) (length ring) (length corners)) (so : t ≡ true) where
+  x : Ready f (length order) (length ring) (length corners)
+  x = ready-said f (length order) (length ring) (length corners) (sym told ∙ so)
 
-    pub ordering : Ordering f order
-    ordering = record { floors-small = floors-small {f = f} x.floors; few = x.few }
-
-    pub lays-listed : {e' : List ℤ} {order' : List ℕ} →
-        Ordered f e (length order) e' order' →
-        length order' ≡ length order →
-        {r : Option ℕ} {e'' : List ℤ} {ring' : List ℕ} {corners' : List ℤ} →
-        Lists f e' (length order) order' ring corners r e'' ring' corners' →
-        Lays f e order ring corners r e'' order' ring' corners'
-    lays-listed {order' = order'} o same l =
-        record {
-          listed =
-              lists-again f e (length order) order' ring corners x.few x.ring-room x.corners-room x.floors o.named same
-              o.run l;
-          as_long = same;
-          named = λ r. o.named;
-          left = λ r. absurd (true≢false (sym so ∙ told ∙ r));
-        }
-
-  pub lays-outside : t ≡ false → Lays f e order ring corners None e order ring corners
-  lays-outside not =
+  pub lays-listed : {e' : List ℤ} {order' : List ℕ} →
+      Ordered f e (length order) e' order' →
+      length order' ≡ length order →
+      {r : Option ℕ} {e'' : List ℤ} {ring' : List ℕ} {corners' : List ℤ} →
+      Lists f e' (length order) order' ring corners r e'' ring' corners' →
+      Lays f e order ring corners r e'' order' ring' corners'
+  lays-listed {order' = order'} o same l =
       record {
         listed =
-            outside f e (length order) order ring corners refl
-            (go (taken f e (length order) order (length ring) (length corners)) refl);
-        as_long = refl;
-        named = λ r. absurd (true≢false (sym r ∙ sym told ∙ not));
-        left = λ r. refl;
+            lists-again f e (length order) order' ring corners x.few x.ring-room x.corners-room x.floors o.named same
+            o.run l;
+        as_long = same;
+        named = λ r. o.named;
+        left = λ r. absurd (true≢false (sym so ∙ told ∙ r));
       }
-    where
-      go : (b : Bool) → taken f e (length order) order (length ring) (length corners) ≡ b → b ≡ false
-      go true q =
-          let y = fit f e (length order) order (length ring) (length corners) q in
-          absurd
-          (true≢false
-          (sym
-          (is-ready f (length order) (length ring) (length corners)
-          (record { few = y.few; ring-room = y.ring-room; corners-room = y.out-room; floors = y.floors }))
-          ∙ sym told
-          ∙ not))
-      go false q = refl
 
 -- ---- what a caller finds
 

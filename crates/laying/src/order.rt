@@ -5,6 +5,7 @@ ghost use Rattle.std.specs.Prelude.{◌≡◌, ◌≤◌, length};
 ghost use Rattle.lp.specs.Range.{SmallFloors};
 ghost use Rattle.region.proofs.Theorems.{places};
 ghost use Rattle.laying.specs.Asked.{Ordering, Stays, Ordered};
+ghost use Rattle.laying.specs.Laying.{Names};
 
 use lp::{Constraint, Floors};
 use sorting::keys::{ByAngle, Frame};
@@ -62,40 +63,41 @@ fn put_sample(order: &mut [u16]) -> usize
     k
 }
 
-// Whether so many corners are many for a sample.
-fn is_many(listed: Option<usize>) -> bool {
-    listed.is_some_and(|count| 16 < count)
-}
-
-// Whether the rules are to be sorted: without a sample always, and else if many of the sample are edges. The sample's boundary has runs of
-// its own; the floors are put before the rules, and the horizon after them.
-fn is_sorted(floors: Floors, run: &mut [i64], order: &mut [u16], sampled: bool) -> bool
+// Whether many of a sample of the rules are edges. The sample's boundary has runs of its own; the floors are put before the rules, and the
+// horizon after them.
+fn has_many_edges(floors: Floors, run: &mut [i64], order: &mut [u16]) -> bool
     requires { length order.old ≤ 65533 }
     ensures { Stays floors run.old (length order.old) run.new }
 {
-    if sampled {
-        let n = order.len();
-        let k = put_sample(&mut *order);
-        let mut ring = [0u16; 136];
-        let mut corners = [0i64; 201];
-        is_many(region::corners(floors, run, n, &order[0..k], &mut ring, &mut corners))
-    } else {
-        true
-    }
+    let n = order.len();
+    let k = put_sample(&mut *order);
+    let mut ring = [0u16; 136];
+    let mut corners = [0i64; 201];
+    let listed = region::corners(floors, run, n, &order[..k], &mut ring, &mut corners);
+    listed.is_some_and(|count| 16 < count)
 }
 
-// All rules, as many as the order is long: by angle, or in the chain's order.
-pub fn put_order(floors: Floors, run: &mut [i64], order: &mut [u16], sampled: bool)
+// All rules, as many as the order is long, by the angles of their normals.
+pub fn put_angles(floors: Floors, run: &[i64], order: &mut [u16])
+    requires { Ordering floors order.old }
+    ensures { Names (length order.old) order.new }
+{
+    count_rules(&mut *order);
+    let angles = ByAngle {
+        keys: run,
+        frame: frame(floors),
+    };
+    sort(&angles, order);
+}
+
+// All rules, as many as the order is long: by angle where many of a sample are edges, and else in the chain's order.
+pub fn put_order(floors: Floors, run: &mut [i64], order: &mut [u16])
     requires { Ordering floors order.old }
     ensures { Ordered floors run.old (length order.old) run.new order.new }
 {
-    let sorted = is_sorted(floors, &mut *run, &mut *order, sampled);
-    count_rules(&mut *order);
-    if sorted {
-        let angles = ByAngle {
-            keys: &*run,
-            frame: frame(floors),
-        };
-        sort(&angles, order);
+    if has_many_edges(floors, &mut *run, &mut *order) {
+        put_angles(floors, &*run, order);
+    } else {
+        count_rules(order);
     }
 }

@@ -10,8 +10,7 @@ use Rattle.lp.specs.Range.{SmallConstraint}
 use Rattle.model.proofs.Bounds.{det-small}
 use Rattle.boundary.proofs.Bounds.{meet-x-small, meet-y-small}
 use Rattle.amounts.specs.Tests.{rule_in_range}
-use Rattle.amounts.specs.Sizes.{Distance}
-use Rattle.engine.specs.Sizes.{Lines}
+use Rattle.exact.specs.Sizes.{Distance, Lines}
 use Rattle.amounts.proofs.Tests.{both, rule-small, rule-passes}
 use Rattle.lines.specs.Sides.{side_of, Three}
 

@@ -1,37 +1,43 @@
-// Digits put into a buffer that has room for them. Each function writes at a place and hands back the place after what it wrote.
-ghost use Rattle.std.specs.Prelude.{[], ◌∷◌, length};
+// The digits of a number. They are put into a buffer, and not on a line: there each digit would load and store the line's place anew, and a
+// number take half as long again.
+ghost use Rattle.std.specs.Prelude.{length};
 ghost use Rattle.text.specs.Number.{two_digits, decimal};
 ghost use Rattle.text.specs.Append.{HasRoom, HasRoomForTwo, Appended};
+ghost use Rattle.text.specs.Line.{RoomIn, Added};
 
-// One byte.
-fn append_byte(b: u8, out: &mut [u8], at: usize) -> usize
-    requires { HasRoom out.old at 1 }
-    ensures { Appended out.old at (b ∷ []) 1 out.new result }
-{
-    out[at] = b;
-    at + 1
-}
+use text::Line;
 
-// A number below 100, as two digits.
-fn append_two(n: usize, out: &mut [u8], at: usize) -> usize
+// A number below 100 as two digits from a place on, and the place after them.
+fn put_two(n: usize, out: &mut [u8], at: usize) -> usize
     requires { HasRoomForTwo n out.old at }
     ensures { Appended out.old at (two_digits n) 2 out.new result }
 {
-    let last = append_byte(b'0' + (n / 10) as u8, out, at);
-    append_byte(b'0' + (n % 10) as u8, out, last)
+    out[at] = b'0' + (n / 10) as u8;
+    out[at + 1] = b'0' + (n % 10) as u8;
+    at + 2
 }
 
-// A number in decimal: the digits before the last two come first.
-pub fn put_decimal(n: usize, out: &mut [u8], at: usize) -> usize
-    requires { HasRoom out.old at (length (decimal n)) }
-    ensures { Appended out.old at (decimal n) (length (decimal n)) out.new result }
+// A number in decimal at the start of a buffer, and how many digits it has: those before the last two come first.
+fn put_decimal(n: usize, out: &mut [u8]) -> usize
+    requires { HasRoom out.old 0 (length (decimal n)) }
+    ensures { Appended out.old 0 (decimal n) (length (decimal n)) out.new result }
 {
     if n < 10 {
-        append_byte(b'0' + n as u8, out, at)
+        out[0] = b'0' + n as u8;
+        1
     } else if n < 100 {
-        append_two(n, out, at)
+        put_two(n, out, 0)
     } else {
-        let next = put_decimal(n / 100, out, at);
-        append_two(n % 100, out, next)
+        let next = put_decimal(n / 100, out);
+        put_two(n % 100, out, next)
     }
+}
+
+// The digits of a number, on a line that has room for them.
+pub fn append_digits(n: usize, line: &mut Line)
+    requires { RoomIn line.old (length (decimal n)) }
+    ensures { Added line.old (decimal n) (length (decimal n)) line.new }
+{
+    let count = put_decimal(n, &mut line.out[line.at..]);
+    line.at += count;
 }

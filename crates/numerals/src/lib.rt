@@ -1,50 +1,56 @@
-// Numbers in a lent buffer, in decimal. Each function writes at a place and hands back the place after what it wrote; a buffer with no
-// room there is left as it is, and the place handed back.
+// Numbers on a line, in decimal. A line whose buffer has no room for the number stays as it is.
 
 #![tactic(auto)]
 
-ghost use Rattle.text.specs.Number.{decimal, number, integer};
-ghost use Rattle.text.specs.Append.{Appends};
+ghost use Rattle.std.specs.Prelude.{pos};
+ghost use Rattle.text.specs.Number.{sign, decimal, number, integer};
+ghost use Rattle.text.specs.Line.{RoomIn, Added, Adds};
 
-use digits::put_decimal;
-use text::{append_word, lacks_room};
+use digits::append_digits;
+use text::{Line, append_word};
 
 mod digits;
 
 // A number in decimal, with no space before it: at most 20 digits.
-pub fn append_decimal(n: usize, out: &mut [u8], at: usize) -> usize
-    ensures { Appends out.old at (decimal n) 20 out.new result }
+pub fn append_decimal(n: usize, line: &mut Line)
+    ensures { Adds line.old (decimal n) 20 line.new }
 {
-    if lacks_room(out.len(), at, 20) {
-        return at;
+    if line.lacks_room(20) {
+        return;
     }
-    put_decimal(n, out, at)
+    append_digits(n, line);
 }
 
 // A space and a number.
-pub fn append_number(n: usize, out: &mut [u8], at: usize) -> usize
-    ensures { Appends out.old at (number n) 21 out.new result }
+pub fn append_number(n: usize, line: &mut Line)
+    ensures { Adds line.old (number n) 21 line.new }
 {
-    if lacks_room(out.len(), at, 21) {
-        return at;
+    if line.lacks_room(21) {
+        return;
     }
-    let digits = append_word(b" ", out, at);
-    append_decimal(n, out, digits)
+    append_word(b" ", line);
+    append_decimal(n, line);
+}
+
+// What stands before the digits of a number with its sign.
+fn append_sign(z: i64, line: &mut Line)
+    requires { RoomIn line.old 2 }
+    ensures { Added line.old (sign z) 2 line.new }
+{
+    if z < 0 {
+        append_word(b" -", line)
+    } else {
+        append_word(b" ", line)
+    }
 }
 
 // A space and a number with its sign: a magnitude has at most 19 digits.
-pub fn append_integer(z: i64, out: &mut [u8], at: usize) -> usize
-    ensures { Appends out.old at (integer z) 21 out.new result }
+pub fn append_integer(z: i64, line: &mut Line)
+    ensures { Adds line.old (integer z) 21 line.new }
 {
-    if lacks_room(out.len(), at, 21) {
-        return at;
+    if line.lacks_room(21) {
+        return;
     }
-    let digits = ints::magnitude(z) as usize;
-    if z < 0 {
-        let next = append_word(b" -", out, at);
-        put_decimal(digits, out, next)
-    } else {
-        let next = append_word(b" ", out, at);
-        put_decimal(digits, out, next)
-    }
+    append_sign(z, line);
+    append_digits(ints::magnitude(z) as usize, line);
 }

@@ -4,6 +4,8 @@ use Rattle.std.specs.Int.{w16}
 use Rattle.std.proofs.Common.{to_z}
 use Rattle.lp.specs.declared.Functional.{Functional}
 use Rattle.lp.specs.Program.{functional}
+use Rattle.answers.specs.declared.Cause.{Cause}
+use Rattle.answers.specs.declared.Cause.TheVariants as cause
 use Rattle.records.specs.Number.{number}
 use Rattle.records.specs.Record.{is_least}
 
@@ -43,5 +45,6 @@ abbrev pub bad_objectives : List ℕ → Bool
 bad_objectives s = bad_length s || some_bad (objectives_of s)
 
 -- 16, then 11 for an output with so many bytes, if anything. An answer has 32 bytes and an objective 4
-abbrev pub cause_of : List ℕ → ℕ → Option ℕ
-cause_of objectives room = cond (bad_objectives objectives) (Some 16) (cond (ltb room (8 * length objectives)) (Some 11) None)
+abbrev pub cause_of : List ℕ → ℕ → Option Cause
+cause_of objectives room =
+    cond (bad_objectives objectives) (Some cause.Objectives) (cond (ltb room (8 * length objectives)) (Some cause.Room) None)

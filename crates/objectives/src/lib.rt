@@ -8,6 +8,7 @@ ghost use Rattle.std.proofs.Common.{to_z};
 ghost use Rattle.objectives.specs.Objectives.{half_at, objective_at, objective_in, objectives_of};
 ghost use Rattle.objectives.specs.Objectives.{bad_length, is_bad, some_bad, bad_objectives, cause_of};
 
+use answers::Cause;
 use lp::Functional;
 
 // The number of two bytes that are there.
@@ -74,15 +75,14 @@ fn bad_objectives(bytes: &[u8]) -> bool
     bad_length(bytes) || some_bad(bytes)
 }
 
-// What turns objectives back, for an output with so many bytes: 16, then 11, if anything does.
-pub fn cause(objectives: &[u8], room: usize) -> Option<u8>
+// What turns objectives back, for an output with so many bytes: themselves, and then the room, if anything does.
+pub fn cause(objectives: &[u8], room: usize) -> Option<Cause>
     ensures { result ≡ cause_of objectives.now room }
 {
     if bad_objectives(objectives) {
-        return Some(16);
-    }
-    if room < 8 * objectives.len() {
-        Some(11)
+        Some(Cause::Objectives)
+    } else if room < 8 * objectives.len() {
+        Some(Cause::Room)
     } else {
         None
     }

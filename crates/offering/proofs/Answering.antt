@@ -7,6 +7,7 @@ use Prim.Native.Nat.{ℕ, ◌*◌}
 use lib.ListN.{length, drop}
 use lib.IntN.{ℤ}
 use Rattle.lp.specs.declared.Floors.{Floors}
+use Rattle.answers.specs.declared.Cause.{Cause}
 use Rattle.engine.specs.Entries.{entries}
 use Rattle.laying.specs.Laying.{within, Lays}
 use Rattle.laying.proofs.Layouts.{all_listed, rules_stay}
@@ -24,14 +25,14 @@ use Rattle.offering.proofs.Planned.{answers-laid}
 
 -- ---- the promise
 
-some_apart : {n : ℕ} → ◌≡◌ {A = Option ℕ} (Some n) None → ⊥
+some_apart : {k : Cause} → ◌≡◌ {A = Option Cause} (Some k) None → ⊥
 some_apart e = cc
 
-same_cause : {n m : ℕ} → ◌≡◌ {A = Option ℕ} (Some n) (Some m) → n ≡ m
+same_cause : {k m : Cause} → ◌≡◌ {A = Option Cause} (Some k) (Some m) → k ≡ m
 same_cause e = cc
 
 module _ (f : Floors) (e : List ℤ) (order ring : List ℕ) (corners : List ℤ) (objectives out : List ℕ) where
-  pub answers-declined : (k : ℕ) →
+  pub answers-declined : (k : Cause) →
       cause_of objectives (length out) ≡ Some k →
       Answers f e order ring corners objectives out (Err (unanswered.Declined k)) e order ring corners out
   answers-declined k some =

@@ -18,7 +18,8 @@ use Rattle.model.specs.Step.{narrow}
 use Rattle.model.specs.Bounds.{SmallPoint, SmallCone}
 use Rattle.model.proofs.Bounds.{narrow-small, axes-small}
 use Rattle.engine.specs.Entries.{entry, entries}
-use Rattle.engine.specs.Sizes.{Room, Narrowing}
+use Rattle.engine.specs.Sizes.{Room}
+use Rattle.exact.specs.Sizes.{Narrowing}
 use Rattle.engine.proofs.Passes.{entries-more, entries_none}
 use Rattle.batch_theory.specs.Rays.{narrow_all, axes, rays_of}
 use Rattle.offering.specs.Listed.{point_at, points_from, chosen_of, first_by, nowhere}

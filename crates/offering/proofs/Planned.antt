@@ -19,14 +19,15 @@ use Rattle.theory.proofs.Ties.{tie_good}
 use Rattle.theory.proofs.Enumeration.{allowed_vertices}
 use Rattle.batch_theory.specs.Rays.{rays_of}
 use Rattle.batch_theory.proofs.Theorems.{none-impossible, gaining-unlimited, resting_best}
-use Rattle.offering.specs.Offers.{offer, offer_of, offer_for, answers_for}
-use Rattle.offering.specs.Listed.{points_from, nowhere, first_by, offer_along, offer_in, answers_by}
+use Rattle.offering.specs.declared.offers.Offer.TheVariants.{Best, Unlimited, Impossible}
+use Rattle.offering.specs.Offers.{offer_of, offer_for, answers_for}
+use Rattle.offering.specs.Listed.{points_from, first_by, offer_along, offer_in, answers_by}
 use Rattle.offering.proofs.Written.{answers-planned}
 
 -- ---- with corners in a run
 
 module _ (cone : Option (Ray × Ray)) (l : List ℤ) (f : Functional) where
-  pub offer-none : {n : ℕ} → n ≡ 0 → offer 3 nowhere ≡ offer_in cone (points_from l 0 n) f
+  pub offer-none : {n : ℕ} → n ≡ 0 → Impossible ≡ offer_in cone (points_from l 0 n) f
   offer-none e = sym (ap (λ (m : ℕ). offer_in cone (points_from l 0 m) f) e)
 
   offer-some : {n : ℕ} →
@@ -47,9 +48,9 @@ module _ (cone : Option (Ray × Ray)) (l : List ℤ) (f : Functional) where
         g ≡ Some d →
         {start : Point} →
         start ≡ first_by (tie_order tie) (points_from l 0 n) →
-        offer 2 start ≡ offer_in cone (points_from l 0 n) f
+        Unlimited start ≡ offer_in cone (points_from l 0 n) f
     offer-unlimited {d} e es =
-        ap (offer 2) es
+        ap (λ v. Unlimited v) es
         ∙ ap
         (λ (h : Option Ray). offer_along h (first_by (tie_order tie) (points_from l 0 n)) (first_by (gain_order f tie) (points_from l 0 n)))
         (sym e ∙ eg)
@@ -58,9 +59,9 @@ module _ (cone : Option (Ray × Ray)) (l : List ℤ) (f : Functional) where
     pub offer-best : g ≡ None →
         {best : Point} →
         best ≡ first_by (gain_order f tie) (points_from l 0 n) →
-        offer 1 best ≡ offer_in cone (points_from l 0 n) f
+        Best best ≡ offer_in cone (points_from l 0 n) f
     offer-best e eb =
-        ap (offer 1) eb
+        ap (λ v. Best v) eb
         ∙ ap
         (λ (h : Option Ray). offer_along h (first_by (tie_order tie) (points_from l 0 n)) (first_by (gain_order f tie) (points_from l 0 n)))
         (sym e ∙ eg)

@@ -1,16 +1,16 @@
--- Products and sums of what a corner earns, and of rules and objectives along rays, fit 64 bits; an i64 that a call took or handed back is
--- read from its bits.
+-- What corners earn is compared exactly, and the corners and rays of rules that are in range are within their bounds; an i64 that a call
+-- took or handed back is read from its bits.
 use Rattle.std.specs.Prelude.{Option}
 use mathlib.Core.Path.{◌≡◌, sym, ◌∙◌, subst}
 use mathlib.Core.Bool.{Bool, true, ◌&&◌}
 use mathlib.Core.List.{List, [], ◌∷◌, Memᴰ}
 use Prim.Native.Nat.{◌^◌, ◌<◌}
-use lib.IntN.{ℤ, pos, negsuc, ◌+ℤ◌, ◌*ℤ◌}
+use lib.IntN.{ℤ, pos, negsuc}
 use lib.Signed.{mag, le_z, le_z_yes}
 use Rattle.ints.specs.Order.{◌≤ᶻ◌, ◌<ᶻ◌}
 use Rattle.ints.specs.Within.{Within}
 use Rattle.ints.proofs.Bits.{read}
-use Rattle.ints.proofs.Machine.{within-read, within_le, weaken}
+use Rattle.ints.proofs.Machine.{within_le, weaken}
 use Rattle.lp.specs.declared.Constraint.{Constraint}
 use Rattle.lp.specs.declared.Floors.{Floors}
 use Rattle.lp.specs.declared.Functional.{Functional}
@@ -27,57 +27,10 @@ use Rattle.batch_theory.specs.Rays.{narrow_all, axes, rays_of}
 use Rattle.compare.specs.Comparing.{is_denominator, less_in}
 use Rattle.compare.proofs.Points.{less-exact}
 use Rattle.fraction.proofs.Quotients.{unread}
-use Rattle.engine.specs.Sizes.{Risen, Gained}
 use Rattle.amounts.proofs.Sizes.{within-unread}
 use Rattle.amounts.proofs.Tests.{is_true}
 use Rattle.laying.proofs.Layouts.{small-member}
-use Rattle.offering.specs.Asked.{Summing, Earning, Weighing}
-
-module _ {p x q y : ℤ} (h : Summing p x q y) where
-  pub summing_read : Summing (read p) (read x) (read q) (read y)
-  summing_read =
-      record {
-        p-small = within-read h.p-small tt;
-        x-small = within-read h.x-small tt;
-        q-small = within-read h.q-small tt;
-        y-small = within-read h.y-small tt;
-      }
-
-  pub sum_is : {z : ℤ} → mag z < 2 ^ 63 → z ≡ read p *ℤ read x +ℤ read q *ℤ read y → read z ≡ p *ℤ x +ℤ q *ℤ y
-  sum_is fits e =
-      unread fits
-      ∙ e
-      ∙ λ i. within-unread h.p-small tt i *ℤ within-unread h.x-small tt i
-      +ℤ within-unread h.q-small tt i *ℤ within-unread h.y-small tt i
-
--- ---- what is summed
-
-pub earning : {f : Functional} {v : Point} → Earning f v → Summing f.p v.x f.q v.y
-earning h =
-    record {
-      p-small = h.functional.p-small;
-      x-small = h.point.x-small;
-      q-small = h.functional.q-small;
-      y-small = h.point.y-small;
-    }
-
-pub rising : {r : Constraint} {d : Ray} → Risen r d → Summing r.a d.dx r.b d.dy
-rising h =
-    record {
-      p-small = h.constraint.a_small;
-      x-small = weaken tt h.ray.dx-small;
-      q-small = h.constraint.b-small;
-      y-small = weaken tt h.ray.dy-small;
-    }
-
-pub gaining : {f : Functional} {d : Ray} → Gained f d → Summing f.p d.dx f.q d.dy
-gaining h =
-    record {
-      p-small = h.functional.p-small;
-      x-small = weaken tt h.ray.dx-small;
-      q-small = h.functional.q-small;
-      y-small = weaken tt h.ray.dy-small;
-    }
+use Rattle.offering.specs.Asked.{Weighing}
 
 -- ---- the comparison of what two corners earn
 

@@ -6,22 +6,29 @@ use mathlib.Core.List.{List, [], ◌∷◌, ◌++◌}
 use native.Mathlib.Omega.{arith}
 use borrow.Author.Tests.{le-leb}
 use lib.ListN.{length, take, drop, length-append}
+use lib.IntN.{pos}
 use lib.Seq.{paste, take_at, take_all, take-take, drop-append-add}
 use Rattle.lp.specs.declared.Constraint.{Constraint}
 use Rattle.lp.specs.declared.Functional.{Functional}
 use Rattle.lp.specs.declared.Floors.{Floors}
-use Rattle.cells.specs.Cells.{unsigned_cell, point_bytes, stored}
+use Rattle.lp.specs.declared.Point.{Point}
+use Rattle.lp.specs.Program.{point}
+use Rattle.cells.specs.Cells.{unsigned_cell, point_bytes, answer_bytes, stored}
 use Rattle.cells.proofs.Written.{length-cell, length-point}
 use Rattle.repacker.proofs.Packed.{paste-next}
 use Rattle.offering.specs.declared.offers.Offer.{Offer}
+use Rattle.offering.specs.declared.offers.Offer.TheVariants.{Best, Unlimited, Impossible}
 use Rattle.objectives.specs.Objectives.{objective_at, objectives_from}
 use Rattle.offering.specs.Offers.{offer_bytes, offer_for, answers_for}
 use Rattle.offering.specs.Listed.{answers_by}
 
+length-answer : (n : ℕ) (v : Point) → length (answer_bytes n v) ≡ 32
+length-answer n v = length-append (unsigned_cell n) (point_bytes v) ∙ (λ i. length-cell n i + length-point v i)
+
 pub length-offer : (o : Offer) → length (offer_bytes o) ≡ 32
-length-offer o =
-    length-append (unsigned_cell o.outcome) (point_bytes o.point)
-    ∙ (λ i. length-cell o.outcome i + length-point o.point i)
+length-offer (Best v) = length-answer 1 v
+length-offer (Unlimited v) = length-answer 2 v
+length-offer Impossible = length-answer 3 (point (pos 0) (pos 0) (pos 0))
 
 pub length-objectives : (s : List ℕ) (k n : ℕ) → length (objectives_from s k n) ≡ n
 length-objectives s k zero = refl

@@ -2,6 +2,7 @@
 -- run. The runs are the ring's and the corners' own: what they hold afterwards is what `laying::lay` leaves in them.
 use Rattle.std.specs.Prelude.{ℕ, ◌*◌, ◌≡◌, cond, List, ◌++◌, length, drop, ℤ, Option, Some, None, Result, Ok, Err}
 use Rattle.lp.specs.declared.Floors.{Floors}
+use Rattle.answers.specs.declared.Cause.{Cause}
 use Rattle.engine.specs.Entries.{entries}
 use Rattle.laying.specs.Laying.{within, Lays}
 use Rattle.objectives.specs.Objectives.{objectives_of, cause_of}
@@ -11,7 +12,7 @@ use Rattle.offering.specs.Offers.{answers_for}
 
 -- objectives that are turned back by a cause leave everything as it was
 pub record Declined
-    (cause : ℕ) (e : List ℤ) (order ring : List ℕ) (corners : List ℤ) (out : List ℕ)
+    (cause : Cause) (e : List ℤ) (order ring : List ℕ) (corners : List ℤ) (out : List ℕ)
     (r : Result ℕ Unanswered) (e' : List ℤ) (order' ring' : List ℕ) (corners' : List ℤ) (out' : List ℕ) : Type 0 where
   pub answer : r ≡ Err (unanswered.Declined cause)
   pub output : out' ≡ out
@@ -38,5 +39,5 @@ pub record Answers
     (f : Floors) (e : List ℤ) (order ring : List ℕ) (corners : List ℤ) (objectives out : List ℕ)
     (r : Result ℕ Unanswered) (e' : List ℤ) (order' ring' : List ℕ) (corners' : List ℤ) (out' : List ℕ) : Type 0 where
   pub declined :
-      (cause : ℕ) → cause_of objectives (length out) ≡ Some cause → Declined cause e order ring corners out r e' order' ring' corners' out'
+      (cause : Cause) → cause_of objectives (length out) ≡ Some cause → Declined cause e order ring corners out r e' order' ring' corners' out'
   pub done : cause_of objectives (length out) ≡ None → Done f e order ring corners objectives out r e' order' ring' corners' out'

@@ -1,6 +1,5 @@
 -- What private functions ask of numbers and runs, one record for each, and what they hand back.
 use Rattle.std.specs.Prelude.{◌≡◌, false, List, ◌++◌, ℕ, ◌+◌, ◌*◌, ◌≤◌, ◌<◌, length, drop, ℤ, Option, None, Some, Result, Ok, Err}
-use Rattle.ints.specs.Within.{Within}
 use Rattle.lp.specs.declared.Functional.{Functional}
 use Rattle.lp.specs.declared.Point.{Point}
 use Rattle.lp.specs.Outcome.{tie_order}
@@ -16,17 +15,6 @@ use Rattle.offering.specs.declared.Unanswered.TheVariants as unanswered
 use Rattle.offering.specs.Listed.{point_at, points_from, first_by, offer_in, answers_by}
 
 -- ---- numbers
-
--- of p·x + q·y
-pub record Summing (p x q y : ℤ) : Type 0 where
-  pub p-small : Within 32767 p
-  pub x-small : Within 65534000000000 x
-  pub q-small : Within 32767 q
-  pub y-small : Within 65534000000000 y
-
-pub record Earning (f : Functional) (v : Point) : Type 0 where
-  pub functional : SmallFunctional f
-  pub point : SmallPoint v
 
 -- two corners in the order of the tie, and of an objective
 pub record Tying (w v : Point) : Type 0 where

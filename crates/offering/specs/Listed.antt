@@ -9,7 +9,8 @@ use Rattle.lp.specs.Document.{tie}
 use Rattle.lp.specs.declared.Ray.{Ray}
 use Rattle.model.specs.Step.{gaining}
 use Rattle.offering.specs.declared.offers.Offer.{Offer}
-use Rattle.offering.specs.Offers.{offer, offer_bytes}
+use Rattle.offering.specs.declared.offers.Offer.TheVariants.{Best, Unlimited, Impossible}
+use Rattle.offering.specs.Offers.{offer_bytes}
 
 abbrev pub point_at : List ℤ → ℕ → Point
 point_at l k = point (get_or l (3 * k) (pos 0)) (get_or l (3 * k + 1) (pos 0)) (get_or l (3 * k + 2) (pos 0))
@@ -33,11 +34,11 @@ first_by fs (v ∷ vs) = pick (better fs) v vs
 
 -- with the start pair and the best pair at hand
 abbrev pub offer_along : Option Ray → Point → Point → Offer
-offer_along (Some d) start best = offer 2 start
-offer_along None start best = offer 1 best
+offer_along (Some d) start best = Unlimited start
+offer_along None start best = Best best
 
 abbrev pub offer_in : Option (Ray × Ray) → List Point → Functional → Offer
-offer_in rays [] f = offer 3 nowhere
+offer_in rays [] f = Impossible
 offer_in rays (v ∷ vs) f = offer_along (gaining f rays) (first_by (tie_order tie) (v ∷ vs)) (first_by (gain_order f tie) (v ∷ vs))
 
 -- the answers' bytes, where each objective is answered so

@@ -5,25 +5,24 @@ use Rattle.lp.specs.declared.Functional.{Functional}
 use Rattle.lp.specs.declared.Floors.{Floors}
 use Rattle.lp.specs.declared.Outcome.{Outcome}
 use Rattle.lp.specs.declared.Outcome.TheVariants.{Infeasible, Unbounded, Optimal}
-use Rattle.lp.specs.declared.Point.{Point}
 use Rattle.lp.specs.Program.{point}
 use Rattle.lp.specs.Outcome.{outcome}
 use Rattle.lp.specs.Document.{tie}
 use Rattle.cells.specs.Cells.{answer_bytes}
 use Rattle.offering.specs.declared.offers.Offer.{Offer}
+use Rattle.offering.specs.declared.offers.Offer.TheVariants.{Best, Unlimited, Impossible}
 
-abbrev pub offer : ℕ → Point → Offer
-offer n v = record { outcome = n; point = v }
-
--- request 109: 1 best, 2 unlimited with the start pair, 3 impossible with zeros
+-- the pair of a plan, the start pair of one without limit, or that nothing is allowed
 abbrev pub offer_of : Outcome → Offer
-offer_of (Optimal v) = offer 1 v
-offer_of (Unbounded s d) = offer 2 s
-offer_of Infeasible = offer 3 (point (pos 0) (pos 0) (pos 0))
+offer_of (Optimal v) = Best v
+offer_of (Unbounded s d) = Unlimited s
+offer_of Infeasible = Impossible
 
--- an answer's 32 bytes
+-- an answer's 32 bytes. Request 109: 1 best, 2 unlimited with the start pair, 3 impossible with zeros
 abbrev pub offer_bytes : Offer → List ℕ
-offer_bytes o = answer_bytes o.outcome o.point
+offer_bytes (Best v) = answer_bytes 1 v
+offer_bytes (Unlimited v) = answer_bytes 2 v
+offer_bytes Impossible = answer_bytes 3 (point (pos 0) (pos 0) (pos 0))
 
 module _ (floors : Floors) (rules : List Constraint) where
   -- what a plan of these rules under these floors would give

@@ -3,22 +3,22 @@
 
 #![tactic(auto)]
 
-mod exact;
 mod offers;
 mod picks;
 mod rays;
 
 ghost use Rattle.offering.specs.Answering.{Answers};
 
+use answers::Cause;
 use lp::Floors;
 use objectives::cause;
 use offers::offer_all;
 
-// Why objectives get no answers. Outside: some number is out of its range, or a run has no room. Declined: the number of the cause.
+// Why objectives get no answers. Outside: some number is out of its range, or a run has no room. Declined: a cause turns them back.
 #[derive(Clone, Copy)]
 pub enum Unanswered {
     Outside,
-    Declined(u8),
+    Declined(Cause),
 }
 
 // The answers to up to 32 objectives, 32 bytes each, at the start of the output, for the rules that stand in the run from its seventh
@@ -36,10 +36,10 @@ pub fn answer(
         objectives.now out.old result run.new order.new ring.new corners.new
         out.new }
 {
-    if let Some(number) = cause(objectives, out.len()) {
-        return Err(Unanswered::Declined(number));
+    if let Some(cause) = cause(objectives, out.len()) {
+        return Err(Unanswered::Declined(cause));
     }
     let n = order.len();
-    let listed = laying::lay(floors, &mut *run, order, ring, &mut *corners, true);
+    let listed = laying::lay_sampled(floors, &mut *run, order, ring, &mut *corners);
     offer_all(listed, &*run, n, &*corners, objectives, out)
 }

@@ -1,20 +1,36 @@
 // The answers of a batch, from what the rules come to whatever the objective is: the corners of their region and its rays.
 ghost use Rattle.std.specs.Prelude.{◌≡◌, ◌++◌, ◌*◌, length, drop};
 ghost use Rattle.objectives.specs.Objectives.{objectives_of};
+ghost use Rattle.cells.specs.Cells.{stored};
+ghost use Rattle.offering.specs.Offers.{offer_bytes};
 ghost use Rattle.offering.specs.Listed.{points_from, offer_in, answers_by};
 ghost use Rattle.offering.specs.Asked.{Offering, Filling, Filled, Fills};
 
 use crate::Unanswered;
 use crate::picks::best;
-use crate::rays::{gaining, rays};
+use crate::rays::rays;
+use cells::put_answer;
+use exact::gaining;
 use lp::{Functional, Point, Ray};
 use objectives::objective;
 
-// What an objective is answered: 1 best, 2 unlimited, 3 impossible, and the pair.
+// What an objective is answered: the best pair, the start pair where the objective has no limit, or that no pair is allowed.
 #[derive(Clone, Copy)]
-pub struct Offer {
-    pub outcome: u64,
-    pub point: Point,
+pub enum Offer {
+    Best(Point),
+    Unlimited(Point),
+    Impossible,
+}
+
+// An answer into the output: its outcome as a number, and its pair.
+fn put_offer(out: &mut [u8], at: usize, offer: Offer)
+    ensures { out.new ≡ stored out.old at 32 (offer_bytes offer) }
+{
+    match offer {
+        Offer::Best(point) => put_answer(out, at, 1, point),
+        Offer::Unlimited(start) => put_answer(out, at, 2, start),
+        Offer::Impossible => put_answer(out, at, 3, Point { x: 0, y: 0, d: 0 }),
+    }
 }
 
 // Of one objective. Without a corner nothing is allowed. Along a ray that gains there is no best, and the start pair is answered.
@@ -29,20 +45,11 @@ fn offered(
     ensures { result ≡ offer_in cone (points_from corners.now 0 count) f }
 {
     if count == 0 {
-        return Offer {
-            outcome: 3,
-            point: Point { x: 0, y: 0, d: 0 },
-        };
+        return Offer::Impossible;
     }
     match gaining(f, cone) {
-        Some(_) => Offer {
-            outcome: 2,
-            point: start,
-        },
-        None => Offer {
-            outcome: 1,
-            point: best(f, corners, count),
-        },
+        Some(_) => Offer::Unlimited(start),
+        None => Offer::Best(best(f, corners, count)),
     }
 }
 
@@ -55,8 +62,8 @@ fn fill(cone: Option<(Ray, Ray)>, corners: &[i64], count: usize, objectives: &[u
     let start = best(Functional { p: 0, q: 0 }, corners, count);
     let total = objectives.len() / 4;
     for i in 0..total {
-        let o = offered(objective(objectives, i), cone, start, corners, count);
-        cells::put_answer(&mut *out, 32 * i, o.outcome, o.point);
+        let offer = offered(objective(objectives, i), cone, start, corners, count);
+        put_offer(&mut *out, 32 * i, offer);
     }
 }
 

@@ -9,8 +9,8 @@ ghost use Rattle.engine.specs.Sizes.{Room};
 ghost use Rattle.offering.specs.Listed.{point_at, points_from, chosen_of, first_by};
 ghost use Rattle.offering.specs.Asked.{Tying, Weighing, Picking};
 
-use crate::exact::earns;
 use compare::less;
+use exact::earns;
 use lp::{Functional, Point};
 
 // The corner at a place of the list.

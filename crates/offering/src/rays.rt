@@ -1,13 +1,12 @@
 // The rays along which no rule is left: all between two, or none. They are worked out once for all objectives.
 ghost use Rattle.std.specs.Prelude.{◌≡◌};
-ghost use Rattle.model.specs.Step.{narrow as narrow_of, gaining as gaining_of};
 ghost use Rattle.engine.specs.Entries.{entry as entry_of, entries};
-ghost use Rattle.engine.specs.Sizes.{Room, Narrowing, Gaining};
+ghost use Rattle.engine.specs.Sizes.{Room};
 ghost use Rattle.batch_theory.specs.Rays.{rays_of};
 ghost use Rattle.offering.specs.Asked.{Ruled};
 
-use crate::exact::{backward, direction, gains, stays};
-use lp::{Constraint, Functional, Ray};
+use exact::narrow;
+use lp::{Constraint, Ray};
 
 // The rule at an index.
 fn entry(run: &[i64], k: usize) -> Constraint
@@ -22,25 +21,6 @@ fn entry(run: &[i64], k: usize) -> Constraint
     }
 }
 
-// A rule takes away one side of the rays.
-fn narrow(h: Constraint, cone: Option<(Ray, Ray)>) -> Option<(Ray, Ray)>
-    requires { Narrowing h cone }
-    ensures { result ≡ narrow_of h cone }
-{
-    let (lo, hi) = cone?;
-    if stays(h, lo) {
-        if stays(h, hi) {
-            Some((lo, hi))
-        } else {
-            Some((lo, direction(h)))
-        }
-    } else if stays(h, hi) {
-        Some((backward(h), hi))
-    } else {
-        None
-    }
-}
-
 // The rays of n rules, which stand after the floors: all of the quadrant at first.
 pub fn rays(run: &[i64], n: usize) -> Option<(Ray, Ray)>
     requires { Ruled n run.now }
@@ -52,19 +32,4 @@ pub fn rays(run: &[i64], n: usize) -> Option<(Ray, Ray)>
         cone = narrow(entry(run, i), cone);
     }
     cone
-}
-
-// A ray along which the objective gains, if there is one.
-pub fn gaining(f: Functional, cone: Option<(Ray, Ray)>) -> Option<Ray>
-    requires { Gaining f cone }
-    ensures { result ≡ gaining_of f cone }
-{
-    let (lo, hi) = cone?;
-    if gains(f, lo) {
-        Some(lo)
-    } else if gains(f, hi) {
-        Some(hi)
-    } else {
-        None
-    }
 }

@@ -18,7 +18,6 @@ use Rattle.book.proofs.Causes.{refusal-number}
 use Rattle.book.proofs.Bounds.{chain-count, count_room}
 use Rattle.repacker.proofs.RepackLaws.{declined-number, repacked-length}
 use Rattle.std.proofs.Common.{Ok}
-use Rattle.answers.specs.Refusal.{refusal}
 use Rattle.planner.specs.declared.StartView.{StartView}
 use Rattle.planner.specs.View.{start_view, view_of}
 use Rattle.planner.proofs.Seen.{restarts-seen, restarts-within}

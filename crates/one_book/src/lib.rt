@@ -4,35 +4,32 @@
 
 #![tactic(auto)]
 
-ghost use Rattle.records.specs.Layout.{layout_of};
 ghost use Rattle.one_book.specs.Loaded.{PlanLine, StartWritten, RepackWritten};
 
 use handed::{put_start, told};
-use records::Version;
+use records::Book;
 
 // The line of a book: written at the start of a buffer of at least 256 bytes, with its length. A smaller buffer is left as it is, and 0
 // handed back.
-pub fn plan_line(version: Version, book: &[u8], out: &mut [u8]) -> usize
-    ensures { PlanLine (layout_of version) book.now out.old out.new result }
+pub fn plan_line(book: &Book, out: &mut [u8]) -> usize
+    ensures { PlanLine book.now.layout book.now.bytes out.old out.new result }
 {
-    answer_line::write_line(planner::plan(version, book), out)
+    answer_line::write_line(planner::plan(book), out)
 }
 
 // The start pair after a book's first `prefix` rules: X, Y and D stand at the start of a buffer of at least three numbers, zeros where no
 // pair is allowed, and the count is handed back. A refused book leaves the buffer as it is, and so does a smaller buffer; of a refused book
 // 65,536 times its number plus its record is handed back.
-pub fn start_numbers(version: Version, book: &[u8], prefix: usize, out: &mut [i64]) -> usize
-    ensures { StartWritten (layout_of version) book.now prefix out.old out.new result }
+pub fn start_numbers(book: &Book, prefix: usize, out: &mut [i64]) -> usize
+    ensures { StartWritten book.now.layout book.now.bytes prefix out.old out.new result }
 {
-    let seen = planner::start_after(version, book, prefix);
-    put_start(seen, out)
+    put_start(planner::start_after(book, prefix), out)
 }
 
 // The repacked form of a book, always version 2, at the start of a buffer, and how many bytes it has. A book that is refused, and one whose
 // repacked form has no room, leaves the buffer as it is, and 65,536 times its number plus its record is handed back.
-pub fn repacked(version: Version, book: &[u8], out: &mut [u8]) -> usize
-    ensures { RepackWritten (layout_of version) book.now out.old out.new result }
+pub fn repacked(book: &Book, out: &mut [u8]) -> usize
+    ensures { RepackWritten book.now.layout book.now.bytes out.old out.new result }
 {
-    let answer = repacker::repack(version, book, out);
-    told(answer)
+    told(repacker::repack(book, out))
 }

@@ -1,5 +1,5 @@
 -- The points that are left of a run of them, written if they fit.
-use Rattle.std.specs.Prelude.{Result}
+use Rattle.std.specs.Prelude.{Result, Err}
 use mathlib.Core.Path.{◌≡◌, sym, ◌∙◌, ap, subst}
 use mathlib.Core.List.{List, ◌++◌}
 use mathlib.Core.Bool.{Bool, true, false, cond, ◌&&◌}
@@ -9,6 +9,8 @@ use borrow.Author.Tests.{le-leb, le-ltb}
 use lib.Dec.{leb}
 use lib.ListN.{length, drop, length-append}
 use lib.IntN.{ℤ}
+use Rattle.answers.specs.declared.Refusal.{Refusal}
+use Rattle.answers.specs.Refusal.{refusal}
 use Rattle.sorting.specs.Keys.{comes_at}
 use Rattle.arranging.specs.Arranging.{kept, kept_run, order_of, Arranged}
 use Rattle.listing.specs.Listing.{Lists, fits, written}
@@ -54,10 +56,14 @@ module _
         output = output;
       }
 
-  pub turned-back : t ≡ false → Finished keys n out (crowded k) run after
-  turned-back e =
+  pub turned-back : t ≡ false → {f : Refusal} →
+      f ≡ refusal 11 0 →
+      Finished keys n out (Err (record { refusal = f; count = k })) run after
+  turned-back e ef =
       record {
-        answer = ap crowded counted ∙ ap (λ b. cond b (full (distinct keys n)) (crowded (distinct keys n))) (decided e);
+        answer =
+            (λ i. Err (record { refusal = ef i; count = counted i }))
+            ∙ ap (λ b. cond b (full (distinct keys n)) (crowded (distinct keys n))) (decided e);
         indices = ran;
         output = output;
       }
@@ -83,10 +89,12 @@ module _ (keys : List ℤ) (n : ℕ) (run out : List ℕ) {t : Bool} (told : t �
       yes : sortable n run ≡ true
       yes = sym told ∙ so
 
-  pub finishes-none : t ≡ false → Finishes keys n run out (crowded 0) run out
-  finishes-none not =
+  pub finishes-none : t ≡ false → {f : Refusal} →
+      f ≡ refusal 11 0 →
+      Finishes keys n run out (Err (record { refusal = f; count = 0 })) run out
+  finishes-none not ef =
       record {
-        answer = sym (ap (λ b. cond b (answer_of keys n out) (crowded 0)) no_more);
+        answer = (λ i. Err (record { refusal = ef i; count = 0 })) ∙ sym (ap (λ b. cond b (answer_of keys n out) (crowded 0)) no_more);
         indices = sym (ap (λ b. cond b (arranged keys n ++ drop n run) run) no_more);
         output = sym (ap (λ b. cond b (output_of keys n out) out) no_more);
       }

@@ -6,7 +6,7 @@
 ghost use Rattle.std.specs.Prelude.{◌≤◌, length};
 ghost use Rattle.outlining.specs.Finishing.{Finishes, Finished};
 
-use answers::Refusal;
+use answers::{Cause, Refusal};
 use arranging::arrange;
 use listing::list_points;
 use outline::Unlisted;
@@ -20,7 +20,7 @@ fn finish(keys: &[i64], run: &mut [u16], out: &mut [u8]) -> Result<usize, Unlist
     if list_points(keys, &*run, count, out) {
         Ok(count)
     } else {
-        let refusal = Refusal { number: 11, at: 0 };
+        let refusal = Refusal::of(Cause::Room, 0);
         Err(Unlisted { refusal, count })
     }
 }
@@ -38,7 +38,7 @@ pub fn list_corners(
     if (n <= 4098) & (n <= run.len()) {
         finish(keys, &mut run[0..n], out)
     } else {
-        let refusal = Refusal { number: 11, at: 0 };
+        let refusal = Refusal::of(Cause::Room, 0);
         Err(Unlisted { refusal, count: 0 })
     }
 }

@@ -17,7 +17,7 @@ use Rattle.records.specs.Record.{record_at, c_of, rule_of, fields_of}
 use Rattle.records.specs.Header.{terms_of}
 use Rattle.records.proofs.Numbers.{written}
 use Rattle.records.proofs.Small.{two-bytes-small, bytes-record, joined}
-use Rattle.packing.specs.Bytes.{record_bytes, tail_with, tail_of, header_bytes, rule_bytes}
+use Rattle.packing.specs.Bytes.{record_bytes, tail_with, tail_of, header_bytes}
 
 -- ---- version 2, byte by byte
 
@@ -45,22 +45,13 @@ fourteen l k a b m c hk el ea eb em ec =
 kept : (w : Width) (x y : ℕ) → Fits w x → x ≡ y → x ≡ of_z w (to_z w y)
 kept w x y f e = sym (of_z-to_z w x f) ∙ ap (λ (z : ℕ). of_z w (to_z w z)) e
 
--- a record of the fields that one of any layout has, but for the link, is that record's rule; and so for the header, but for the count too
-module _
-    (L : Layout) (x t : List ℕ) (l : ℕ) (f : Fields) (fa : Fits w16 f.a) (fb : Fits w16 f.b)
-    (e : f ≡ fields_of L t) where
+-- the numbers of a record of any layout, read as signed and written again
+module _ (L : Layout) (t : List ℕ) (f : Fields) (fa : Fits w16 f.a) (fb : Fits w16 f.b) (e : f ≡ fields_of L t) where
   same-a : f.a ≡ of_z w16 (rule_of L t).a
   same-a = kept w16 f.a (fields_of L t).a fa (ap (λ (g : Fields). g.a) e)
 
   same-b : f.b ≡ of_z w16 (rule_of L t).b
   same-b = kept w16 f.b (fields_of L t).b fb (ap (λ (g : Fields). g.b) e)
-
-  pub rule-written : Fits w32 f.c →
-      x ≡ record_bytes v2 l f.kind f.a f.b f.label f.c →
-      x ≡ rule_bytes v2 l (rule_of L t)
-  rule-written fc ex =
-      let same-c : f.c ≡ of_z w32 (rule_of L t).c = kept w32 f.c (fields_of L t).c fc (ap (λ (g : Fields). g.c) e) in
-      ex ∙ (λ i. record_bytes v2 l (e i).kind (same-a i) (same-b i) (e i).label (same-c i))
 
 -- the tail of a header: the floors that it holds, written again
 same-tail : (L : Layout) (s : List ℕ) → Bytes s → cond L.floors (c_of L (record_at L s 0)) 0 ≡ tail_of v2 (terms_of L s)
@@ -95,6 +86,6 @@ header-written L x s l n t f b fa fb e et ex =
     let tail = et ∙ ap (λ (g : Fields). cond L.floors g.c 0) e ∙ same-tail L s b in
     ex
     ∙ (λ i. record_bytes v2 l 2
-    (same-a L x (record_at L s 0) l f fa fb e i)
-    (same-b L x (record_at L s 0) l f fa fb e i)
+    (same-a L (record_at L s 0) f fa fb e i)
+    (same-b L (record_at L s 0) f fa fb e i)
     n (tail i))

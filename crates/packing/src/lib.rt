@@ -1,5 +1,4 @@
-// The records of a repacked book, as bytes of version 2: the header and a rule of a book of either version, with another link. A function
-// takes any bytes, and answers.
+// The records of a repacked book, as bytes of version 2: the header and a rule of a book of either version, with another link.
 
 #![tactic(auto)]
 
@@ -9,8 +8,7 @@ ghost use Rattle.records.specs.Record.{record_at, rule_of};
 ghost use Rattle.records.specs.Header.{terms_of};
 ghost use Rattle.packing.specs.Bytes.{record_bytes, header_bytes, rule_bytes};
 
-use records::Version;
-use records::fields::fields_at;
+use records::{Book, Version};
 
 // A record's bytes, from its fields.
 fn record_bytes(link: u16, kind: u8, a: u16, b: u16, label: u16, c: u32) -> [u8; 14]
@@ -38,17 +36,17 @@ fn tail_of(version: Version, tail: u32) -> u32
 }
 
 // The header of n rules, with the objective and the floors of a book of either version.
-pub fn header_bytes(version: Version, book: &[u8], link: u16, n: u16) -> [u8; 14]
-    ensures { result ≡ header_bytes v2 link (terms_of (layout_of version) book.now) n }
+pub fn header_bytes(book: &Book, link: u16, n: u16) -> [u8; 14]
+    ensures { result ≡ header_bytes v2 link (terms_of book.now.layout book.now.bytes) n }
 {
-    let f = fields_at(version, book, 0);
-    record_bytes(link, 2, f.a, f.b, n, tail_of(version, f.c))
+    let f = book.fields_at(0);
+    record_bytes(link, 2, f.a, f.b, n, tail_of(book.version, f.c))
 }
 
 // The rule of a record, with another link.
-pub fn rule_bytes(version: Version, book: &[u8], index: u16, link: u16) -> [u8; 14]
-    ensures { result ≡ rule_bytes v2 link (rule_of (layout_of version) (record_at (layout_of version) book.now index)) }
+pub fn rule_bytes(book: &Book, index: u16, link: u16) -> [u8; 14]
+    ensures { result ≡ rule_bytes v2 link (rule_of book.now.layout (record_at book.now.layout book.now.bytes index)) }
 {
-    let f = fields_at(version, book, index);
+    let f = book.fields_at(index);
     record_bytes(link, f.kind, f.a, f.b, f.label, f.c)
 }

@@ -1,15 +1,24 @@
 // The panel program of version 2: one book from standard input, its panel's lines to standard output. It reads one byte more than a book
 // may have, so that longer input is seen to be too long.
+// A program is its `main`, a few lines that read, call and print: so this one is alike to `panel`.
 
 #![tactic(auto)]
 
-use records::Version;
+use records::{Book, Version};
 use std::io;
+
+// What was read, as a book of version 2.
+fn book<'a>(bytes: &'a [u8]) -> Book<'a> {
+    Book {
+        version: Version::Two,
+        bytes,
+    }
+}
 
 fn main(rt: HostRuntime) -> io::Result<()> {
     let mut input = [0u8; 57345];
     let n = streams::read_full(&mut rt.stdin(), &mut input)?;
     let mut lines = [0u8; 262144];
-    let end = planner::panel_lines(Version::Two, &input[..n], &mut lines);
+    let end = planner::panel_lines(&book(&input[..n]), &mut lines);
     rt.write_all(&lines[..end])
 }

@@ -8,8 +8,9 @@ use mir.Syntax.{w16, w64}
 use mir.Val.{Fits, SFits}
 use Rattle.text.specs.Text.{text}
 use Rattle.text.specs.Number.{decimal, integer}
-use Rattle.text.specs.Append.{Appended, Appends}
-use Rattle.text.proofs.Put.{followed, roomier, spelt}
+use Rattle.text.specs.declared.Line.{Line}
+use Rattle.text.specs.Line.{Added, Adds}
+use Rattle.text.proofs.Adding.{fits, followed, roomier, spelt}
 use Rattle.text.proofs.Decimal.{decimal-u16}
 use Rattle.text.proofs.Integer.{integer-short}
 use Rattle.panel_row.specs.declared.Row.{Row}
@@ -20,15 +21,15 @@ lines_append [] r = append-nil (row_line r)
 lines_append (x ∷ rows) r =
     ap (λ (m : List ℕ). row_line x ++ m) (lines_append rows r) ∙ sym (append_assoc (row_line x) (row_lines rows) (row_line r))
 
--- a line more, in a buffer with room for it
-pub row-after : {before mid after : List ℕ} {at next end : ℕ} (i : ℕ) (rows : List Row) (r : Row) →
-    at + 64 * (i + 1) ≤ length before →
-    length mid ≡ length before →
-    Appended before at (row_lines rows) (64 * i) mid next →
-    Appends mid next (row_line r) 64 after end →
-    Appended before at (row_lines (rows ++ (r ∷ []))) (64 * (i + 1)) after end
-row-after i rows r room same f g =
-    roomier (omega arith) (spelt (sym (lines_append rows r)) (followed f (g.fits (omega (arith, f.moved, f.small)))))
+-- a line more, on a line with room for it
+pub row-after : {l m n : Line} (i : ℕ) (rows : List Row) (r : Row) →
+    l.at + 64 * (i + 1) ≤ length l.out.now →
+    Added l (row_lines rows) (64 * i) m →
+    Adds m (row_line r) 64 n →
+    Added l (row_lines (rows ++ (r ∷ []))) (64 * (i + 1)) n
+row-after i rows r room f g =
+    roomier (omega arith)
+    (spelt (sym (lines_append rows r)) (followed f (fits (omega (arith, f.appended.moved, f.appended.small, f.sized)) g)))
 
 -- ---- how long they are
 

@@ -3,12 +3,12 @@
 
 #![tactic(auto)]
 
-ghost use Rattle.text.specs.Append.{Appends};
+ghost use Rattle.text.specs.Line.{Adds};
 ghost use Rattle.panel_row.specs.Panel.{row_line};
 
 use lp::Amount;
 use numerals::{append_decimal, append_integer};
-use text::append_word;
+use text::{Line, append_word};
 
 // A rule's label, and how far the best pair is from its line.
 #[derive(Clone, Copy)]
@@ -17,16 +17,15 @@ pub struct Row {
     pub slack: Amount,
 }
 
-// A rule's line, from a place on that has 64 bytes after it; a buffer with fewer there is left as it is, and the place handed back.
-pub fn append_row(row: Row, out: &mut [u8], at: usize) -> usize
-    ensures { Appends out.old at (row_line row) 64 out.new result }
+// A rule's line, on a line that has 64 bytes left; one with fewer is left as it is.
+pub fn append_row(row: Row, line: &mut Line)
+    ensures { Adds line.old (row_line row) 64 line.new }
 {
-    if text::lacks_room(out.len(), at, 64) {
-        return at;
+    if line.lacks_room(64) {
+        return;
     }
-    let slack = row.slack;
-    let numerator = append_decimal(row.label as usize, out, at);
-    let denominator = append_integer(slack.numerator, out, numerator);
-    let end = append_integer(slack.denominator, out, denominator);
-    append_word(b"\n", out, end)
+    append_decimal(row.label as usize, line);
+    append_integer(row.slack.numerator, line);
+    append_integer(row.slack.denominator, line);
+    append_word(b"\n", line);
 }

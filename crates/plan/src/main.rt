@@ -1,15 +1,24 @@
 // The plan program: one book from standard input, its line to standard output. It reads one byte more than a book may have, so that
 // longer input is seen to be too long.
+// A program is its `main`, a few lines that read, call and print: so this one is alike to `plan2`.
 
 #![tactic(auto)]
 
-use records::Version;
+use records::{Book, Version};
 use std::io;
+
+// What was read, as a book of version 1.
+fn book<'a>(bytes: &'a [u8]) -> Book<'a> {
+    Book {
+        version: Version::One,
+        bytes,
+    }
+}
 
 fn main(rt: HostRuntime) -> io::Result<()> {
     let mut input = [0u8; 3073];
     let n = streams::read_full(&mut rt.stdin(), &mut input)?;
     let mut line = [0u8; 256];
-    let end = one_book::plan_line(Version::One, &input[..n], &mut line);
+    let end = one_book::plan_line(&book(&input[..n]), &mut line);
     rt.write_all(&line[..end])
 }

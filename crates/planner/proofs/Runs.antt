@@ -8,7 +8,6 @@ use native.Mathlib.Omega.{arith}
 use lib.ListN.{length, get_or, take, drop, length-append, length-take, length-drop}
 use lib.Seq.{length-take-le}
 use lib.IntN.{ℤ}
-use borrow.Author.Tests.{ne_eqb}
 use Rattle.lp.specs.declared.Constraint.{Constraint}
 use Rattle.lp.specs.declared.Terms.{Terms}
 use Rattle.lp.specs.Range.{SmallSystem}
@@ -18,7 +17,7 @@ use Rattle.book.specs.Reading.{Reading, refused, accepted, Entry, read_of, passe
 use Rattle.book.specs.Runs.{put_records, put_rules}
 use Rattle.book.specs.Promises.{head_of}
 use Rattle.book.proofs.Bounds.{chain-count, rules-small, terms-small}
-use Rattle.book.proofs.Causes.{accepted-clear, refusal-number, accepted-passed}
+use Rattle.book.proofs.Causes.{accepted-clear, accepted-passed}
 use Rattle.book.proofs.Runs.{record-placed, records-length, rules-length}
 use Rattle.std.proofs.Common.{Result}
 use Rattle.answers.specs.declared.Refusal.{Refusal}
@@ -94,6 +93,6 @@ module _
   runs_by = record { found = go (read_of L s) refl }
     where
       go : (x : Reading) → read_of L s ≡ x → RunsBy x k r records'
-      go (refused n i) e = by-reading (refused n i) e ∙ rw (ne_eqb n 0 (refusal-number L s e))
+      go (refused n i) e = by-reading (refused n i) e
       go (accepted t es) e =
           subst (λ (y : Result Findings Refusal). RunsBy (accepted t es) k y records') (sym (by-reading (accepted t es) e)) (found t es e)

@@ -1,6 +1,6 @@
 -- From what a run found to what is told of a book: its answer, its view and its panel are those of its reading.
 use mathlib.Core.Path.{◌≡◌, refl, sym, ◌∙◌, ap, ap₂, subst}
-use mathlib.Core.Bool.{Bool, false, cond, true≢false}
+use mathlib.Core.Bool.{Bool, cond}
 use mathlib.Core.List.{List, [], ◌∷◌, map}
 use Prim.Native.Nat.{ℕ, zero, suc, ◌≤◌, ◌<◌}
 use native.Mathlib.Omega.{arith}
@@ -22,11 +22,11 @@ use Rattle.records.specs.Record.{record_at, rule_of}
 use Rattle.records.specs.Planned.{planned_rule}
 use Rattle.book.specs.Reading.{Reading, refused, accepted, Entry, read_of, entry_at, rules_of, records_of}
 use Rattle.book.proofs.Bounds.{accepted-entries, chain-count, count_room, rules-small, terms-small}
-use Rattle.std.proofs.Common.{Some, None, Result, Ok, Err}
+use Rattle.std.proofs.Common.{Result, Ok, Err}
 use Rattle.answers.specs.Answer.{Answer}
 use Rattle.answers.specs.declared.Refusal.{Refusal}
 use Rattle.engine.specs.declared.Solution.{Solution}
-use Rattle.engine.specs.Solving.{start_pair, is_held, held_point, solution_of}
+use Rattle.engine.specs.Solving.{start_pair, solution_of}
 use Rattle.amounts.proofs.Tests.{measured}
 use Rattle.model.specs.Bounds.{SmallOutcome, SmallPoint}
 use Rattle.model.specs.declared.Walk.{Walk}
@@ -135,7 +135,8 @@ module _ (L : Layout) (s : List ℕ) (k : ℕ) (r : Result Findings Refusal) (re
           ap view_from told.same
           ∙ ap (λ (y : Solution). view_from (Ok (record { n = told.findings.n; solution = y }))) told.found.solution
           ∙ ap (λ (y : StartView). Ok y)
-          (shown-start (start_held w.state) w.restarts ∙ ap₂ (λ (x : Start) (n : ℕ). viewed x n) starts.start_defined starts.restarts_defined)
+          (shown-start (start_held w.state) w.restarts
+          ∙ ap₂ (λ (x : Start) (n : ℕ). viewed x n) starts.start_defined starts.restarts_defined)
         where
           told : FoundIn t es k r records
           told = found_in t es e
@@ -190,7 +191,8 @@ module _ (L : Layout) (s : List ℕ) (k : ℕ) (r : Result Findings Refusal) (re
           all = take_all k (rules_of es) (omega (arith, whole t es e, length-rules es))
 
           walked :
-              said t.objective (walk tie t.floors t.objective (take k (rules_of es))).state ≡ defined.outcome tie t.floors t.objective (rules_of es)
+              said t.objective (walk tie t.floors t.objective (take k (rules_of es))).state
+              ≡ defined.outcome tie t.floors t.objective (rules_of es)
           walked =
               ap (λ (l : List Constraint). said t.objective (walk tie t.floors t.objective l).state) all
               ∙ (walk-is_defined tie tie_good t.floors t.objective (rules_of es)).outcome_defined
@@ -217,26 +219,12 @@ module _ (L : Layout) (s : List ℕ) (k : ℕ) (r : Result Findings Refusal) (re
       a ≡ answer_of r records →
       {v : Result StartView Refusal} →
       v ≡ view_from r →
-      {panel : Bool} {before after : List ℕ} {count : ℕ} →
+      {before after : List ℕ} {count : ℕ} →
       Shows L s (outcome_in r) (take (count_in r) records) before after count →
-      Tells L s k panel before (record { answer = a; count = count; view = v }) after
-  told-shown ea ev {panel} {before} {after} {count} f =
+      Tells L s k before (record { answer = a; count = count; view = v }) after
+  told-shown ea ev {before} {after} {count} f =
       record {
         answered = λ whole. subst (Answers L s) (sym ea) (run-answers whole);
         seen = record { answer = ev ∙ run_views.answer };
-        shown = λ whole asked. subst (λ (l : List ℕ). Fills l (panel_room L) before after count) (run-shows whole) f;
-      }
-
-  pub told_unshown : {a : Answer} →
-      a ≡ answer_of r records →
-      {v : Result StartView Refusal} →
-      v ≡ view_from r →
-      {panel : Bool} {before after : List ℕ} {count : ℕ} →
-      panel ≡ false →
-      Tells L s k panel before (record { answer = a; count = count; view = v }) after
-  told_unshown ea ev not-asked =
-      record {
-        answered = λ whole. subst (Answers L s) (sym ea) (run-answers whole);
-        seen = record { answer = ev ∙ run_views.answer };
-        shown = λ whole asked. absurd (true≢false (sym asked ∙ not-asked));
+        shown = λ whole. subst (λ (l : List ℕ). Fills l (panel_room L) before after count) (run-shows whole) f;
       }

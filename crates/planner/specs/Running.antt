@@ -1,10 +1,9 @@
 -- One run of the planner over a book, as its private functions go about it: when the runs of numbers that a run is lent have room for the
 -- book, what it then finds by the book's reading, and what the answer and the view make of that. Nothing here stands in a promise of a
 -- function that can be called from outside.
-use Rattle.std.specs.Prelude.{◌≡◌, Bool, true, cond, Option, Some, None, Result, Ok, Err}
+use Rattle.std.specs.Prelude.{◌≡◌, Result, Ok, Err}
 use Rattle.std.specs.Prelude.{List, ℕ, ◌+◌, ◌*◌, ◌≤◌, ◌<◌, length, take, get_or, ℤ}
 use Rattle.lp.specs.declared.Outcome.{Outcome}
-use Rattle.lp.specs.declared.Point.{Point}
 use Rattle.lp.specs.declared.Terms.{Terms}
 use Rattle.lp.specs.Document.{tie}
 use Rattle.records.specs.Layout.{Layout}
@@ -13,8 +12,7 @@ use Rattle.book.specs.Reading.{Reading, refused, accepted, Entry, read_of, rules
 use Rattle.answers.specs.declared.Refusal.{Refusal}
 use Rattle.answers.specs.Answer.{Answer}
 use Rattle.answers.specs.Refusal.{refusal}
-use Rattle.engine.specs.declared.Solution.{Solution}
-use Rattle.engine.specs.Solving.{is_held, held_point, solution_of}
+use Rattle.engine.specs.Solving.{solution_of}
 use Rattle.model.specs.Step.{walk}
 use Rattle.plans.specs.Planning.{plan_of}
 use Rattle.running.specs.declared.Findings.{Findings}
@@ -73,7 +71,7 @@ count_in (Err x) = 0
 abbrev pub Whole : Layout → List ℕ → ℕ → Type 0
 Whole L s k = (t : Terms) (es : List Entry) → read_of L s ≡ accepted t es → length es ≤ k
 
-pub record Tells (L : Layout) (s : List ℕ) (k : ℕ) (panel : Bool) (before : List ℕ) (r : Told) (after : List ℕ) : Type 0 where
+pub record Tells (L : Layout) (s : List ℕ) (k : ℕ) (before : List ℕ) (r : Told) (after : List ℕ) : Type 0 where
   pub answered : Whole L s k → Answers L s r.answer
   pub seen : Views L s k r.view
-  pub shown : Whole L s k → panel ≡ true → Panels L s before after r.count
+  pub shown : Whole L s k → Panels L s before after r.count

@@ -6,15 +6,14 @@
 
 mod told;
 
-ghost use Rattle.records.specs.Layout.{layout_of};
 ghost use Rattle.planner.specs.Planning.{Answers};
 ghost use Rattle.planner.specs.Panel.{Panels};
 ghost use Rattle.planner.specs.View.{Views};
 
 use answers::{Answer, Refusal};
 use lp::Point;
-use records::Version;
-use told::{tell, tell_few, width};
+use records::Book;
+use told::{tell, tell_few};
 
 // The start pair after a prefix of the chain, if a pair is allowed, and how many rules so far the start pair before them did not keep.
 #[derive(Clone, Copy)]
@@ -24,37 +23,35 @@ pub struct StartView {
 }
 
 // The plan of a book of either version, or its refusal. Every field is fixed by the bytes but the witness, which is any valid one.
-pub fn plan(version: Version, book: &[u8]) -> Answer
-    ensures { Answers (layout_of version) book.now result }
+pub fn plan(book: &Book) -> Answer
+    ensures { Answers book.now.layout book.now.bytes result }
 {
-    let mut none = [0u8; 0];
-    if book.len() <= 256 * width(version) {
-        tell_few(version, book, 65535, false, &mut none).answer
+    if book.bytes.len() <= 256 * book.width() {
+        tell_few(book, 65535, &mut []).answer
     } else {
-        tell(version, book, 65535, false, &mut none).answer
+        tell(book, 65535, &mut []).answer
     }
 }
 
 // The lines of a book's panel, how far its best pair is from each rule, at the start of a buffer, and how many bytes they have. The buffer
 // has at least 16,384 bytes for version 1 and 262,144 for version 2; a smaller one is left as it is, and 0 handed back.
-pub fn panel_lines(version: Version, book: &[u8], out: &mut [u8]) -> usize
-    ensures { Panels (layout_of version) book.now out.old out.new result }
+pub fn panel_lines(book: &Book, out: &mut [u8]) -> usize
+    ensures { Panels book.now.layout book.now.bytes out.old out.new result }
 {
-    if book.len() <= 256 * width(version) {
-        tell_few(version, book, 65535, true, out).count
+    if book.bytes.len() <= 256 * book.width() {
+        tell_few(book, 65535, out).count
     } else {
-        tell(version, book, 65535, true, out).count
+        tell(book, 65535, out).count
     }
 }
 
 // The view of a book's first `prefix` rules, along its chain, or its refusal. A prefix longer than the chain is the whole chain.
-pub fn start_after(version: Version, book: &[u8], prefix: usize) -> Result<StartView, Refusal>
-    ensures { Views (layout_of version) book.now prefix result }
+pub fn start_after(book: &Book, prefix: usize) -> Result<StartView, Refusal>
+    ensures { Views book.now.layout book.now.bytes prefix result }
 {
-    let mut none = [0u8; 0];
-    if book.len() <= 256 * width(version) {
-        tell_few(version, book, prefix, false, &mut none).view
+    if book.bytes.len() <= 256 * book.width() {
+        tell_few(book, prefix, &mut []).view
     } else {
-        tell(version, book, prefix, false, &mut none).view
+        tell(book, prefix, &mut []).view
     }
 }

@@ -104,8 +104,14 @@ one-to-three k u =
     let c : List Weighted = weighted k.third k.third_weight in
     let one : length a ≡ 1 = just_one k.first k.first_weight u in (
       omega (arith, one, length-append a (b ++ c)),
-      omega
-          (arith, one, length-append a (b ++ c), length-append b c, at_most_one k.second k.second_weight, at_most_one k.third k.third_weight),
+      omega (
+        arith,
+        one,
+        length-append a (b ++ c),
+        length-append b c,
+        at_most_one k.second k.second_weight,
+        at_most_one k.third k.third_weight,
+      ),
     )
 
 -- ---- the parts of the test
@@ -187,13 +193,15 @@ module _ (names : List ℕ) (rules : List Constraint) (n : Named names rules) wh
     first-from : Used c.first_weight → (i : ℕ) (w : ℤ) → Memᴰ (entry i w) (later c) → c.first ≡ i → ⊥
     first-from u i w m =
         unequal c.first i
-        (every-at (λ x. not (eqb c.first x.entry)) (later c) (others c.first c.first_weight (later c) u (all_apart S (named c) valid)) (entry i w) m)
+        (every-at (λ x. not (eqb c.first x.entry)) (later c) (others c.first c.first_weight (later c) u (all_apart S (named c) valid))
+        (entry i w) m)
 
     second_from : Used c.second_weight → Used c.third_weight → c.second ≡ c.third → ⊥
     second_from u v =
         unequal c.second c.third
         (every-at (λ x. not (eqb c.second x.entry)) (weighted c.third c.third_weight)
-        (others c.second c.second_weight (weighted c.third c.third_weight) u (rest c.first c.first_weight (later c) (all_apart S (named c) valid)))
+        (others c.second c.second_weight (weighted c.third c.third_weight) u
+        (rest c.first c.first_weight (later c) (all_apart S (named c) valid)))
         (entry c.third c.third_weight) (named-last c.third c.third_weight v))
 
     -- a valid certificate names some entry, and no two by the same code
@@ -201,8 +209,15 @@ module _ (names : List ℕ) (rules : List Constraint) (n : Named names rules) wh
     coded-apart =
         record {
           some =
-              λ x y z. omega
-              (arith, some-named S (named c) valid, length-append (weighted c.first c.first_weight) (later c), length-append (weighted c.second c.second_weight) (weighted c.third c.third_weight), not_named c.first c.first_weight x, not_named c.second c.second_weight y, not_named c.third c.third_weight z);
+              λ x y z. omega (
+                arith,
+                some-named S (named c) valid,
+                length-append (weighted c.first c.first_weight) (later c),
+                length-append (weighted c.second c.second_weight) (weighted c.third c.third_weight),
+                not_named c.first c.first_weight x,
+                not_named c.second c.second_weight y,
+                not_named c.third c.third_weight z,
+              );
           first-second =
               λ u v. two_codes c.first c.second c.first_weight c.second_weight ((slots-named c).first u)
               ((slots-named c).second v) u v (first-from u c.second c.second_weight (second_in c v));

@@ -51,7 +51,17 @@ first_in_order k = go (goes_before k.second k.second_weight k.first k.first_weig
     go : (b : Bool) →
         goes_before k.second k.second_weight k.first k.first_weight ≡ b →
         one-two
-        (elim b [ true ↦ record { first = k.second; first_weight = k.second_weight; second = k.first; second_weight = k.first_weight; third = k.third; third_weight = k.third_weight } | false ↦ k ])
+        (elim b [
+          | true ↦ record {
+            first = k.second;
+            first_weight = k.second_weight;
+            second = k.first;
+            second_weight = k.first_weight;
+            third = k.third;
+            third_weight = k.third_weight;
+          }
+          | false ↦ k
+        ])
     go true e =
         not-both (is_zero k.second_weight) k.second (is_zero k.first_weight) k.first (subst T (sym e) tt)
     go false e = subst (λ b. T (not b)) (sym e) tt
@@ -63,9 +73,29 @@ greatest-last k h = go (goes_before k.third k.third_weight k.second k.second_wei
     go : (b : Bool) →
         goes_before k.third k.third_weight k.second k.second_weight ≡ b →
         two-three
-        (elim b [ true ↦ record { first = k.first; first_weight = k.first_weight; second = k.third; second_weight = k.third_weight; third = k.second; third_weight = k.second_weight } | false ↦ k ])
+        (elim b [
+          | true ↦ record {
+            first = k.first;
+            first_weight = k.first_weight;
+            second = k.third;
+            second_weight = k.third_weight;
+            third = k.second;
+            third_weight = k.second_weight;
+          }
+          | false ↦ k
+        ])
         × one-three
-        (elim b [ true ↦ record { first = k.first; first_weight = k.first_weight; second = k.third; second_weight = k.third_weight; third = k.second; third_weight = k.second_weight } | false ↦ k ])
+        (elim b [
+          | true ↦ record {
+            first = k.first;
+            first_weight = k.first_weight;
+            second = k.third;
+            second_weight = k.third_weight;
+            third = k.second;
+            third_weight = k.second_weight;
+          }
+          | false ↦ k
+        ])
     go true e =
         (not-both (is_zero k.third_weight) k.third (is_zero k.second_weight) k.second (subst T (sym e) tt), h)
     go false e = (
@@ -80,7 +110,17 @@ last-stays k p q = go (goes_before k.second k.second_weight k.first k.first_weig
   where
     go : (b : Bool) →
         two-three
-        (elim b [ true ↦ record { first = k.second; first_weight = k.second_weight; second = k.first; second_weight = k.first_weight; third = k.third; third_weight = k.third_weight } | false ↦ k ])
+        (elim b [
+          | true ↦ record {
+            first = k.second;
+            first_weight = k.second_weight;
+            second = k.first;
+            second_weight = k.first_weight;
+            third = k.third;
+            third_weight = k.third_weight;
+          }
+          | false ↦ k
+        ])
     go true = q
     go false = p
 

@@ -5,10 +5,10 @@ use mathlib.Core.Bool.{Bool, true, false, cond}
 use mathlib.Core.List.{List}
 use native.Mathlib.Omega.{arith}
 use lib.Dec.{eqb}
+use Rattle.answers.specs.declared.Cause.TheVariants.{Kind, Slope, Bound}
 use Rattle.records.specs.declared.Rule.{Rule}
 use Rattle.records.specs.declared.Sound.{Sound}
 use Rattle.std.specs.Prelude.{Err}
-use Rattle.records.specs.declared.Fault.TheVariants.{Kind, Slope, Bound}
 use Rattle.records.specs.Layout.{Layout}
 use Rattle.records.specs.Record.{sound_with, decoded_with, decoded_of, rule_of, link_of, pad_of, bad_kind, bad_slope, bad_bound}
 
@@ -44,4 +44,5 @@ chosen false false false r r' i i' e =
 pub sound-holds : (L : Layout) (t : List ℕ) (r : Rule) (i : ℕ) → decoded_of L t ≡ sound_with r i → (r ≡ rule_of L t) × (i ≡ link_of L t)
 unfolding decoded_of decoded_with
 sound-holds L t r i e =
-    chosen (bad_kind (eqb (pad_of L t) 0) (rule_of L t)) (bad_slope (rule_of L t)) (bad_bound (rule_of L t)) (rule_of L t) r (link_of L t) i e
+    chosen (bad_kind (eqb (pad_of L t) 0) (rule_of L t)) (bad_slope (rule_of L t)) (bad_bound (rule_of L t))
+    (rule_of L t) r (link_of L t) i e

@@ -1,11 +1,15 @@
 -- The header of a book: the terms that its chain is planned under, its count of the records after it, its link to the chain, and the
 -- causes 1 to 5 by which it is refused. The causes are tested in document 01's order.
 use Rattle.std.specs.Prelude.{ℕ, ◌+◌, ◌-◌, ◌*◌, ◌/◌, ◌%◌, Bool, cond, not, ◌||◌, ◌&&◌, List, length, drop, eqb, ltb, pos}
+use Rattle.std.specs.Prelude.{Option, Some, None, Result, Ok, Err}
 use Rattle.std.specs.Int.{w16}
 use Rattle.std.proofs.Common.{to_z}
 use Rattle.lp.specs.declared.Functional.{Functional}
 use Rattle.lp.specs.declared.Floors.{Floors}
 use Rattle.lp.specs.declared.Terms.{Terms}
+use Rattle.answers.specs.declared.Cause.{Cause}
+use Rattle.answers.specs.declared.Cause.TheVariants.{Length, Version, Count, Objective, Tail}
+use Rattle.answers.specs.Cause.{numbered}
 use Rattle.records.specs.declared.Heading.{Heading}
 use Rattle.records.specs.Layout.{Layout, width, at_c}
 use Rattle.records.specs.Number.{number}
@@ -22,6 +26,11 @@ module _ (L : Layout) (tail : ℕ) where
 
   abbrev pub tail_set : Bool
   tail_set = not L.floors && not (eqb tail 0)
+
+-- what a header says, unless a cause applies
+abbrev pub headed : Option Cause → Heading → Result Heading Cause
+headed (Some cause) heading = Err cause
+headed None heading = Ok heading
 
 module _ (L : Layout) (s : List ℕ) where
   -- ---- what it says
@@ -63,10 +72,17 @@ module _ (L : Layout) (s : List ℕ) where
   abbrev pub bad_tail : Bool
   bad_tail = tail_set L (c_of L (record_at L s 0))
 
-  -- the first of them that applies; 0 where none does
-  unfoldable pub header_fault : ℕ
-  header_fault = cond bad_length 1 (cond bad_version 2 (cond bad_count 3 (cond bad_objective 4 (cond bad_tail 5 0))))
+  -- the first of them that applies, if one does
+  unfoldable pub header_cause : Option Cause
+  header_cause =
+      cond bad_length (Some Length)
+      (cond bad_version (Some Version)
+      (cond bad_count (Some Count) (cond bad_objective (Some Objective) (cond bad_tail (Some Tail) None))))
 
-  abbrev pub heading_of : Heading
-  heading_of =
-      record { fault = header_fault; terms = terms_of; count = count_of; link = link_of L (record_at L s 0) }
+  -- its number; 0 where none does
+  unfoldable pub header_fault : ℕ
+  header_fault = numbered header_cause
+
+  -- what the header says, or the first of them that applies
+  abbrev pub heading_of : Result Heading Cause
+  heading_of = headed header_cause (record { terms = terms_of; count = count_of; link = link_of L (record_at L s 0) })

@@ -4,11 +4,12 @@ use Rattle.std.specs.Prelude.{ℕ, ◌+◌, ◌*◌, Bool, cond, not, ◌||◌, 
 use Rattle.std.specs.Int.Signed.{lt_z}
 use Rattle.std.specs.Int.{w16, w32}
 use Rattle.std.proofs.Common.{to_z}
+use Rattle.answers.specs.declared.Cause.{Cause}
+use Rattle.answers.specs.declared.Cause.TheVariants.{Kind, Slope, Bound}
+use Rattle.answers.specs.Cause.{number_of_cause}
 use Rattle.records.specs.declared.fields.Fields.{Fields}
 use Rattle.records.specs.declared.Rule.{Rule}
 use Rattle.records.specs.declared.Sound.{Sound}
-use Rattle.records.specs.declared.Fault.{Fault}
-use Rattle.records.specs.declared.Fault.TheVariants.{Kind, Slope, Bound}
 use Rattle.records.specs.Layout.{Layout, width, at_kind, at_pad, at_a, at_b, at_label, at_c}
 use Rattle.records.specs.Number.{number}
 
@@ -81,24 +82,22 @@ abbrev pub bad_bound : Rule → Bool
 bad_bound r = is_beyond r.c
 
 -- a sound rule, with its link
-abbrev pub sound_with : Rule → ℕ → Result Sound Fault
+abbrev pub sound_with : Rule → ℕ → Result Sound Cause
 sound_with r next = Ok (record { rule = r; next = next })
 
 -- a rule with its link: sound, or what refuses it first
-unfoldable pub decoded_with : Bool → Rule → ℕ → Result Sound Fault
+unfoldable pub decoded_with : Bool → Rule → ℕ → Result Sound Cause
 decoded_with clear r next =
     cond (bad_kind clear r) (Err Kind) (cond (bad_slope r) (Err Slope) (cond (bad_bound r) (Err Bound) (sound_with r next)))
 
 -- of a record's fields
-abbrev pub decoded_from : Fields → Result Sound Fault
+abbrev pub decoded_from : Fields → Result Sound Cause
 decoded_from f = decoded_with (eqb f.pad 0) (rule_with f.kind f.a f.b f.label f.c) f.link
 
-unfoldable pub decoded_of : Layout → List ℕ → Result Sound Fault
+unfoldable pub decoded_of : Layout → List ℕ → Result Sound Cause
 decoded_of L r = decoded_with (eqb (pad_of L r) 0) (rule_of L r) (link_of L r)
 
 -- document 01's number for each; 0 where nothing refuses the record
-abbrev pub number_of : Result Sound Fault → ℕ
+abbrev pub number_of : Result Sound Cause → ℕ
 number_of (Ok s) = 0
-number_of (Err Kind) = 8
-number_of (Err Slope) = 9
-number_of (Err Bound) = 10
+number_of (Err cause) = number_of_cause cause

@@ -1,12 +1,12 @@
 // The fields of a record in each version's layout: its offsets are constants in a function of its own. What is made of the fields is one
 // body for both.
 ghost use Rattle.std.specs.Prelude.{◌≡◌, ◌+◌, ◌≤◌, length, take, drop, true};
-ghost use Rattle.records.specs.Layout.{v1, v2, layout_of};
+ghost use Rattle.records.specs.Layout.{v1, v2};
 ghost use Rattle.records.specs.Record.{record_at, fields_of, holds_record};
 
-use crate::Version;
 use crate::bytes::{number2, number4};
 use crate::fields::Fields;
+use crate::{Book, Version};
 
 // A record of version 1, whose bytes are there.
 pub fn fields_one(s: &[u8], at: usize) -> Fields
@@ -41,12 +41,12 @@ pub fn fields_two(s: &[u8], at: usize) -> Fields
 }
 
 // The fields of a record whose bytes are all there.
-pub fn fields_inside(version: Version, book: &[u8], index: u16) -> Fields
-    requires { holds_record (layout_of version) book.now index ≡ true }
-    ensures { result ≡ fields_of (layout_of version) (record_at (layout_of version) book.now index) }
+pub fn fields_inside(book: &Book, index: u16) -> Fields
+    requires { holds_record book.now.layout book.now.bytes index ≡ true }
+    ensures { result ≡ fields_of book.now.layout (record_at book.now.layout book.now.bytes index) }
 {
-    match version {
-        Version::One => fields_one(book, index as usize * 12),
-        Version::Two => fields_two(book, index as usize * 14),
+    match book.version {
+        Version::One => fields_one(book.bytes, index as usize * 12),
+        Version::Two => fields_two(book.bytes, index as usize * 14),
     }
 }

@@ -1,6 +1,6 @@
-// The records of a rule book, of either version of the format: a record's fields. A function takes the version and any bytes, and answers;
-// a byte that is not there reads as zero. The definitions of the whole format stand here; what a rule record holds and what turns it back
-// is crate `decoding`, what a header says crate `headings`, and what a rule is planned as crate `rules`.
+// The records of a rule book, of either version of the format: a record's fields. A book is its version and any bytes; a byte that is not
+// there reads as zero. The definitions of the whole format stand here; what a rule record holds and what turns it back is crate `decoding`,
+// what a header says crate `headings`, and what a rule is planned as crate `rules`.
 
 #![tactic(auto)]
 
@@ -8,7 +8,11 @@ mod bytes;
 pub mod fields;
 mod layouts;
 
+ghost use Rattle.records.specs.Encoded.{Encoded, encoded};
+ghost use Rattle.records.specs.Number.{Bytes};
+
 use lp::Terms;
+use std::marker::Model;
 
 // The versions of the format: records of 12 bytes, at most 256 of them, and of 14, at most 4,096.
 #[derive(Clone, Copy)]
@@ -17,7 +21,23 @@ pub enum Version {
     Two,
 }
 
-// A rule as its record has it, kind 2 not turned round.
+// A book as it is lent: its version, and its bytes, whatever they are. A clause sees the version's layout and the bytes; a function that
+// reads a field learns that each byte is one.
+#[derive(Drop)]
+pub struct Book<'a> {
+    pub version: Version,
+    pub bytes: &'a [u8],
+}
+
+impl<'a> Model for Book<'a> {
+    ghost Value = { Encoded };
+
+    ghost view = { λ b. encoded b.version b.bytes.now };
+
+    ghost invariant = { λ b. Bytes b.bytes.now };
+}
+
+// A rule as its record has it, kind 2 not turned round. The kind is a byte and no enum, since a record can hold any.
 #[derive(Clone, Copy)]
 pub struct Rule {
     pub kind: u8,
@@ -34,18 +54,9 @@ pub struct Sound {
     pub next: u16,
 }
 
-// What turns a rule record back.
-#[derive(Clone, Copy)]
-pub enum Fault {
-    Kind,
-    Slope,
-    Bound,
-}
-
-// What a header says: the first of the causes 1 to 5, or 0, the terms, its count of the records after it, and its link to the chain.
+// What a header says: the terms, its count of the records after it, and its link to the chain.
 #[derive(Clone, Copy)]
 pub struct Heading {
-    pub fault: u8,
     pub terms: Terms,
     pub count: u16,
     pub link: u16,

@@ -1,21 +1,21 @@
-// What every program prints of something turned back, in a lent buffer: a word and two numbers.
+// What every program prints of something turned back, on a line: a word and two numbers.
 
 #![tactic(auto)]
 
 ghost use Rattle.text.specs.Number.{refused};
-ghost use Rattle.text.specs.Append.{Appends};
+ghost use Rattle.text.specs.Line.{Adds};
 
 use numerals::append_number;
-use text::{append_word, lacks_room};
+use text::{Line, append_word};
 
 // What is turned back: the cause's number and the record that it names.
-pub fn append_refused(number: u8, index: u16, out: &mut [u8], at: usize) -> usize
-    ensures { Appends out.old at (refused number index) 49 out.new result }
+pub fn append_refused(number: u8, index: u16, line: &mut Line)
+    ensures { Adds line.old (refused number index) 49 line.new }
 {
-    if lacks_room(out.len(), at, 49) {
-        return at;
+    if line.lacks_room(49) {
+        return;
     }
-    let start = append_word(b"refused", out, at);
-    let next = append_number(number as usize, out, start);
-    append_number(index as usize, out, next)
+    append_word(b"refused", line);
+    append_number(number as usize, line);
+    append_number(index as usize, line);
 }

@@ -1,8 +1,10 @@
--- An insertion, step by step: the row with both ends cut, and the ring with the constraint in it.
+-- An insertion, step by step: the row with both ends cut, and the ring with the constraint in it. Engine's Drops cuts the like in a run
+-- whose index 0 names the horizon: its indices are at most the number of entries, and these below it, so that one law would be longer.
+use Rattle.std.specs.Prelude.{Option, None, Some}
 use mathlib.Core.Path.{◌≡◌, refl, sym, ◌∙◌, ap, subst}
-use mathlib.Core.List.{List, [], ◌∷◌}
+use mathlib.Core.List.{List, ◌∷◌}
 use mathlib.Core.Bool.{Bool, true, false}
-use Prim.Native.Nat.{ℕ, zero, suc, ◌+◌, ◌-◌, ◌≤◌, ◌<◌}
+use Prim.Native.Nat.{ℕ, suc, ◌+◌, ◌-◌, ◌≤◌, ◌<◌}
 use native.Mathlib.Omega.{arith}
 use native.Mathlib.Numerals.{add-one}
 use borrow.Author.Tests.{ltb-true, ltb-false}
@@ -13,35 +15,31 @@ use lib.IntN.{ℤ}
 use Rattle.lp.specs.declared.Constraint.{Constraint}
 use Rattle.lp.specs.Range.{SmallConstraint}
 use Rattle.engine.specs.Entries.{entry}
-use Rattle.engine.specs.Sizes.{Room}
 use Rattle.boundary.specs.Ring.{keeps_at, closed, entered, insert}
-use Rattle.region.specs.declared.Arc.{Arc}
-use Rattle.region.specs.Row.{edge, edges, Named, rotated, sought_row, front_row, back_row}
-use Rattle.region.specs.Asked.{Turning, Turned, Ring, Pair, Seeking, Sought, Cutting, Putting, Dropped, Left, Cut}
-use Rattle.region.specs.Asked.{Inserting, Inserted}
-use Rattle.region.proofs.Rows.{ring-pair, edges-length, edges-turned, edges-put}
+use Rattle.boundary.specs.declared.Arc.{Arc}
+use Rattle.engine.specs.Row.{front_row, back_row}
+use Rattle.engine.specs.Rings.{Dropped, Left}
+use Rattle.engine.proofs.Named.{edges-put}
+use Rattle.engine.proofs.Insertions.{given, when-so}
+use Rattle.region.specs.Row.{edge, edges, row_of, Named, rotated, sought_row}
+use Rattle.region.specs.Asked.{Turned, Ring, Pair, Seeking, Sought, Cutting, Putting, Put, Cut, Standing, Inserting, Stands}
+use Rattle.region.specs.Asked.{Inserted}
+use Rattle.region.proofs.Rows.{ring-pair, edges-length, edges-turned}
 use Rattle.region.proofs.Loops.{turned-named}
 
 abbrev pub arc : ℕ → ℕ → Arc
 arc lo n = record { lo = lo; n = n }
 
-nothing-named : (m : ℕ) (run : List ℕ) → Named m run 0 0
-nothing-named m run k b = absurd (none k b)
-  where
-    none : (k : ℕ) → k < 0 → ⊥
-    none k b = omega arith
-
 -- ---- both ends cut
 
 module _ {e : List ℤ} {run : List ℕ} (h : ℕ) {line : Constraint} {lo n : ℕ} (s : Putting e run line lo n) {i : ℕ}
-    (d : Dropped e run lo n line i) where
-  pub cut-none : n - i < 2 → Cut e run h line lo n (arc 0 0) run
+    (d : Dropped (entry e) run lo n line i) where
+  pub cut-none : n - i < 2 → Cut e run h line lo n None run
   cut-none b =
       record {
         same = refl;
-        fits = omega arith;
         row = λ c. sym (ap (closed line) (sym d.row ∙ ap (edges e run (lo + i)) one));
-        named = λ m below g. nothing-named m run;
+        put = tt;
       }
     where
       one : n - i ≡ suc 0
@@ -70,20 +68,24 @@ module _ {e : List ℤ} {run : List ℕ} (h : ℕ) {line : Constraint} {lo n : �
   pub cut-put :
       2 ≤ n - i →
       {k : ℕ} →
-      Left e run (lo + i) (n - i) line k →
-      Cut e run h line lo n (arc (lo + i - 1) (k + 1)) (set run (lo + i - 1) h)
+      Left (entry e) run (lo + i) (n - i) line k →
+      Cut e run h line lo n (Some (arc (lo + i - 1) (k + 1))) (set run (lo + i - 1) h)
   cut-put b {k} l =
       record {
         same = length-set run (lo + i - 1) h;
-        fits = subst (λ (m : ℕ). lo + i - 1 + (k + 1) ≤ m) (sym (length-set run (lo + i - 1) h)) room;
         row = λ c.
             ap (edges e (set run (lo + i - 1) h) (lo + i - 1)) (add-one k)
-            ∙ edges-put e run h (lo + i - 1) k (omega (arith, room))
+            ∙ edges-put (entry e) run h (lo + i - 1) k (omega (arith, room))
             ∙ (λ j. c' c j ∷ edges e run (after j) k)
             ∙ ap (λ r. line ∷ r) l.row
             ∙ subst (λ (m : ℕ). line ∷ back_row line (edges e run (lo + i) m) ≡ closed line (edges e run (lo + i) m)) (sym two) refl
             ∙ ap (closed line) d.row;
-        named = named;
+        put =
+            record {
+              fits = subst (λ (m : ℕ). lo + i - 1 + (k + 1) ≤ m) (sym (length-set run (lo + i - 1) h)) room;
+              two = omega (arith, l.some);
+              named = named;
+            };
       }
     where
       room : lo + i - 1 + (k + 1) ≤ length run
@@ -121,52 +123,42 @@ module _ {e : List ℤ} {run : List ℕ} (h : ℕ) {line : Constraint} {lo n : �
 
 -- ---- the entry at index h enters
 
-module _ {e : List ℤ} {run : List ℕ} {D : Constraint} {h : ℕ} {a : Arc} (s : Inserting e run D h a) where
-  pub insert-few : a.n < 2 → Inserted e run D h a (arc 0 0) run
-  insert-few b =
-      record { same = refl; fits = omega arith; row = sym (go a.n b); named = λ m below g. nothing-named m run }
-    where
-      go : (n : ℕ) → n < 2 → insert D (entry e h) (edges e run a.lo n) ≡ []
-      go zero c = refl
-      go (suc zero) c = refl
-      go (suc (suc n)) c = absurd (never c)
-        where
-          never : suc (suc n) < 2 → ⊥
-          never c = omega arith
+module _ {e : List ℤ} {run : List ℕ} {D : Constraint} {h : ℕ} {o : Option Arc} (s : Inserting e run D h o) where
+  module _ {a : Arc} (ea : o ≡ Some a) {line : Constraint} (is : line ≡ entry e h) where
+    stood : Standing run s.count a
+    stood = given (Standing run s.count) ea s.standing
 
-  pub insert-room : Room e h
-  insert-room = record { room = omega (arith, s.ring.entries.room, s.below) }
-
-  module _ {line : Constraint} (is : line ≡ entry e h) (two : 2 ≤ a.n) where
     line_small : SmallConstraint line
-    line_small = subst SmallConstraint (sym is) (s.ring.entries.small h s.below)
+    line_small = subst SmallConstraint (sym is) (s.entries.small h s.below)
 
     pub insert-seeking : Seeking e run D line a.lo a.n
-    insert-seeking = record { ring = s.ring; spare = s.spare; two = two; size_small = s.size_small; h-small = line_small }
+    insert-seeking =
+        record {
+          ring = record { count = s.count; entries = s.entries; fits = stood.fits; named = stood.named };
+          spare = stood.spare;
+          two = stood.two;
+          size_small = s.size_small;
+          h-small = line_small;
+        }
 
     module _ {now : List ℕ} {at : ℕ} (t : Sought e run a.lo a.n (sought_row D line a.n (edges e run a.lo a.n)) at now) where
       sought-ring : Ring e now at a.n
-      sought-ring =
-          record {
-            count = s.ring.count;
-            entries = s.ring.entries;
-            fits = t.fits;
-            named = t.named s.ring.count s.ring.named;
-          }
+      sought-ring = record { count = s.count; entries = s.entries; fits = t.fits; named = t.named s.count stood.named }
 
       pub insert-pair : Pair e now line at (at + 1)
-      insert-pair = ring-pair sought-ring line_small at (omega arith) (omega arith)
+      insert-pair = ring-pair sought-ring line_small at (omega arith) (omega (arith, stood.two))
 
       looked :
           {b : Bool} →
           b ≡ keeps_at line (edge e now at) (edge e now (at + 1)) →
           elim b [ true ↦ edges e now at a.n | false ↦ closed line (front_row line (rotated (edges e now at a.n))) ]
-          ≡ insert D (entry e h) (edges e run a.lo a.n)
+          ≡ insert D (entry e h) (row_of e run o)
       looked {b} eb =
-          opened a.n (a.n - 2) (omega arith)
+          opened a.n (a.n - 2) (omega (arith, stood.two))
           ∙ ap (entered line) t.row
-          ∙ whole a.n (a.n - 2) (omega arith)
+          ∙ whole a.n (a.n - 2) (omega (arith, stood.two))
           ∙ ap (λ (r : Constraint). insert D r (edges e run a.lo a.n)) is
+          ∙ sym (ap (λ (o : Option Arc). insert D (entry e h) (row_of e run o)) ea)
         where
           opened :
               (n m : ℕ) →
@@ -201,12 +193,18 @@ module _ {e : List ℤ} {run : List ℕ} {D : Constraint} {h : ℕ} {a : Arc} (s
           {b : Bool} →
           b ≡ keeps_at line (edge e now at) (edge e now (at + 1)) →
           b ≡ true →
-          Inserted e run D h a (arc at a.n) now
+          Inserted e run D h o (Some (arc at a.n)) now
       insert-kept eb k =
-          record { same = t.same; fits = t.fits; row = looked (sym k ∙ eb); named = λ m below g. t.named m g }
-
-      pub insert-turning : Turning now at a.n
-      insert-turning = record { some = omega arith; fits = t.fits; spare = omega (arith, s.spare, t.same) }
+          record {
+            same = t.same;
+            row = looked (sym k ∙ eb);
+            stands =
+                record {
+                  fits = t.fits;
+                  two = stood.two;
+                  named = λ m below g. t.named m (given (λ (b : Arc). Named m run b.lo b.n) ea g);
+                };
+          }
 
       module _ {next : List ℕ} {to : ℕ} (u : Turned now at a.n to next) where
         pub insert_putting : Putting e next line to a.n
@@ -216,12 +214,12 @@ module _ {e : List ℤ} {run : List ℕ} {D : Constraint} {h : ℕ} {a : Arc} (s
                   record {
                     ring =
                         record {
-                          count = s.ring.count;
-                          entries = s.ring.entries;
+                          count = s.count;
+                          entries = s.entries;
                           fits = u.fits;
-                          named = turned-named u (t.named s.ring.count s.ring.named);
+                          named = turned-named u (t.named s.count stood.named);
                         };
-                    some = omega arith;
+                    some = omega (arith, stood.two);
                     h-small = line_small;
                   };
               later = u.later;
@@ -231,17 +229,26 @@ module _ {e : List ℤ} {run : List ℕ} {D : Constraint} {h : ℕ} {a : Arc} (s
             {b : Bool} →
             b ≡ keeps_at line (edge e now at) (edge e now (at + 1)) →
             b ≡ false →
-            {z : Arc} {after : List ℕ} →
+            {z : Option Arc} {after : List ℕ} →
             Cut e next h line to a.n z after →
-            Inserted e run D h a z after
-        insert-cut eb k c =
+            Inserted e run D h o z after
+        insert-cut eb k {z} {after} c =
             record {
               same = c.same ∙ u.same ∙ t.same;
-              fits = c.fits;
-              row = c.row is ∙ ap (λ l. closed line (front_row line l)) (row a.n (a.n - 1) (omega arith) u) ∙ looked (sym k ∙ eb);
-              named = λ m below g. c.named m below (turned-named u (t.named m g));
+              row = c.row is
+                  ∙ ap (λ l. closed line (front_row line l)) (row a.n (a.n - 1) (omega (arith, stood.two)) u)
+                  ∙ looked (sym k ∙ eb);
+              stands = when-so (λ (b : Arc). Put next h to a.n b after) (λ (b : Arc). Stands run h o b after) one z c.put;
             }
           where
+            one : (b : Arc) → Put next h to a.n b after → Stands run h o b after
+            one b p =
+                record {
+                  fits = p.fits;
+                  two = p.two;
+                  named = λ m below g. p.named m below (turned-named u (t.named m (given (λ (b : Arc). Named m run b.lo b.n) ea g)));
+                }
+
             row : (n m : ℕ) → n ≡ suc m → Turned now at n to next → edges e next to n ≡ rotated (edges e now at n)
             row n m en u =
                 subst (λ (j : ℕ). edges e next to j ≡ rotated (edges e now at j)) (sym en)

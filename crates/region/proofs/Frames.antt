@@ -1,5 +1,5 @@
 -- The run with the floors before the rules and the horizon after them; and the promise of `corners` on each of its two ways.
-use Rattle.std.specs.Prelude.{None, Some}
+use Rattle.std.specs.Prelude.{Option, None, Some}
 use mathlib.Core.Path.{◌≡◌, refl, sym, ◌∙◌, ap, ap₂, subst}
 use mathlib.Core.List.{List, [], ◌∷◌}
 use mathlib.Core.Bool.{Bool, true, false, cond, ◌&&◌}
@@ -23,11 +23,12 @@ use Rattle.engine.proofs.Laid.{put-length, put_same, put_other, laid, laid-lengt
 use Rattle.boundary.specs.Size.{horizon}
 use Rattle.boundary.specs.Ring.{grown, corners}
 use Rattle.boundary.proofs.Count.{edges-at-most}
-use Rattle.region.specs.declared.Arc.{Arc}
-use Rattle.region.specs.Row.{edge, edges, Named}
+use Rattle.boundary.specs.declared.Arc.{Arc}
+use Rattle.region.specs.Row.{edge, edges, row_of, Named}
 use Rattle.region.specs.Listing.{put_points, chosen, is_rule, roomy, taken, framed, corners_of, Lists}
-use Rattle.region.specs.Asked.{Framing, Growing, Grown, Listing, CornersPut}
-use Rattle.region.proofs.Meets.{horizon-small}
+use Rattle.region.specs.Asked.{Framing, Growing, Grows, Grown, Listing, CornersPut}
+use Rattle.engine.proofs.Rows.{horizon-small}
+use Rattle.engine.proofs.Insertions.{given}
 use Rattle.region.proofs.Rows.{edges-length}
 
 -- ---- what stands in the framed run
@@ -241,47 +242,70 @@ module _ (f : Floors) (e : List ℤ) (n : ℕ) (order ring : List ℕ) (out : Li
                   over : k ≡ 0 + k
                   over = omega arith
 
-      module _ {a : Arc} {ring' : List ℕ} (g : Grown e' f order ring (n + 3) a ring') where
-        the_ring : edges e' ring' a.lo a.n ≡ grown f (chosen e order)
+      module _ {o : Option Arc} {ring' : List ℕ} (g : Grown e' f order ring (n + 3) o ring') where
+        the_ring : row_of e' ring' o ≡ grown f (chosen e order)
         the_ring =
             g.row
             ∙ ap (grown f) (ap (λ (l : List ℤ). edges l order 0 (length order)) ee
             ∙ edges-chosen (framed f e n) order
             ∙ chosen-framed f e n order fits.ordered)
 
-        pub listing : Listing e' ring' a out
-        listing =
-            record {
-              ring =
-                  record {
-                    count = n + 3;
-                    entries = subst (λ (l : List ℤ). Entries l (n + 3)) (sym ee) framed-entries;
-                    fits = g.fits;
-                    named = g.named;
-                  };
-              room = enough (sym (edges-length e' ring' a.lo a.n) ∙ ap length the_ring)
-                  (edges-at-most f (chosen e order)) (chosen-length e order) fits.out-room;
-            }
-          where
-            enough : {k l c : ℕ} → k ≡ l → l ≤ c + 3 → c ≡ length order → 3 * (length order + 3) ≤ length out → 3 * k ≤ length out
-            enough x y z w = omega arith
-
-        pub lists :
+        -- k corners of the ring are listed
+        listed :
             {k : ℕ} {out' : List ℤ} →
-            CornersPut e' ring' a out k out' →
+            k ≡ length (corners (row_of e' ring' o)) →
+            out' ≡ put_points out 0 (corners (row_of e' ring' o)) →
             Lists f e n order ring out (Some k) e' ring' out'
-        lists l =
+        listed count put =
             record {
               answer =
-                  ap Some (l.count ∙ ap (λ r. length (corners r)) the_ring)
+                  ap Some (count ∙ ap (λ r. length (corners r)) the_ring)
                   ∙ ap (λ b. cond b (Some (length (corners_of f e order))) None) (sym so ∙ told);
               listed =
-                  l.put
+                  put
                   ∙ ap (λ r. put_points out 0 (corners r)) the_ring
                   ∙ ap (λ b. cond b (put_points out 0 (corners_of f e order)) out) (sym so ∙ told);
               run = ee ∙ ap (λ b. cond b (framed f e n) e) (sym so ∙ told);
               scratch = g.same;
             }
+
+        -- no ring is left, and no corner
+        pub lists-none : o ≡ None → Lists f e n order ring out (Some 0) e' ring' out
+        lists-none en =
+            listed (sym (ap (λ (o : Option Arc). length (corners (row_of e' ring' o))) en))
+            (sym (ap (λ (o : Option Arc). put_points out 0 (corners (row_of e' ring' o))) en))
+
+        module _ {a : Arc} (ea : o ≡ Some a) where
+          grows : Grows (n + 3) a ring'
+          grows = given (λ (b : Arc). Grows (n + 3) b ring') ea g.grows
+
+          here : edges e' ring' a.lo a.n ≡ row_of e' ring' o
+          here = sym (ap (row_of e' ring') ea)
+
+          pub listing : Listing e' ring' a out
+          listing =
+              record {
+                ring =
+                    record {
+                      count = n + 3;
+                      entries = subst (λ (l : List ℤ). Entries l (n + 3)) (sym ee) framed-entries;
+                      fits = grows.fits;
+                      named = grows.named;
+                    };
+                some = omega (arith, grows.two);
+                room = enough (sym (edges-length e' ring' a.lo a.n) ∙ ap length (here ∙ the_ring))
+                    (edges-at-most f (chosen e order)) (chosen-length e order) fits.out-room;
+              }
+            where
+              enough : {k l c : ℕ} → k ≡ l → l ≤ c + 3 → c ≡ length order → 3 * (length order + 3) ≤ length out → 3 * k ≤ length out
+              enough x y z w = omega arith
+
+          pub lists :
+              {k : ℕ} {out' : List ℤ} →
+              CornersPut e' ring' a out k out' →
+              Lists f e n order ring out (Some k) e' ring' out'
+          lists l =
+              listed (l.count ∙ ap (λ r. length (corners r)) here) (l.put ∙ ap (λ r. put_points out 0 (corners r)) here)
 
 -- ---- as the code frames it
 

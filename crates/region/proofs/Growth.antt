@@ -1,4 +1,5 @@
 -- The rules enter the ring one after the other, from the triangle of the floors and the horizon on.
+use Rattle.std.specs.Prelude.{Option, None, Some}
 use mathlib.Core.Path.{◌≡◌, refl, sym, ◌∙◌, ap, subst}
 use mathlib.Core.List.{List, [], ◌∷◌}
 use Prim.Native.Nat.{ℕ, zero, suc, ◌+◌, ◌-◌, ◌≤◌, ◌<◌}
@@ -14,10 +15,12 @@ use Rattle.engine.specs.Entries.{entry}
 use Rattle.boundary.specs.Size.{size}
 use Rattle.boundary.specs.Ring.{insert, grown_from, triangle}
 use Rattle.boundary.proofs.Count.{weigh, grown-weight}
-use Rattle.region.specs.declared.Arc.{Arc}
-use Rattle.region.specs.Row.{edge, edges, Named}
-use Rattle.region.specs.Asked.{Inserting, Inserted, Entering, Entered, Growing, Grown}
-use Rattle.region.proofs.Meets.{size_small}
+use Rattle.boundary.specs.declared.Arc.{Arc}
+use Rattle.engine.specs.Rings.{When}
+use Rattle.engine.proofs.Rows.{size_small}
+use Rattle.engine.proofs.Insertions.{when-so}
+use Rattle.region.specs.Row.{edge, edges, row_of, Named}
+use Rattle.region.specs.Asked.{Standing, Inserting, Stands, Inserted, Entering, Ordered, Entered, Growing, Grows, Grown}
 use Rattle.region.proofs.Rows.{edges-length}
 use Rattle.region.proofs.Cuts.{arc}
 
@@ -42,14 +45,13 @@ insert-length D h l = go (grown-weight (λ r. 1) D l (h ∷ [])) (weigh-length (
 
 -- ---- the loop
 
-pub record Enter (e : List ℤ) (order before : List ℕ) (D : Constraint) (a : Arc) (now : List ℕ) (b : Arc) (i : ℕ) : Type 0 where
+pub record Enter (e : List ℤ) (order before : List ℕ) (D : Constraint) (a : Arc) (now : List ℕ) (o : Option Arc) (i : ℕ) : Type 0 where
   pub inside : i ≤ length order
   pub same : length now ≡ length before
-  pub fits : b.lo + b.n ≤ length now
-  pub few : b.n ≤ a.n + i
-  pub named : (m : ℕ) → Named m order 0 (length order) → Named m before a.lo a.n → Named m now b.lo b.n
+  pub few : length (row_of e now o) ≤ a.n + i
+  pub ordered : When (λ (b : Arc). Ordered order before a b now) o
   pub rest :
-      grown_from D (edges e now b.lo b.n) (edges e order i (length order - i))
+      grown_from D (row_of e now o) (edges e order i (length order - i))
       ≡ grown_from D (edges e before a.lo a.n) (edges e order 0 (length order))
 
 at-start : (m : ℕ) (order : List ℕ) (n : ℕ) → Named m order 0 n → (i : ℕ) → i < n → get_or order i 0 < m
@@ -59,77 +61,86 @@ at-start m order n g i b = subst (λ (j : ℕ). get_or order j 0 < m) none (g i 
     none = omega arith
 
 module _ {e : List ℤ} {order before : List ℕ} {D : Constraint} {a : Arc} (s : Entering e order before D a) where
-  pub enter-start : Enter e order before D a before a 0
+  pub enter-start : Enter e order before D a before (Some a) 0
   enter-start =
       record {
         inside = omega arith;
         same = refl;
-        fits = s.ring.fits;
-        few = omega arith;
-        named = λ m g k. k;
+        few = omega (arith, edges-length e before a.lo a.n);
+        ordered = record { fits = s.ring.fits; two = s.two; named = λ m g k. k };
         rest = ap (λ (n : ℕ). grown_from D (edges e before a.lo a.n) (edges e order 0 n)) all;
       }
     where
       all : length order - 0 ≡ length order
       all = omega arith
 
-  module _ {now : List ℕ} {b : Arc} {i : ℕ} (t : Enter e order before D a now b i) where
-    pub enter_inserting : i < length order → Inserting e now D (get_or order i 0) b
+  module _ {now : List ℕ} {o : Option Arc} {i : ℕ} (t : Enter e order before D a now o i) where
+    pub enter_inserting : i < length order → Inserting e now D (get_or order i 0) o
     enter_inserting less =
         record {
-          ring =
-              record {
-                count = s.ring.count;
-                entries = s.ring.entries;
-                fits = t.fits;
-                named = t.named s.ring.count s.ordered s.ring.named;
-              };
-          spare = omega (arith, s.room, t.few, t.same);
-          size_small = s.size_small;
+          count = s.ring.count;
+          entries = s.ring.entries;
           below = at-start s.ring.count order (length order) s.ordered i less;
+          size_small = s.size_small;
+          standing = go o t.few t.ordered;
         }
+      where
+        go :
+            (o : Option Arc) →
+            length (row_of e now o) ≤ a.n + i →
+            When (λ (b : Arc). Ordered order before a b now) o →
+            When (Standing now s.ring.count) o
+        go None few u = tt
+        go (Some b) few u =
+            record {
+              fits = u.fits;
+              spare = omega (arith, s.room, few, edges-length e now b.lo b.n, t.same);
+              two = u.two;
+              named = u.named s.ring.count s.ordered s.ring.named;
+            }
 
     pub enter_step :
         i < length order →
-        {next : Arc} {after : List ℕ} →
-        Inserted e now D (get_or order i 0) b next after →
+        {next : Option Arc} {after : List ℕ} →
+        Inserted e now D (get_or order i 0) o next after →
         Enter e order before D a after next (i + 1)
     enter_step less {next} {after} u =
         record {
           inside = omega arith;
           same = u.same ∙ t.same;
-          fits = u.fits;
-          few = fewer
-              (sym (edges-length e after next.lo next.n) ∙ ap length u.row)
-              (insert-length D (edge e order i) (edges e now b.lo b.n))
-              (edges-length e now b.lo b.n)
-              t.few;
-          named = λ m g k. u.named m (at-start m order (length order) g i less) (t.named m g k);
+          few = fewer (ap length u.row) (insert-length D (edge e order i) (row_of e now o)) t.few;
+          ordered =
+              when-so (λ (b : Arc). Stands now (get_or order i 0) o b after) (λ (b : Arc). Ordered order before a b after) one next
+              u.stands;
           rest =
               (λ j. grown_from D (u.row j) (edges e order (add-one i j) (length order - add-one i j)))
-              ∙ sym (ap (λ (n : ℕ). grown_from D (edges e now b.lo b.n) (edges e order i n)) more)
+              ∙ sym (ap (λ (n : ℕ). grown_from D (row_of e now o) (edges e order i n)) more)
               ∙ t.rest;
         }
       where
         more : length order - i ≡ suc (length order - suc i)
         more = omega arith
 
-        fewer :
-            {n w v : ℕ} →
-            n ≡ w →
-            w ≤ v + 1 →
-            v ≡ b.n →
-            b.n ≤ a.n + i →
-            n ≤ a.n + (i + 1)
-        fewer x y z w = omega arith
+        fewer : {n w v : ℕ} → n ≡ w → w ≤ v + 1 → v ≤ a.n + i → n ≤ a.n + (i + 1)
+        fewer x y z = omega arith
 
-    pub enter-end : length order ≤ i → Entered e order before D a b now
+        one : (b : Arc) → Stands now (get_or order i 0) o b after → Ordered order before a b after
+        one b p =
+            record {
+              fits = p.fits;
+              two = p.two;
+              named = λ m g k.
+                  p.named m (at-start m order (length order) g i less)
+                  (when-so (λ (c : Arc). Ordered order before a c now) (λ (c : Arc). Named m now c.lo c.n) (λ c q. q.named m g k) o
+                  t.ordered);
+            }
+
+    pub enter-end : length order ≤ i → Entered e order before D a o now
     enter-end over =
         record {
           same = t.same;
-          fits = t.fits;
-          row = sym (ap (λ (n : ℕ). grown_from D (edges e now b.lo b.n) (edges e order i n)) none) ∙ t.rest;
-          named = t.named;
+          row = sym (ap (λ (n : ℕ). grown_from D (row_of e now o) (edges e order i n)) none) ∙ t.rest;
+          ordered = t.ordered;
         }
       where
         none : length order - i ≡ 0
@@ -187,6 +198,7 @@ module _ {e : List ℤ} {floors : Floors} {order run : List ℕ} {m : ℕ} (s : 
               fits = omega (arith, long, seeded-length);
               named = seeded-named;
             };
+        two = omega arith;
         ordered = s.ordered;
         room = omega (arith, s.room, seeded-length);
         size_small = subst SmallConstraint (sym is) (size_small s.floors-small);
@@ -195,13 +207,15 @@ module _ {e : List ℤ} {floors : Floors} {order run : List ℕ} {m : ℕ} (s : 
   pub grow-grown :
       {D : Constraint} →
       D ≡ size floors →
-      {b : Arc} {after : List ℕ} →
-      Entered e order (seeded run (m - 1)) D (arc 0 3) b after →
-      Grown e floors order run m b after
-  grow-grown is t =
+      {o : Option Arc} {after : List ℕ} →
+      Entered e order (seeded run (m - 1)) D (arc 0 3) o after →
+      Grown e floors order run m o after
+  grow-grown is {o} {after} t =
       record {
         same = t.same ∙ seeded-length;
-        fits = t.fits;
         row = t.row ∙ λ i. grown_from (is i) (seeded-row i) (edges e order 0 (length order));
-        named = t.named m s.ordered seeded-named;
+        grows = when-so (λ (b : Arc). Ordered order (seeded run (m - 1)) (arc 0 3) b after) (λ (b : Arc). Grows m b after) one o t.ordered;
       }
+    where
+      one : (b : Arc) → Ordered order (seeded run (m - 1)) (arc 0 3) b after → Grows m b after
+      one b p = record { fits = p.fits; two = p.two; named = p.named m s.ordered seeded-named }

@@ -13,7 +13,7 @@ use Rattle.lp.specs.declared.Point.{Point}
 use Rattle.lp.specs.Outcome.{det, meet, reduce}
 use Rattle.lp.specs.Range.{SmallConstraint}
 use Rattle.boundary.specs.Ring.{listed, corners_from, corners}
-use Rattle.region.specs.declared.Arc.{Arc}
+use Rattle.boundary.specs.declared.Arc.{Arc}
 use Rattle.region.specs.Row.{edge, edges}
 use Rattle.region.specs.Listing.{put_point, put_points}
 use Rattle.region.specs.Asked.{At, Noting, Noted, Listing, CornersPut}
@@ -78,21 +78,11 @@ pub record Walk (e : List ℤ) (run : List ℕ) (a : Arc) (before now : List ℤ
       ≡ length (corners (edges e run a.lo a.n))
 
 module _ {e : List ℤ} {run : List ℕ} {a : Arc} {before : List ℤ} (s : Listing e run a before) where
-  pub list-none : a.n < 1 → CornersPut e run a before 0 before
-  list-none b =
-      record {
-        count = sym (ap (λ (n : ℕ). length (corners (edges e run a.lo n))) none);
-        put = sym (ap (λ (n : ℕ). put_points before 0 (corners (edges e run a.lo n))) none);
-      }
-    where
-      none : a.n ≡ 0
-      none = omega arith
-
-  pub walk_start : 1 ≤ a.n → Walk e run a before before 0 1
-  walk_start b =
+  pub walk_start : Walk e run a before before 0 1
+  walk_start =
       record {
         begun = omega arith;
-        inside = b;
+        inside = s.some;
         few = omega arith;
         same = refl;
         put = ap (put_points before 0) whole;
@@ -109,7 +99,7 @@ module _ {e : List ℤ} {run : List ℕ} {a : Arc} {before : List ℤ} (s : List
       next = omega arith
 
       some : a.n ≡ suc (a.n - 1)
-      some = omega arith
+      some = omega (arith, s.some)
 
       whole :
           corners_from (edge e run a.lo) (edge e run (a.lo + 1 - 1)) (edges e run (a.lo + 1) (a.n - 1))
@@ -167,9 +157,6 @@ module _ {e : List ℤ} {run : List ℕ} {a : Arc} {before : List ℤ} (s : List
         more =
             (λ j. listed (ep j) (eq j) (corners_from (edge e run a.lo) (edge e run (here j)) (edges e run (on j) (a.n - (i + 1)))))
             ∙ sym (ap (λ (n : ℕ). corners_from (edge e run a.lo) (edge e run (a.lo + i - 1)) (edges e run (a.lo + i) n)) fewer)
-
-    last-at : a.n ≤ i → i ≡ a.n
-    last-at b = omega (arith, t.inside)
 
     pub walk-last : a.n ≤ i → At e run (a.lo + a.n - 1)
     walk-last b = ring-at s.ring (a.lo + a.n - 1) (omega (arith, t.begun, t.inside)) (omega (arith, t.begun, t.inside))

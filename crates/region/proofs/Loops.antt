@@ -2,7 +2,7 @@
 use mathlib.Core.Path.{◌≡◌, refl, sym, ◌∙◌, ap, subst}
 use mathlib.Core.List.{List}
 use mathlib.Core.Bool.{Bool, true, false}
-use Prim.Native.Nat.{ℕ, suc, ◌+◌, ◌-◌, ◌^◌, ◌≤◌, ◌<◌}
+use Prim.Native.Nat.{ℕ, suc, ◌+◌, ◌-◌, ◌≤◌, ◌<◌}
 use native.Mathlib.Omega.{arith}
 use native.Mathlib.Numerals.{add-one}
 use borrow.Author.Tests.{ltb-true, ltb-false}
@@ -11,11 +11,12 @@ use lib.ListN.{length, get_or, set, length-set}
 use lib.Seq.{get_or-set_same, get_or-set_other}
 use lib.IntN.{ℤ}
 use Rattle.lp.specs.declared.Constraint.{Constraint}
-use Rattle.boundary.specs.Ring.{keeps_at, at_place}
-use Rattle.region.specs.Row.{edge, edges, Named, rotated, sought_row, front_row, back_row}
-use Rattle.region.specs.Asked.{Sliding, Slides, Turning, Spared, Turned, Ring, Seeking, Sought, Cutting, Dropped, Left, Pair, Place}
-use Rattle.region.proofs.Rows.{ring-pair, ring-place, edges_at, edges-turned}
-use Rattle.region.proofs.Rows.{sought-two, front-two, back_drops, back-keeps}
+use Rattle.boundary.specs.Ring.{at_place}
+use Rattle.engine.specs.Entries.{entry}
+use Rattle.engine.proofs.Dropping.{Back}
+use Rattle.region.specs.Row.{edge, edges, Named, rotated, sought_row}
+use Rattle.region.specs.Asked.{Sliding, Slides, Turning, Spared, Turned, Ring, Seeking, Sought, Cutting, Pair, Place}
+use Rattle.region.proofs.Rows.{ring-pair, ring-place, edges-turned, sought-two}
 
 -- ---- moving the ring to the start of its run
 
@@ -65,12 +66,6 @@ module _ {before : List ℕ} {lo n : ℕ} (h : Sliding before lo n) {now : List 
 -- ---- one turn
 
 module _ {before : List ℕ} {lo n : ℕ} (h : Turning before lo n) where
-  pub spared-here : lo + n < length before → Spared before lo n lo before
-  spared-here b = record { same = refl; spare = b; moved = λ k c. refl }
-
-  pub sliding : lo + n < 2 ^ 64 → Sliding before lo n
-  sliding b = record { fits = h.fits; small = b }
-
   pub spared-moved : {after : List ℕ} → Slides before lo n after → Spared before lo n 0 after
   spared-moved {after} s =
       record {
@@ -226,128 +221,11 @@ module _ {e : List ℤ} {before : List ℕ} {D h : Constraint} {lo n : ℕ} (s :
             ∙ sym (ap (λ (c : ℕ). sought_row D h c (edges e now at n)) none)
             ∙ t.rest
 
--- ---- what h drops at the front
-
-pub record Front (e : List ℤ) (run : List ℕ) (lo n : ℕ) (h : Constraint) (i : ℕ) : Type 0 where
-  pub inside : i < n
-  pub rest : front_row h (edges e run (lo + i) (n - i)) ≡ front_row h (edges e run lo n)
+-- ---- the corners that are looked at for what h drops
 
 module _ {e : List ℤ} {run : List ℕ} {lo n : ℕ} {h : Constraint} (s : Cutting e run h lo n) where
-  pub front-start : Front e run lo n h 0
-  front-start = record { inside = s.some; rest = ap (front_row h) (edges_at e run none all) }
-    where
-      none : lo + 0 ≡ lo
-      none = omega arith
+  pub front-pair : (i : ℕ) → i + 1 < n → Pair e run h (lo + i) (lo + i + 1)
+  front-pair i b = ring-pair s.ring s.h-small (lo + i) (omega arith) (omega arith)
 
-      all : n - 0 ≡ n
-      all = omega arith
-
-  module _ {i : ℕ} (t : Front e run lo n h i) where
-    pub front-pair : i + 1 < n → Pair e run h (lo + i) (lo + i + 1)
-    front-pair b = ring-pair s.ring s.h-small (lo + i) (omega arith) (omega arith)
-
-    looked-front :
-        i + 1 < n →
-        {b : Bool} →
-        b ≡ keeps_at h (edge e run (lo + i)) (edge e run (lo + i + 1)) →
-        elim b [ true ↦ edges e run (lo + i) (n - i) | false ↦ front_row h (edges e run (lo + (i + 1)) (n - (i + 1))) ]
-        ≡ front_row h (edges e run lo n)
-    looked-front less {b} eb =
-        (λ j. elim b [
-          | true ↦ edges e run (lo + i) (two j)
-          | false ↦ front_row h (edges e run (next j) (one j))
-        ])
-        ∙ sym (front-two e h run (lo + i) (n - i - 2)
-        (sym (eb ∙ ap (λ (j : ℕ). keeps_at h (edge e run (lo + i)) (edge e run j)) (add-one (lo + i)))))
-        ∙ ap (λ (m : ℕ). front_row h (edges e run (lo + i) m)) (sym two)
-        ∙ t.rest
-      where
-        two : n - i ≡ suc (suc (n - i - 2))
-        two = omega arith
-
-        one : n - (i + 1) ≡ suc (n - i - 2)
-        one = omega arith
-
-        next : lo + (i + 1) ≡ suc (lo + i)
-        next = omega arith
-
-    pub front-stop : i + 1 < n → keeps_at h (edge e run (lo + i)) (edge e run (lo + i + 1)) ≡ true → Dropped e run lo n h i
-    front-stop b k = record { some = t.inside; row = looked-front b (sym k) }
-
-    pub front-step : i + 1 < n → keeps_at h (edge e run (lo + i)) (edge e run (lo + i + 1)) ≡ false → Front e run lo n h (i + 1)
-    front-step b k = record { inside = b; rest = looked-front b (sym k) }
-
-    pub front-end : n ≤ i + 1 → Dropped e run lo n h i
-    front-end b =
-        record {
-          some = t.inside;
-          row =
-              subst (λ (m : ℕ). edges e run (lo + i) m ≡ front_row h (edges e run (lo + i) m)) (sym one) refl ∙ t.rest;
-        }
-      where
-        one : n - i ≡ suc 0
-        one = omega (arith, t.inside)
-
--- ---- what h drops at the back
-
-pub record Back (e : List ℤ) (run : List ℕ) (lo n : ℕ) (h : Constraint) (k : ℕ) : Type 0 where
-  pub inside : k ≤ n
-  pub some : 0 < k
-  pub rest : back_row h (edges e run lo k) ≡ back_row h (edges e run lo n)
-
-module _ {e : List ℤ} {run : List ℕ} {lo n : ℕ} {h : Constraint} (s : Cutting e run h lo n) where
-  pub back_start : Back e run lo n h n
-  back_start = record { inside = omega arith; some = s.some; rest = refl }
-
-  module _ {k : ℕ} (t : Back e run lo n h k) where
-    pub back-pair : 1 < k → Pair e run h (lo + k - 2) (lo + k - 2 + 1)
-    back-pair b = ring-pair s.ring s.h-small (lo + k - 2) (omega arith) (omega (arith, t.inside))
-
-    at_back :
-        {b : Bool} →
-        b ≡ keeps_at h (edge e run (lo + k - 2)) (edge e run (lo + k - 2 + 1)) →
-        keeps_at h (edge e run (lo + k - 2)) (edge e run (suc (lo + k - 2))) ≡ b
-    at_back eb = sym (eb ∙ ap (λ (j : ℕ). keeps_at h (edge e run (lo + k - 2)) (edge e run j)) (add-one (lo + k - 2)))
-
-    pub back-stop : 1 < k → keeps_at h (edge e run (lo + k - 2)) (edge e run (lo + k - 2 + 1)) ≡ true → Left e run lo n h k
-    back-stop b g =
-        record {
-          some = t.some;
-          fewer = t.inside;
-          row =
-              subst (λ (j : ℕ). edges e run lo j ≡ back_row h (edges e run lo j)) (sym two)
-              (sym (back-keeps e h run lo (k - 2) (lo + k - 2) (omega arith) (at_back (sym g))))
-              ∙ t.rest;
-        }
-      where
-        two : k ≡ suc (suc (k - 2))
-        two = omega arith
-
-    pub back_step : 1 < k → keeps_at h (edge e run (lo + k - 2)) (edge e run (lo + k - 2 + 1)) ≡ false → Back e run lo n h (k - 1)
-    back_step b g =
-        record {
-          inside = omega (arith, t.inside);
-          some = omega arith;
-          rest =
-              ap (λ (j : ℕ). back_row h (edges e run lo j)) one
-              ∙ sym (back_drops e h run lo (k - 2) (lo + k - 2) (omega arith) (at_back (sym g)))
-              ∙ ap (λ (j : ℕ). back_row h (edges e run lo j)) (sym two)
-              ∙ t.rest;
-        }
-      where
-        two : k ≡ suc (suc (k - 2))
-        two = omega arith
-
-        one : k - 1 ≡ suc (k - 2)
-        one = omega arith
-
-    pub back_end : k ≤ 1 → Left e run lo n h k
-    back_end b =
-        record {
-          some = t.some;
-          fewer = t.inside;
-          row = subst (λ (j : ℕ). edges e run lo j ≡ back_row h (edges e run lo j)) (sym one) refl ∙ t.rest;
-        }
-      where
-        one : k ≡ suc 0
-        one = omega (arith, t.some)
+  pub back-pair : {k : ℕ} → Back (entry e) run lo n h k → 1 < k → Pair e run h (lo + k - 2) (lo + k - 2 + 1)
+  back-pair {k} t b = ring-pair s.ring s.h-small (lo + k - 2) (omega arith) (omega (arith, t.inside))

@@ -1,5 +1,6 @@
--- What the private functions ask of numbers and runs, and what they hand back, one record for each.
-use Rattle.std.specs.Prelude.{◌≡◌, List, ℕ, ◌+◌, ◌*◌, ◌-◌, ◌^◌, ◌≤◌, ◌<◌, length, get_or, ℤ}
+-- What the private functions ask of numbers and runs, and what they hand back, one record for each. Of a ring that is not there nothing is
+-- said but that it has no edges.
+use Rattle.std.specs.Prelude.{◌≡◌, List, ℕ, ◌+◌, ◌*◌, ◌-◌, ◌^◌, ◌≤◌, ◌<◌, length, get_or, ℤ, Option}
 use Rattle.lp.specs.declared.Constraint.{Constraint}
 use Rattle.lp.specs.declared.Floors.{Floors}
 use Rattle.lp.specs.declared.Point.{Point}
@@ -9,8 +10,10 @@ use Rattle.engine.specs.Sizes.{Entries}
 use Rattle.engine.specs.Entries.{entry}
 use Rattle.boundary.specs.Size.{horizon}
 use Rattle.boundary.specs.Ring.{closed, insert, grown_from, grown, corners, listed}
-use Rattle.region.specs.Row.{edge, edges, Named, front_row, back_row}
-use Rattle.region.specs.declared.Arc.{Arc}
+use Rattle.boundary.specs.declared.Arc.{Arc}
+use Rattle.engine.specs.Row.{front_row}
+use Rattle.engine.specs.Rings.{When, Meeting}
+use Rattle.region.specs.Row.{edge, edges, row_of, Named}
 use Rattle.region.specs.Listing.{put_points}
 
 -- ---- one edge, and a corner
@@ -19,12 +22,6 @@ use Rattle.region.specs.Listing.{put_points}
 pub record At (e : List ℤ) (run : List ℕ) (k : ℕ) : Type 0 where
   pub place : k < length run
   pub room : 3 * get_or run k 0 + 2 < length e
-
--- h at the corner of p and q
-pub record Meeting (h p q : Constraint) : Type 0 where
-  pub h-small : SmallConstraint h
-  pub p-small : SmallConstraint p
-  pub q-small : SmallConstraint q
 
 pub record Pair (e : List ℤ) (run : List ℕ) (h : Constraint) (i j : ℕ) : Type 0 where
   pub first : At e run i
@@ -93,57 +90,69 @@ pub record Cutting (e : List ℤ) (run : List ℕ) (h : Constraint) (lo n : ℕ)
   pub some : 0 < n
   pub h-small : SmallConstraint h
 
--- i edges at the front are dropped
-pub record Dropped (e : List ℤ) (run : List ℕ) (lo n : ℕ) (h : Constraint) (i : ℕ) : Type 0 where
-  pub some : i < n
-  pub row : edges e run (lo + i) (n - i) ≡ front_row h (edges e run lo n)
-
--- k edges are left when those at the back are dropped
-pub record Left (e : List ℤ) (run : List ℕ) (lo n : ℕ) (h : Constraint) (k : ℕ) : Type 0 where
-  pub some : 0 < k
-  pub fewer : k ≤ n
-  pub row : edges e run lo k ≡ back_row h (edges e run lo n)
-
 -- there is room for one more before them
 pub record Putting (e : List ℤ) (run : List ℕ) (h : Constraint) (lo n : ℕ) : Type 0 where
   pub cutting : Cutting e run h lo n
   pub later : 0 < lo
 
--- the run holds the row with both ends cut, and index h before it, or nothing
-pub record Cut (e : List ℤ) (before : List ℕ) (h : ℕ) (line : Constraint) (lo n : ℕ) (next : Arc) (after : List ℕ) : Type 0 where
-  pub same : length after ≡ length before
+-- a ring stands there, and names what the run named before from place lo on, or index h
+pub record Put (before : List ℕ) (h lo n : ℕ) (next : Arc) (after : List ℕ) : Type 0 where
   pub fits : next.lo + next.n ≤ length after
-  pub row : line ≡ entry e h → edges e after next.lo next.n ≡ closed line (front_row line (edges e before lo n))
+  pub two : 2 ≤ next.n
   pub named : (m : ℕ) → h < m → Named m before lo n → Named m after next.lo next.n
 
--- the entry at index h enters
-pub record Inserting (e : List ℤ) (run : List ℕ) (D : Constraint) (h : ℕ) (arc : Arc) : Type 0 where
-  pub ring : Ring e run arc.lo arc.n
-  pub spare : arc.n < length run
-  pub size_small : SmallConstraint D
-  pub below : h < ring.count
-
-pub record Inserted (e : List ℤ) (before : List ℕ) (D : Constraint) (h : ℕ) (arc : Arc) (next : Arc) (after : List ℕ) : Type 0 where
+-- the run holds the row with both ends cut, and index h before it, or nothing
+pub record Cut (e : List ℤ) (before : List ℕ) (h : ℕ) (line : Constraint) (lo n : ℕ) (next : Option Arc) (after : List ℕ) : Type 0 where
   pub same : length after ≡ length before
+  pub row : line ≡ entry e h → row_of e after next ≡ closed line (front_row line (edges e before lo n))
+  pub put : When (λ (a : Arc). Put before h lo n a after) next
+
+-- two edges or more, each of m entries, in a run with room for one more
+pub record Standing (run : List ℕ) (m : ℕ) (arc : Arc) : Type 0 where
+  pub fits : arc.lo + arc.n ≤ length run
+  pub spare : arc.n < length run
+  pub two : 2 ≤ arc.n
+  pub named : Named m run arc.lo arc.n
+
+-- the entry at index h, one of a number of entries within their ranges, enters
+pub record Inserting (e : List ℤ) (run : List ℕ) (D : Constraint) (h : ℕ) (arc : Option Arc) : Type 0 where
+  pub count : ℕ
+  pub entries : Entries e count
+  pub below : h < count
+  pub size_small : SmallConstraint D
+  pub standing : When (Standing run count) arc
+
+-- a ring stands there, and names what that of arc named, or index h
+pub record Stands (before : List ℕ) (h : ℕ) (arc : Option Arc) (next : Arc) (after : List ℕ) : Type 0 where
   pub fits : next.lo + next.n ≤ length after
-  pub row : edges e after next.lo next.n ≡ insert D (entry e h) (edges e before arc.lo arc.n)
-  pub named : (m : ℕ) → h < m → Named m before arc.lo arc.n → Named m after next.lo next.n
+  pub two : 2 ≤ next.n
+  pub named : (m : ℕ) → h < m → When (λ (a : Arc). Named m before a.lo a.n) arc → Named m after next.lo next.n
+
+pub record Inserted (e : List ℤ) (before : List ℕ) (D : Constraint) (h : ℕ) (arc next : Option Arc) (after : List ℕ) : Type 0 where
+  pub same : length after ≡ length before
+  pub row : row_of e after next ≡ insert D (entry e h) (row_of e before arc)
+  pub stands : When (λ (a : Arc). Stands before h arc a after) next
 
 -- ---- all of it
 
 -- the entries that the order names are to enter
 pub record Entering (e : List ℤ) (order run : List ℕ) (D : Constraint) (arc : Arc) : Type 0 where
   pub ring : Ring e run arc.lo arc.n
+  pub two : 2 ≤ arc.n
   pub ordered : Named ring.count order 0 (length order)
   pub room : arc.n + length order < length run
   pub size_small : SmallConstraint D
 
-pub record Entered (e : List ℤ) (order before : List ℕ) (D : Constraint) (arc next : Arc) (after : List ℕ) : Type 0 where
-  pub same : length after ≡ length before
+-- a ring stands there, and names what that of arc named, or what the order names
+pub record Ordered (order before : List ℕ) (arc next : Arc) (after : List ℕ) : Type 0 where
   pub fits : next.lo + next.n ≤ length after
-  pub row :
-      edges e after next.lo next.n ≡ grown_from D (edges e before arc.lo arc.n) (edges e order 0 (length order))
+  pub two : 2 ≤ next.n
   pub named : (m : ℕ) → Named m order 0 (length order) → Named m before arc.lo arc.n → Named m after next.lo next.n
+
+pub record Entered (e : List ℤ) (order before : List ℕ) (D : Constraint) (arc : Arc) (next : Option Arc) (after : List ℕ) : Type 0 where
+  pub same : length after ≡ length before
+  pub row : row_of e after next ≡ grown_from D (edges e before arc.lo arc.n) (edges e order 0 (length order))
+  pub ordered : When (λ (a : Arc). Ordered order before arc a after) next
 
 -- the floors are the first two of m entries, and the horizon the last
 pub record Growing (e : List ℤ) (floors : Floors) (order run : List ℕ) (m : ℕ) : Type 0 where
@@ -157,11 +166,16 @@ pub record Growing (e : List ℤ) (floors : Floors) (order run : List ℕ) (m : 
   pub ordered : Named m order 0 (length order)
   pub room : length order + 4 ≤ length run
 
-pub record Grown (e : List ℤ) (floors : Floors) (order before : List ℕ) (m : ℕ) (arc : Arc) (after : List ℕ) : Type 0 where
-  pub same : length after ≡ length before
+-- two edges or more, each of m entries
+pub record Grows (m : ℕ) (arc : Arc) (after : List ℕ) : Type 0 where
   pub fits : arc.lo + arc.n ≤ length after
-  pub row : edges e after arc.lo arc.n ≡ grown floors (edges e order 0 (length order))
+  pub two : 2 ≤ arc.n
   pub named : Named m after arc.lo arc.n
+
+pub record Grown (e : List ℤ) (floors : Floors) (order before : List ℕ) (m : ℕ) (arc : Option Arc) (after : List ℕ) : Type 0 where
+  pub same : length after ≡ length before
+  pub row : row_of e after arc ≡ grown floors (edges e order 0 (length order))
+  pub grows : When (λ (a : Arc). Grows m a after) arc
 
 -- ---- the corners
 
@@ -182,6 +196,7 @@ pub record Noted (before : List ℤ) (p q : Constraint) (k next : ℕ) (after : 
 
 pub record Listing (e : List ℤ) (run : List ℕ) (arc : Arc) (out : List ℤ) : Type 0 where
   pub ring : Ring e run arc.lo arc.n
+  pub some : 1 ≤ arc.n
   pub room : 3 * arc.n ≤ length out
 
 pub record CornersPut (e : List ℤ) (run : List ℕ) (arc : Arc) (before : List ℤ) (k : ℕ) (after : List ℤ) : Type 0 where

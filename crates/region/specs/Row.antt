@@ -1,16 +1,21 @@
 -- A ring as it stands in a run of indices: n of them from place k on name the entries that are its edges. The rules that are to enter the
 -- ring stand in such a run too.
-use Rattle.std.specs.Prelude.{List, [], ◌∷◌, ◌++◌, ℕ, zero, suc, ◌+◌, ◌<◌, get_or, ℤ}
+use Rattle.std.specs.Prelude.{List, [], ◌∷◌, ◌++◌, ℕ, ◌+◌, ◌<◌, get_or, ℤ, Option}
 use Rattle.lp.specs.declared.Constraint.{Constraint}
 use Rattle.engine.specs.Entries.{entry}
-use Rattle.boundary.specs.Ring.{sought, front, back}
+use Rattle.boundary.specs.declared.Arc.{Arc}
+use Rattle.boundary.specs.Ring.{sought}
+use Rattle.engine.specs.Row.{edge_by, edges_by, row_by}
 
 abbrev pub edge : List ℤ → List ℕ → ℕ → Constraint
-edge e run k = entry e (get_or run k 0)
+edge e = edge_by (entry e)
 
 abbrev pub edges : List ℤ → List ℕ → ℕ → ℕ → List Constraint
-edges e run k zero = []
-edges e run k (suc n) = edge e run k ∷ edges e run (suc k) n
+edges e = edges_by (entry e)
+
+-- those of a ring, none if there is no ring
+abbrev pub row_of : List ℤ → List ℕ → Option Arc → List Constraint
+row_of e = row_by (entry e)
 
 -- each of them is below m, the number of entries
 abbrev pub Named : ℕ → List ℕ → ℕ → ℕ → Type 0
@@ -26,11 +31,3 @@ rotated (k ∷ l) = l ++ (k ∷ [])
 abbrev pub sought_row : Constraint → Constraint → ℕ → List Constraint → List Constraint
 sought_row D h n [] = []
 sought_row D h n (k ∷ l) = sought D h n k l
-
-abbrev pub front_row : Constraint → List Constraint → List Constraint
-front_row h [] = []
-front_row h (p ∷ l) = front h p l
-
-abbrev pub back_row : Constraint → List Constraint → List Constraint
-back_row h [] = []
-back_row h (p ∷ l) = back h p l

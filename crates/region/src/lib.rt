@@ -4,7 +4,6 @@
 #![tactic(auto)]
 
 mod edges;
-mod exact;
 mod frame;
 mod grow;
 mod insert;
@@ -15,13 +14,6 @@ mod turning;
 ghost use Rattle.region.specs.Listing.{Lists};
 
 use lp::Floors;
-
-// Where a ring stands in its run: n edges from place lo on.
-#[derive(Clone, Copy)]
-pub struct Arc {
-    pub lo: usize,
-    pub n: usize,
-}
 
 // Lists the corners of a region, in lowest terms, three numbers each, in the order of its boundary; a corner may be listed more than once.
 // The n rules stand in a run of numbers from its seventh on (a, b, c each), with room for one more entry after them: the floors are laid
@@ -40,11 +32,12 @@ pub fn corners(
     ensures { Lists floors run.old n order.now ring.old out.old
         result run.new ring.new out.new }
 {
-    if range::is_taken(floors, &*run, n, order, ring.len(), out.len()) {
-        frame::frame(floors, &mut *run, n);
-        let arc = grow::grow(floors, &*run, n + 3, order, &mut *ring);
-        let count = list::list(&*run, &*ring, arc, out);
-        return Some(count);
+    if !range::is_taken(floors, &*run, n, order, ring.len(), out.len()) {
+        return None;
     }
-    None
+    frame::frame(floors, &mut *run, n);
+    let Some(arc) = grow::grow(floors, &*run, n + 3, order, &mut *ring) else {
+        return Some(0);
+    };
+    Some(list::list(&*run, &*ring, arc, out))
 }

@@ -3,9 +3,9 @@ ghost use Rattle.std.specs.Prelude.{◌≡◌};
 ghost use Rattle.region.specs.Listing.{put_point};
 ghost use Rattle.region.specs.Asked.{PointRoom, Noting, Noted, Listing, CornersPut};
 
-use crate::Arc;
 use crate::edges::edge;
-use crate::exact::meet;
+use boundary::Arc;
+use exact::meet;
 use fraction::reduce;
 use lp::{Constraint, Point};
 
@@ -40,17 +40,12 @@ pub fn list(run: &[i64], ring: &[u16], arc: Arc, out: &mut [i64]) -> usize
     requires { Listing run.now ring.now arc out.old }
     ensures { CornersPut run.now ring.now arc out.old result out.new }
 {
-    let lo = arc.lo;
-    let n = arc.n;
-    if n < 1 {
-        return 0;
-    }
     let mut k = 0;
-    for i in 1..n {
-        let at = lo + i;
+    for i in 1..arc.n {
+        let at = arc.lo + i;
         let p = edge(run, ring, at - 1);
         k = note(p, edge(run, ring, at), &mut *out, k);
     }
-    let p = edge(run, ring, lo + n - 1);
-    note(p, edge(run, ring, lo), out, k)
+    let p = edge(run, ring, arc.lo + arc.n - 1);
+    note(p, edge(run, ring, arc.lo), out, k)
 }

@@ -2,36 +2,38 @@
 // to the start first. A run twice as long as the ring makes that rare.
 ghost use Rattle.region.specs.Asked.{Sliding, Slides, Turning, Spared, Turned};
 
-// Moves n indices from place lo to the start.
-fn slide(ring: &mut [u16], lo: usize, n: usize)
-    requires { Sliding ring.old lo n }
-    ensures { Slides ring.old lo n ring.new }
+use boundary::Arc;
+
+// Moves the ring to the start of its run.
+fn slide(ring: &mut [u16], arc: Arc)
+    requires { Sliding ring.old arc.lo arc.n }
+    ensures { Slides ring.old arc.lo arc.n ring.new }
 {
-    for i in 0..n {
-        let k = ring[lo + i];
+    for i in 0..arc.n {
+        let k = ring[arc.lo + i];
         ring[i] = k;
     }
 }
 
-// Makes room for one more index behind them, and says where they stand then.
-fn spare(ring: &mut [u16], lo: usize, n: usize) -> usize
-    requires { Turning ring.old lo n }
-    ensures { Spared ring.old lo n result ring.new }
+// Makes room for one more index behind the ring, and says where it stands then.
+fn spare(ring: &mut [u16], arc: Arc) -> usize
+    requires { Turning ring.old arc.lo arc.n }
+    ensures { Spared ring.old arc.lo arc.n result ring.new }
 {
-    if lo + n < ring.len() {
-        return lo;
+    if arc.lo + arc.n < ring.len() {
+        return arc.lo;
     }
-    slide(&mut *ring, lo, n);
+    slide(&mut *ring, arc);
     0
 }
 
 // One turn, and where the ring stands then: not at the run's start, so that an edge can be put before it.
-pub fn turn(ring: &mut [u16], lo: usize, n: usize) -> usize
-    requires { Turning ring.old lo n }
-    ensures { Turned ring.old lo n result ring.new }
+pub fn turn(ring: &mut [u16], arc: Arc) -> usize
+    requires { Turning ring.old arc.lo arc.n }
+    ensures { Turned ring.old arc.lo arc.n result ring.new }
 {
-    let at = spare(&mut *ring, lo, n);
+    let at = spare(&mut *ring, arc);
     let k = ring[at];
-    ring[at + n] = k;
+    ring[at + arc.n] = k;
     at + 1
 }

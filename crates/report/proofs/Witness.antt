@@ -5,7 +5,6 @@ use mathlib.Core.List.{List, [], ◌∷◌, ◌++◌, append-nil, append_assoc}
 use Prim.Native.Nat.{ℕ, zero, suc, ◌+◌, ◌-◌, ◌≤◌, ◌<◌}
 use native.Mathlib.Omega.{arith}
 use borrow.Author.Tests.{lt-ltb, le-ltb}
-use lib.Dec.{ltb}
 use lib.ListN.{length, length-append}
 use lib.IntN.{ℤ, pos, negsuc}
 use mir.Syntax.{w64}
@@ -15,8 +14,9 @@ use Rattle.lp.specs.declared.Certificate.{Certificate}
 use Rattle.lp.specs.Certificate.{Weighted, weighted, named}
 use Rattle.text.specs.Text.{text}
 use Rattle.text.specs.Number.{decimal, number, integer}
-use Rattle.text.specs.Append.{Appended}
-use Rattle.text.proofs.Put.{spelt}
+use Rattle.text.specs.declared.Line.{Line}
+use Rattle.text.specs.Line.{Added}
+use Rattle.text.proofs.Adding.{spelt}
 use Rattle.report.specs.declared.Naming.{Naming}
 use Rattle.report.specs.Line.{rule_of_two, rule, entry, entries, witness}
 use Rattle.ints.proofs.Bits.{read}
@@ -129,10 +129,10 @@ counted k m n o f g h p q r =
       used-is o k.third_weight h r,
     )
 
-pub whole-entry : {before after : List ℕ} {at next i : ℕ} (m : Naming) (e : ℕ) (z : ℤ) →
+pub whole-entry : {l n : Line} {i : ℕ} (m : Naming) (e : ℕ) (z : ℤ) →
     SFits w64 z →
-    Appended before at (entries m (weighted e (read z))) i after next →
-    Appended before at (entries m (weighted e z)) i after next
+    Added l (entries m (weighted e (read z))) i n →
+    Added l (entries m (weighted e z)) i n
 whole-entry m e z f = spelt (ap (λ (y : ℤ). entries m (weighted e y)) (to_z-of_z {w = w64} f))
 
 pub witness-parts : (m : Naming) (k : Certificate) (n : ℕ) →

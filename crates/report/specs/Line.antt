@@ -1,5 +1,5 @@
 -- The printed line of an answer as a list of bytes: words and decimal numbers, one space between fields, one line feed at the end. It
--- rests on the parts of a line (`text`).
+-- rests on the parts of a line (`text`), and on a pair and a direction (`pairs`).
 use Rattle.std.specs.Prelude.{cond, List, [], ◌∷◌, ◌++◌, ℕ, zero, suc, ◌-◌, ltb, length, Ok, Err}
 use Rattle.lp.specs.declared.Point.{Point}
 use Rattle.lp.specs.declared.Ray.{Ray}
@@ -9,18 +9,11 @@ use Rattle.lp.specs.declared.Certificate.{Certificate}
 use Rattle.lp.specs.Certificate.{Weighted, named}
 use Rattle.text.specs.Text.{text}
 use Rattle.text.specs.Number.{field, decimal, number, integer, refused}
+use Rattle.pairs.specs.Pair.{pair, direction}
 use Rattle.answers.specs.declared.Plan.{Plan}
 use Rattle.answers.specs.Answer.{Answer}
 use Rattle.report.specs.declared.Naming.{Naming}
 use Rattle.report.specs.declared.Naming.TheVariants.{OneBook, TwoBooks}
-
--- X Y D
-unfoldable pub pair : Point → List ℕ
-pair v = integer v.x ++ (integer v.y ++ integer v.d)
-
--- dx dy
-unfoldable pub direction : Ray → List ℕ
-direction d = integer d.dx ++ integer d.dy
 
 -- moves open
 unfoldable pub counts : Plan → List ℕ

@@ -4,6 +4,8 @@
 #![tactic(auto)]
 
 // How a witness names the rule in a record: by the record's index, or, of two books joined, by the book's letter with the index behind it.
+// It is a value, matched once, where a rule is written: as a type it would be a parameter, with a bound, of each function and definition of
+// the line, and the callers would choose it all the same.
 #[derive(Clone, Copy)]
 pub enum Naming {
     OneBook,

@@ -1,13 +1,12 @@
-// What a rule record's rule stands for: the constraint that it is planned as, and the number of what turns a record back.
+// What a rule record's rule stands for: the constraint that it is planned as.
 
 #![tactic(auto)]
 
 ghost use Rattle.std.specs.Prelude.{◌≡◌};
-ghost use Rattle.records.specs.Record.{number_of};
 ghost use Rattle.records.specs.Planned.{planned_rule};
 
 use lp::Constraint;
-use records::{Fault, Rule, Sound};
+use records::Rule;
 
 // A rule as it is planned: at most, so that kind 2 is turned round. Its numbers are wider then, so that each has its opposite.
 pub fn constraint(rule: Rule) -> Constraint
@@ -25,17 +24,5 @@ pub fn constraint(rule: Rule) -> Constraint
         }
     } else {
         Constraint { a, b, c }
-    }
-}
-
-// The cause's number; 0 for a sound record.
-pub fn number_of(decoded: Result<Sound, Fault>) -> u8
-    ensures { result ≡ number_of decoded }
-{
-    match decoded {
-        Ok(_) => 0,
-        Err(Fault::Kind) => 8,
-        Err(Fault::Slope) => 9,
-        Err(Fault::Bound) => 10,
     }
 }

@@ -2,11 +2,9 @@
 -- is split after six numbers, or at its end, if it has fewer.
 use Rattle.std.specs.Prelude.{Option}
 use mathlib.Core.Path.{◌≡◌, refl, sym, ◌∙◌, ap, ap₂}
-use mathlib.Core.Bool.{Bool, cond}
 use mathlib.Core.List.{List, [], ◌∷◌, ◌++◌, append-nil}
 use Prim.Native.Nat.{ℕ, zero, suc, min, ◌-◌, ◌≤◌}
 use native.Mathlib.Omega.{arith}
-use borrow.Author.Tests.{eq-eqb, ne_eqb}
 use lib.ListN.{length, take, drop, length-drop}
 use lib.Seq.{take_all}
 use lib.IntN.{ℤ}
@@ -14,13 +12,12 @@ use Rattle.std.proofs.Common.{Result, Ok, Err}
 use Rattle.answers.specs.declared.Refusal.{Refusal}
 use Rattle.records.specs.Layout.{Layout}
 use Rattle.book.specs.declared.Head.{Head}
-use Rattle.book.specs.Reading.{read_of, passed_of}
+use Rattle.book.specs.Reading.{passed_of}
 use Rattle.book.specs.Runs.{put_rules}
-use Rattle.book.specs.Promises.{head_of, ReadInto}
+use Rattle.book.specs.Promises.{ReadInto}
 use Rattle.flooring.specs.Floors.{with_floors}
 use Rattle.engine.specs.declared.Solution.{Solution}
 use Rattle.engine.specs.Solving.{solved_of, Solves}
-use Rattle.running.specs.declared.Findings.{Findings}
 use Rattle.running.specs.Running.{solution_in, read_into, found_by, left_by, Ran}
 
 -- ---- the run of entries, split
@@ -67,8 +64,8 @@ module _ (l : List ℤ) (m : ℕ) (em : m ≡ min 6 (length l)) where
 
 module _
     (L : Layout) (s : List ℕ) (k : ℕ) (records : List ℕ) (l : List ℤ) (m : ℕ) (em : m ≡ min 6 (length l))
-    (h : Head) (records' : List ℕ) (rules' : List ℤ)
-    (read : ReadInto L s records (take (length l - m) (drop m l)) h records' rules') where
+    (x : Result Head Refusal) (records' : List ℕ) (rules' : List ℤ)
+    (read : ReadInto L s records (take (length l - m) (drop m l)) x records' rules') where
   abbrev lent : List ℤ
   lent = take m l ++ (rules' ++ drop (length l - m) (drop m l))
 
@@ -78,49 +75,35 @@ module _
       ∙ ap (λ (r : List ℤ). take 6 l ++ r)
       (append-nil rules' ∙ read.ruled ∙ ap (λ (r : List ℤ). put_rules r 0 (passed_of L s)) (second-part l m em))
 
-  -- what is found of a book that is not refused
-  abbrev planned : Result Findings Refusal
-  planned = Ok (record { n = h.n; solution = solution_in (solved_of h.terms (read_into L s l) (min k h.n)) })
-
-  found-by : {x : Result Findings Refusal} →
-      x ≡ found_by h k (read_into L s l) →
-      x ≡ found_by (head_of (read_of L s)) k (read_into L s l)
-  found-by e = e ∙ ap (λ (y : Head). found_by y k (read_into L s l)) read.answer
-
-  by_left : {l' : List ℤ} → l' ≡ left_by h (read_into L s l) → l' ≡ left_by (head_of (read_of L s)) (read_into L s l)
-  by_left e = e ∙ ap (λ (y : Head). left_by y (read_into L s l)) read.answer
-
   -- a refused book is not planned
-  pub refused-ran : (h.refusal.number ≡ 0 → ⊥) → Ran L s k records l (Err h.refusal) records' lent
-  refused-ran some =
-      let no = ne_eqb h.refusal.number 0 some in
+  pub refused-ran : {f : Refusal} → x ≡ Err f → Ran L s k records l (Err f) records' lent
+  refused-ran e =
+      let so = sym e ∙ read.answer in
       record {
-        found = found-by (sym (ap (λ (b : Bool). cond b planned (Err h.refusal)) no));
+        found = ap (λ (y : Result Head Refusal). found_by y k (read_into L s l)) so;
         recorded = read.recorded;
-        left = by_left (lent_is ∙ sym (ap (λ (b : Bool). cond b (with_floors h.terms.floors (read_into L s l)) (read_into L s l)) no));
+        left = lent_is ∙ ap (λ (y : Result Head Refusal). left_by y (read_into L s l)) so;
       }
 
   -- any other is, as far as the runs have room
-  pub solved-ran : h.refusal.number ≡ 0 →
+  pub solved-ran : {h : Head} → x ≡ Ok h →
       {j : ℕ} →
       j ≡ min k h.n →
       {z : Option Solution} {l' : List ℤ} →
       Solves h.terms j lent z l' →
-      {x : Solution} →
-      x ≡ solution_in z →
-      Ran L s k records l (Ok (record { n = h.n; solution = x })) records' l'
-  solved-ran clear {j} ej {z} solves {x} e =
-      let so = eq-eqb h.refusal.number 0 clear in
+      {y : Solution} →
+      y ≡ solution_in z →
+      Ran L s k records l (Ok (record { n = h.n; solution = y })) records' l'
+  solved-ran {h} e {j} ej {z} solves {y} ey =
+      let so = sym e ∙ read.answer in
       record {
         found =
-            found-by
-            (ap (λ (y : Solution). Ok (record { n = h.n; solution = y }))
-            (e ∙ ap solution_in solves.answer ∙ ap₂ (λ (r : List ℤ) (i : ℕ). solution_in (solved_of h.terms r i)) lent_is ej)
-            ∙ sym (ap (λ (b : Bool). cond b planned (Err h.refusal)) so));
+            ap (λ (y : Solution). Ok (record { n = h.n; solution = y }))
+            (ey ∙ ap solution_in solves.answer ∙ ap₂ (λ (r : List ℤ) (i : ℕ). solution_in (solved_of h.terms r i)) lent_is ej)
+            ∙ ap (λ (y : Result Head Refusal). found_by y k (read_into L s l)) so;
         recorded = read.recorded;
         left =
-            by_left
-            (solves.run
+            solves.run
             ∙ ap (with_floors h.terms.floors) lent_is
-            ∙ sym (ap (λ (b : Bool). cond b (with_floors h.terms.floors (read_into L s l)) (read_into L s l)) so));
+            ∙ ap (λ (y : Result Head Refusal). left_by y (read_into L s l)) so;
       }

@@ -1,6 +1,6 @@
 -- One run over a book, for runs of any length: what it finds is the book's refusal, or else the length of its chain and what the engine
 -- makes of the rules of a prefix where they all have room; both runs hold what was read, as far as there was room.
-use Rattle.std.specs.Prelude.{◌≡◌, false, cond, Result, Ok, Err, List, ◌++◌, ℕ, min, eqb, take, drop, ℤ, Option, None, Some}
+use Rattle.std.specs.Prelude.{◌≡◌, Result, Ok, Err, List, ◌++◌, ℕ, min, take, drop, ℤ, Option, None, unwrap_or}
 use Rattle.lp.specs.declared.Outcome.TheVariants as outcome
 use Rattle.answers.specs.declared.Refusal.{Refusal}
 use Rattle.records.specs.Layout.{Layout}
@@ -27,21 +27,21 @@ no_solution =
     }
 
 abbrev pub solution_in : Option Solution → Solution
-solution_in None = no_solution
-solution_in (Some x) = x
+solution_in x = unwrap_or x no_solution
 
 -- the rules that were read stand after six numbers for the floors, as far as there is room
 abbrev pub read_into : Layout → List ℕ → List ℤ → List ℤ
 read_into L s l = take 6 l ++ put_rules (drop 6 l) 0 (passed_of L s)
 
 -- by what was read of a book and the run that its rules stand in: its first k rules are planned, unless it is refused
-abbrev pub found_by : Head → ℕ → List ℤ → Result Findings Refusal
-found_by h k l =
-    cond (eqb h.refusal.number 0) (Ok (record { n = h.n; solution = solution_in (solved_of h.terms l (min k h.n)) })) (Err h.refusal)
+abbrev pub found_by : Result Head Refusal → ℕ → List ℤ → Result Findings Refusal
+found_by (Ok h) k l = Ok (record { n = h.n; solution = solution_in (solved_of h.terms l (min k h.n)) })
+found_by (Err x) k l = Err x
 
 -- the engine lays the floors before the rules that it is to plan
-abbrev pub left_by : Head → List ℤ → List ℤ
-left_by h l = cond (eqb h.refusal.number 0) (with_floors h.terms.floors l) l
+abbrev pub left_by : Result Head Refusal → List ℤ → List ℤ
+left_by (Ok h) l = with_floors h.terms.floors l
+left_by (Err x) l = l
 
 -- the promise of `run`
 pub record Ran

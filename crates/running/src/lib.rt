@@ -3,14 +3,13 @@
 
 #![tactic(auto)]
 
-ghost use Rattle.std.specs.Prelude.{◌≡◌, min};
-ghost use Rattle.records.specs.Layout.{layout_of};
+ghost use Rattle.std.specs.Prelude.{◌≡◌};
 ghost use Rattle.running.specs.Running.{no_solution, Ran};
 
 use answers::Refusal;
 use engine::Solution;
 use lp::{Certificate, Outcome};
-use records::Version;
+use records::Book;
 
 // What a run finds of a book that is not refused: how many rules the chain has, and what those of the prefix come to.
 #[derive(Clone, Copy)]
@@ -45,28 +44,20 @@ fn no_solution() -> Solution
 // entries after six numbers for the floors, as far as there is room. An accepted book's numbers are all in range, so that the engine plans
 // it if all have room.
 pub fn run(
-    version: Version,
-    book: &[u8],
+    book: &Book,
     prefix: usize,
     records: &mut [u16],
     entries: &mut [i64],
 ) -> Result<Findings, Refusal>
-    ensures { Ran (layout_of version) book.now prefix records.old entries.old
+    ensures { Ran book.now.layout book.now.bytes prefix records.old entries.old
         result records.new entries.new }
 {
     let floors = entries.len().min(6);
-    let head = reading::read(version, book, &mut *records, &mut entries[floors..]);
-    let refusal = head.refusal;
-    let number = refusal.number;
+    let head = reading::read(book, records, &mut entries[floors..])?;
     let n = head.n;
-    if number != 0 {
-        return Err(refusal);
-    }
-    match engine::solve(head.terms, &mut *entries, prefix.min(n)) {
-        None => Ok(Findings {
-            n,
-            solution: no_solution(),
-        }),
-        Some(solution) => Ok(Findings { n, solution }),
-    }
+    let solved = engine::solve(head.terms, entries, prefix.min(n));
+    Ok(Findings {
+        n,
+        solution: solved.unwrap_or(no_solution()),
+    })
 }

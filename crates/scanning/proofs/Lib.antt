@@ -1,2 +1,3 @@
--- The laws of places in a text and of its runs of digits.
-pub mod Places
+-- Runs of digits byte by byte (Runs), and their numbers (Numbers).
+pub mod Runs
+pub mod Numbers

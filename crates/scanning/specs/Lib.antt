@@ -1,3 +1,4 @@
--- What the readers of texts build on: places in a text (Places), and runs of digits (Runs). A place stands for the text from there on.
-pub mod Places
+-- What the readers of texts build on: bytes of a text (Bytes), and the numbers of runs of digits (Runs). A text stands for what is left
+-- of it.
+pub mod Bytes
 pub mod Runs

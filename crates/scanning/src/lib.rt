@@ -1,38 +1,41 @@
-// Bytes of a text, places in it and runs of digits, for the readers of texts. Every function is total: behind its end a text has no bytes.
+// Bytes of a text and runs of digits, for the readers of texts. A reader takes what is left of a text and hands back what is left behind
+// the part that it read. Every function is total: behind its end a text has no bytes.
 
 #![tactic(auto)]
 
-ghost use Rattle.std.specs.Prelude.{◌≡◌, ◌≤◌, drop};
-ghost use Rattle.language.specs.Parser.{first, tail, digit as digit_of};
-ghost use Rattle.scanning.specs.Places.{Goes};
+ghost use Rattle.std.specs.Prelude.{◌≡◌, drop};
+ghost use Rattle.scanning.specs.Bytes.{first, tail, digit as digit_of};
 ghost use Rattle.scanning.specs.Runs.{grown, Runs};
 
-// A run's number, or some number beyond a limit, and where the run ends.
+// A run's number, or some number beyond a limit, and the text behind the run.
 #[derive(Clone, Copy)]
-pub struct Run {
+pub struct Run<'a> {
     pub number: u64,
-    pub end: usize,
+    pub rest: &'a [u8],
 }
 
-// The byte at a place, or 0 at the end.
-pub fn byte_at(text: &[u8], at: usize) -> u8
-    ensures { result ≡ first (drop at text.now) }
+// A text's first byte, or 0 at the end.
+pub fn byte_at(text: &[u8]) -> u8
+    ensures { result ≡ first text.now }
 {
-    if at < text.len() { text[at] } else { 0 }
+    text.first().copied().unwrap_or(0)
 }
 
-// The place after a byte.
-pub fn after(text: &[u8], at: usize) -> usize
-    ensures { Goes text.now (tail (drop at text.now)) result }
+// The text behind its first byte.
+pub fn after(text: &[u8]) -> &[u8]
+    ensures { result.now ≡ tail text.now }
 {
-    if at < text.len() { at + 1 } else { text.len() }
+    match text {
+        [_, rest @ ..] => rest,
+        [] => text,
+    }
 }
 
-// The place after n bytes.
-pub fn behind(text: &[u8], n: usize) -> usize
-    ensures { Goes text.now (drop n text.now) result }
+// The text behind its first n bytes.
+pub fn behind(text: &[u8], n: usize) -> &[u8]
+    ensures { result.now ≡ drop n text.now }
 {
-    if n <= text.len() { n } else { text.len() }
+    text.get(n..).unwrap_or(&[])
 }
 
 pub fn digit(b: u8) -> bool
@@ -43,29 +46,27 @@ pub fn digit(b: u8) -> bool
 
 // A number with a digit more. What is beyond the limit stays.
 fn grow(n: u64, b: u8, limit: u32) -> u64
-    requires { 48 ≤ b }
     ensures { result ≡ grown limit n b }
 {
     if n <= limit as u64 {
-        n * 10 + (b - 48) as u64
+        n * 10 + b.saturating_sub(48) as u64
     } else {
         n
     }
 }
 
-// As many digits as there are from a place on.
-pub fn digits(text: &[u8], at: usize, limit: u32) -> Run
-    ensures { Runs limit text.now at result }
+// As many digits as a text begins with.
+#[tactic(auto, unfolding(crate::specs::Bytes::run, crate::specs::Bytes::past, crate::specs::Runs::capped))]
+pub fn digits(text: &[u8], limit: u32) -> Run
+    ensures { Runs limit text.now result.number result.rest.now }
 {
-    let mut number: u64 = 0;
-    for i in behind(text, at)..text.len() {
-        let b = text[i];
-        if digit(b) {
-            number = grow(number, b, limit);
-        } else {
-            return Run { number, end: i };
-        }
+    let mut number = 0;
+    let mut rest = text;
+    while let Some((b, more)) = rest.split_first()
+        && digit(*b)
+    {
+        number = grow(number, *b, limit);
+        rest = more;
     }
-    let end = text.len();
-    Run { number, end }
+    Run { number, rest }
 }

@@ -17,11 +17,8 @@ pub enum Line {
 // One byte of the input, if it has not ended.
 fn next_byte(rt: &HostRuntime) -> io::Result<Option<u8>> {
     let mut one = [0u8; 1];
-    if rt.stdin().read(&mut one)? == 1 {
-        Ok(Some(one[0]))
-    } else {
-        Ok(None)
-    }
+    let n = rt.stdin().read(&mut one)?;
+    Ok(one[..n].first().copied())
 }
 
 // A line of so many bytes.
@@ -37,8 +34,8 @@ fn text(n: usize, line: &[u8]) -> Line
 
 // Keeps a byte, if there is room.
 fn keep(line: &mut [u8], n: usize, byte: u8) {
-    if n < line.len() {
-        line[n] = byte;
+    if let Some(place) = line.get_mut(n) {
+        *place = byte;
     }
 }
 

@@ -1,11 +1,10 @@
 -- The line: its first word chooses the step.
-use mathlib.Core.Path.{◌≡◌, ap, ap₂, sym, ◌∙◌}
+use mathlib.Core.Path.{◌≡◌, ap, sym, ◌∙◌}
 use mathlib.Core.Bool.{Bool, true, false, cond, ◌&&◌}
 use mathlib.Core.List.{List}
 use Prim.Native.Nat.{ℕ}
 use lib.Dec.{eqb}
 use lib.ListN.{length, drop}
-use borrow.Author.Tests.{eq-eqb, ne_eqb}
 use Rattle.text.specs.Text.{text}
 use Rattle.session_lines.specs.declared.Asked.{Asked}
 use Rattle.session_lines.specs.declared.Asked.TheVariants.{Back}
@@ -38,19 +37,14 @@ module _ (l : List ℕ) {s : Bool} (f : s ≡ begins (text "start") l) where
             on (passed (begins (text "add") l) (typed_in (drop 3 l)) (ruled_in l) g no_add
             (chosen (begins (text "rule") l) (rule_in (drop 4 l)) (back_in l) h e z))
 
-        module _ (no-rule : r ≡ false) {b : Bool} (k : b ≡ begins (text "back") l) where
+        module _ (no-rule : r ≡ false) {b : Bool} (k : b ≡ begins (text "back") l && eqb (length l) 4) where
           last : {a : Option Asked} → a ≡ back_in l → a ≡ line_in l
           last z =
               on (passed (begins (text "add") l) (typed_in (drop 3 l)) (ruled_in l) g no_add
               (passed (begins (text "rule") l) (rule_in (drop 4 l)) (back_in l) h no-rule z))
 
-          pub goes_back : b ≡ true → length l ≡ 4 → Some Back ≡ line_in l
-          goes_back e q =
-              last (sym (ap₂ (λ (u v : Bool). cond (u && v) (Some Back) None) (sym k ∙ e) (eq-eqb (length l) 4 q)))
-
-          pub longer : b ≡ true → (length l ≡ 4 → ⊥) → None ≡ line_in l
-          longer e q =
-              last (sym (ap₂ (λ (u v : Bool). cond (u && v) (Some Back) None) (sym k ∙ e) (ne_eqb (length l) 4 q)))
+          pub goes_back : b ≡ true → Some Back ≡ line_in l
+          goes_back e = last (sym (ap (λ (u : Bool). cond u (Some Back) None) (sym k ∙ e)))
 
           pub other : b ≡ false → None ≡ line_in l
-          other e = last (sym (ap (λ (u : Bool). cond (u && eqb (length l) 4) (Some Back) None) (sym k ∙ e)))
+          other e = last (sym (ap (λ (u : Bool). cond u (Some Back) None) (sym k ∙ e)))

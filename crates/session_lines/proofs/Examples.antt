@@ -4,7 +4,7 @@ use mathlib.Core.Path.{◌≡◌, refl}
 use lib.IntN.{pos, negsuc}
 use Rattle.text.specs.Text.{text}
 use Rattle.text.specs.Number.{value_from}
-use Rattle.language.specs.Parser.{run, past}
+use Rattle.scanning.specs.Bytes.{run, past}
 use Rattle.std.specs.Prelude.{Some, None}
 use Rattle.session_lines.specs.declared.Asked.TheVariants.{Begin, Add, Back}
 use Rattle.session_lines.specs.Fields.{numeral_of, number_with, number_in, past_field, fits}

@@ -2,24 +2,19 @@
 use mathlib.Core.Path.{◌≡◌, refl, ap, sym, ◌∙◌, subst}
 use mathlib.Core.Bool.{Bool, true, false, cond}
 use mathlib.Core.List.{List}
-use mathlib.Core.Logic.{◌⊎◌, inl, inr}
 use Prim.Native.Nat.{ℕ, zero, suc, ◌^◌, ◌≤◌, ◌<◌}
 use native.Mathlib.Omega.{arith}
 use lib.Dec.{eqb}
-use lib.ListN.{drop}
-use lib.IntN.{ℤ, pos, negsuc, neg_ℤ, nat_abs, ◌-ℤ◌, +ℤ_idl}
-use mir.Syntax.{Width, w8, w16, w32, w64}
-use mir.Val.{Fits, SFits, hbits, to_z, of_z}
+use lib.IntN.{ℤ, pos, neg_ℤ, nat_abs, ◌-ℤ◌, +ℤ_idl}
+use mir.Syntax.{Width, w16, w32, w64}
+use mir.Val.{SFits, hbits, to_z, of_z}
 use mir.Facts.{to_z-of_z}
 use borrow.Author.Tests.{eq-eqb, ne_eqb, leb-true, le-leb, lt-leb}
-use Rattle.language.specs.Parser.{first, tail, digit, run, past}
+use Rattle.scanning.specs.Bytes.{first, tail, digit, run, past}
 use Rattle.text.specs.Number.{value_from}
-use Rattle.scanning.specs.declared.Run.{Run}
-use Rattle.scanning.specs.Places.{Goes}
 use Rattle.scanning.specs.Runs.{Runs}
-use Rattle.scanning.proofs.Places.{capped-alike}
+use Rattle.scanning.proofs.Numbers.{capped-alike}
 use Rattle.session_lines.specs.declared.numbers.Number.{Number}
-use Rattle.session_lines.specs.declared.numbers.Found.{Found}
 use Rattle.std.specs.Prelude.{Option, Some, None, Result, Ok, Err, OkIff, unsigned_abs}
 use Rattle.std.specs.Result.{result_ok}
 use Rattle.std.specs.Int.{FitsUnsignedBits}
@@ -41,89 +36,77 @@ beyond : (negative : Bool) (n : ℕ) → greatest < n → numeral_of negative n 
 unfolding numeral_of
 beyond negative n h = rw (lt-leb n greatest h)
 
--- ---- a number, its space and its digits at two places
+-- ---- a number, its space and its digits
 
-module _ (negative : Bool) (s : List ℕ) (at from : ℕ) {r : Run} (runs : Runs greatest s from r) {b : ℕ}
-    (space : b ≡ first (drop at s)) where
-  same : numeral_of negative r.number ≡ numeral_of negative (value_from 0 (run (drop from s)))
-  same =
-      ap (numeral_of negative) runs.number
-      ∙ capped-alike (numeral_of negative) greatest None (beyond negative) 0 (run (drop from s))
+module _ (negative : Bool) (text from : List ℕ) {n : ℕ} {l : List ℕ} (runs : Runs greatest from n l) {b : ℕ} (space : b ≡ first text) where
+  same : numeral_of negative n ≡ numeral_of negative (value_from 0 (run from))
+  same = ap (numeral_of negative) runs.number ∙ capped-alike (numeral_of negative) greatest None (beyond negative) 0 (run from)
 
   pub number-there : {d : ℕ} →
       b ≡ 32 →
-      d ≡ first (drop from s) →
+      d ≡ first from →
       {t : Bool} →
       t ≡ digit d →
       t ≡ true →
-      {n : Option Number} →
-      n ≡ numeral_of negative r.number →
-      FindsFrom negative s at from (record { number = n; next = r.end })
+      {m : Option Number} →
+      m ≡ numeral_of negative n →
+      FindsFrom negative text from m l
   unfolding number_with
   number-there e f g h k =
-      let z : eqb (first (drop at s)) 32 ≡ true = eq-eqb (first (drop at s)) 32 (sym space ∙ e) in
-      let y : digit (first (drop from s)) ≡ true = sym (ap digit f) ∙ sym g ∙ h in
-      record { number = k ∙ same ∙ rw z (rw y refl); goes = runs.goes }
+      let z : eqb (first text) 32 ≡ true = eq-eqb (first text) 32 (sym space ∙ e) in
+      let y : digit (first from) ≡ true = sym (ap digit f) ∙ sym g ∙ h in
+      record { number = k ∙ same ∙ rw z (rw y refl); rest = runs.rest }
 
   pub number_undigited : {d : ℕ} →
       b ≡ 32 →
-      d ≡ first (drop from s) →
+      d ≡ first from →
       {t : Bool} →
       t ≡ digit d →
       t ≡ false →
-      FindsFrom negative s at from (record { number = None; next = r.end })
+      FindsFrom negative text from None l
   unfolding number_with
   number_undigited e f g h =
-      let z : eqb (first (drop at s)) 32 ≡ true = eq-eqb (first (drop at s)) 32 (sym space ∙ e) in
-      let y : digit (first (drop from s)) ≡ false = sym (ap digit f) ∙ sym g ∙ h in
-      record { number = rw z (rw y refl); goes = runs.goes }
+      let z : eqb (first text) 32 ≡ true = eq-eqb (first text) 32 (sym space ∙ e) in
+      let y : digit (first from) ≡ false = sym (ap digit f) ∙ sym g ∙ h in
+      record { number = rw z (rw y refl); rest = runs.rest }
 
-  pub number_unspaced : (b ≡ 32 → ⊥) → FindsFrom negative s at from (record { number = None; next = r.end })
+  pub number_unspaced : (b ≡ 32 → ⊥) → FindsFrom negative text from None l
   unfolding number_with
   number_unspaced e =
-      let z : eqb (first (drop at s)) 32 ≡ false = ne_eqb (first (drop at s)) 32 (λ q. e (space ∙ q)) in
-      record { number = rw z refl; goes = runs.goes }
+      let z : eqb (first text) 32 ≡ false = ne_eqb (first text) 32 (λ q. e (space ∙ q)) in
+      record { number = rw z refl; rest = runs.rest }
 
 -- ---- a number with a minus or without
 
-module _ (s : List ℕ) (at : ℕ) {sign b : ℕ} (after : Goes s (tail (drop at s)) sign) (byte : b ≡ first (drop sign s)) where
-  told : b ≡ first (tail (drop at s))
-  told = byte ∙ ap first after.goes_on
+module _ (text : List ℕ) {sign : List ℕ} {b : ℕ} (after : sign ≡ tail text) (byte : b ≡ first sign) where
+  told : b ≡ first (tail text)
+  told = byte ∙ ap first after
 
   pub field-minus : b ≡ 45 →
-      {from : ℕ} {r : Found} →
-      Goes s (tail (drop sign s)) from →
-      FindsFrom true s at from r →
-      Finds s at r
+      {from : List ℕ} {n : Option Number} {l : List ℕ} →
+      from ≡ tail sign →
+      FindsFrom true text from n l →
+      Finds text n l
   unfolding number_in past_field
-  field-minus e {from = from} next found =
-      let z : minus (drop at s) ≡ true = eq-eqb (first (tail (drop at s))) 45 (sym told ∙ e) in
-      let w : drop from s ≡ tail (tail (drop at s)) = next.goes_on ∙ ap tail after.goes_on in
+  field-minus e next found =
+      let z : minus text ≡ true = eq-eqb (first (tail text)) 45 (sym told ∙ e) in
+      let w = next ∙ ap tail after in
       record {
         number =
-            found.number ∙ ap (number_with true (drop at s)) w
-            ∙ sym (ap (λ t. number_with t (drop at s) (cond t (tail (tail (drop at s))) (tail (drop at s)))) z);
-        goes = record {
-          goes_on =
-              found.goes.goes_on ∙ ap past w ∙ sym (ap (λ t. past (cond t (tail (tail (drop at s))) (tail (drop at s)))) z);
-          high = found.goes.high;
-        };
+            found.number ∙ ap (number_with true text) w
+            ∙ sym (ap (λ t. number_with t text (cond t (tail (tail text)) (tail text))) z);
+        rest = found.rest ∙ ap past w ∙ sym (ap (λ t. past (cond t (tail (tail text)) (tail text))) z);
       }
 
-  pub field_plain : (b ≡ 45 → ⊥) → {r : Found} → FindsFrom false s at sign r → Finds s at r
+  pub field_plain : (b ≡ 45 → ⊥) → {n : Option Number} {l : List ℕ} → FindsFrom false text sign n l → Finds text n l
   unfolding number_in past_field
   field_plain e found =
-      let z : minus (drop at s) ≡ false = ne_eqb (first (tail (drop at s))) 45 (λ q. e (told ∙ q)) in
-      let w : drop sign s ≡ tail (drop at s) = after.goes_on in
+      let z : minus text ≡ false = ne_eqb (first (tail text)) 45 (λ q. e (told ∙ q)) in
       record {
         number =
-            found.number ∙ ap (number_with false (drop at s)) w
-            ∙ sym (ap (λ t. number_with t (drop at s) (cond t (tail (tail (drop at s))) (tail (drop at s)))) z);
-        goes = record {
-          goes_on =
-              found.goes.goes_on ∙ ap past w ∙ sym (ap (λ t. past (cond t (tail (tail (drop at s))) (tail (drop at s)))) z);
-          high = found.goes.high;
-        };
+            found.number ∙ ap (number_with false text) after
+            ∙ sym (ap (λ t. number_with t text (cond t (tail (tail text)) (tail text))) z);
+        rest = found.rest ∙ ap past after ∙ sym (ap (λ t. past (cond t (tail (tail text)) (tail text))) z);
       }
 
 -- ---- a number in its field
@@ -355,21 +338,3 @@ module _ (bits above : ℕ) (a : suc above ≡ 2 ^ bits) where
   converted_unsigned {m = m} (Err x) e v h =
       no_room_unsigned above e refl
       (unfit (fits 0 above (Some m)) (λ t. h (subst (FitsUnsignedBits bits) (sym v) (value_unsigned m t))))
-
--- ---- the numbers of a typed rule
-
-pub within16 : (z : ℤ) → nat_abs z ≤ 32767 → SFits w16 z
-within16 (pos n) h = record { sfits = omega arith }
-within16 (negsuc n) h = record { sfits = omega arith }
-
-pub within32 : (z : ℤ) → nat_abs z ≤ 1000000000 → SFits w32 z
-within32 (pos n) h = record { sfits = omega arith }
-within32 (negsuc n) h = record { sfits = omega arith }
-
-pub within64 : (z : ℤ) → nat_abs z ≤ 1000000000 → SFits w64 z
-within64 (pos n) h = record { sfits = omega arith }
-within64 (negsuc n) h = record { sfits = omega arith }
-
-pub kind8 : (k : ℕ) → (k ≡ 1) ⊎ (k ≡ 2) → Fits w8 k
-kind8 k (inl e) = record { fits = omega arith }
-kind8 k (inr e) = record { fits = omega arith }

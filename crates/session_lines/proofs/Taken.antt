@@ -2,11 +2,9 @@
 use mathlib.Core.Path.{◌≡◌, ap, ap₂, sym, ◌∙◌, subst}
 use mathlib.Core.Bool.{Bool, true, false, cond, ◌&&◌}
 use mathlib.Core.List.{List}
-use Prim.Native.Nat.{ℕ, ◌-◌}
-use native.Mathlib.Omega.{arith}
+use Prim.Native.Nat.{ℕ}
 use lib.Dec.{eqb, leb}
-use lib.ListN.{length, take, drop, length-drop}
-use lib.Seq.{take_all}
+use lib.ListN.{length}
 use lib.IntN.{ℤ}
 use borrow.Author.Tests.{eq-eqb, ne_eqb}
 use mir.Syntax.{w16, w32}
@@ -20,73 +18,65 @@ use Rattle.forms.specs.declared.Written.{Written}
 use Rattle.forms.specs.Value.{Typed, refusal_of, no_rule}
 use Rattle.language.specs.Grammar as grammar
 use Rattle.language.specs.Value.{value_rule}
-use Rattle.language.specs.Parser.{Parsed, fail, got, first, parse, judged, answer}
+use Rattle.scanning.specs.Bytes.{first}
+use Rattle.language.specs.Parser.{Parsed, fail, got, parse, judged, answer}
 use Rattle.language.proofs.Refusals.{InRange, Sound, value-sound}
 use Rattle.session_lines.specs.declared.numbers.Number.{Number}
-use Rattle.session_lines.specs.declared.numbers.Found.{Found}
 use Rattle.session_lines.specs.declared.Asked.{Asked}
 use Rattle.session_lines.specs.declared.Asked.TheVariants.{Begin, Add, Turn}
 use Rattle.session_lines.specs.Fields.{number_in, past_field, fits, value_of, size_of, signed_in, unsigned_in}
 use Rattle.session_lines.specs.Lines.{sixteens, begun_of, ended, start_in, rule_of, rule_in, written_of, read_as, typed_of, typed_in}
-use Rattle.scanning.specs.Places.{Goes}
 use Rattle.session_lines.specs.Asked.{Finds}
 use Rattle.session_lines.proofs.Signs.{given, missing, kept16, kept32}
 
 -- ---- the end of a text
 
-left : {s rest : List ℕ} {r : ℕ} → Goes s rest r → length rest ≡ length s - r
-left {s = s} {r = r} g = sym (ap length g.goes_on) ∙ length-drop r s
+pub at-end : {l rest : List ℕ} {a b : Option Asked} → l ≡ rest → eqb (length l) 0 ≡ true → a ≡ b → a ≡ ended rest b
+at-end {b = b} g e q = q ∙ sym (ap (λ (t : Bool). cond t b None) (ap (λ (z : List ℕ). eqb (length z) 0) (sym g) ∙ e))
 
-pub at-end : {s rest : List ℕ} {r : ℕ} {a b : Option Asked} → Goes s rest r → r ≡ length s → a ≡ b → a ≡ ended rest b
-at-end {rest = rest} {b = b} g e q =
-    q ∙ sym (ap (λ (t : Bool). cond t b None) (eq-eqb (length rest) 0 (omega (arith, left g, e))))
-
-pub before-end : {s rest : List ℕ} {r : ℕ} (b : Option Asked) → Goes s rest r → (r ≡ length s → ⊥) → None ≡ ended rest b
-before-end {s = s} {rest = rest} {r = r} b g e =
-    sym (ap (λ (t : Bool). cond t b None) (ne_eqb (length rest) 0 (λ z. e (omega (arith, left g, g.high, z)))))
+pub before-end : {l rest : List ℕ} (b : Option Asked) → l ≡ rest → eqb (length l) 0 ≡ false → None ≡ ended rest b
+before-end b g e = sym (ap (λ (t : Bool). cond t b None) (ap (λ (z : List ℕ). eqb (length z) 0) (sym g) ∙ e))
 
 -- ---- fields one after the other
 
 -- a field that begins where another text ends
-pub then : {s l : List ℕ} {at : ℕ} {r : Found} → Goes s l at → Finds s at r → (r.number ≡ number_in l) × Goes s (past_field l) r.next
-then g f = (f.number ∙ ap number_in g.goes_on, record { goes_on = f.goes.goes_on ∙ ap past_field g.goes_on; high = f.goes.high })
+pub then : {m l r : List ℕ} {n : Option Number} → m ≡ l → Finds m n r → Finds l n r
+then {r = r} {n = n} e f = subst (λ (z : List ℕ). Finds z n r) e f
 
-module _ (s : List ℕ) {at : ℕ} {p q lx ly : Found} (word : Goes s (drop 5 s) at) (f : Finds s at p) (g : Finds s p.next q)
-    (h : Finds s q.next lx) (k : Finds s lx.next ly) where
-  pub start-read : ly.next ≡ length s →
+module _ (s : List ℕ) {p q lx ly : Option Number} {k l m o : List ℕ} (f : Finds s p k) (g : Finds k q l) (h : Finds l lx m)
+    (i : Finds m ly o) where
+  pub start-read : eqb (length o) 0 ≡ true →
       {a : Option Asked} →
-      a ≡ begun_of p.number q.number lx.number ly.number →
-      a ≡ start_in (drop 5 s)
+      a ≡ begun_of p q lx ly →
+      a ≡ start_in s
   unfolding start_in
   start-read e z =
-      let f' = then word f in
-      let g' = then f'.1 g in
-      let h' = then g'.1 h in
-      let k' = then h'.1 k in
-      at-end k'.1 e (z ∙ (λ i. begun_of (f'.0 i) (g'.0 i) (h'.0 i) (k'.0 i)))
+      let g' = then f.rest g in
+      let h' = then g'.rest h in
+      let i' = then h'.rest i in
+      at-end i'.rest e (z ∙ (λ j. begun_of (f.number j) (g'.number j) (h'.number j) (i'.number j)))
 
-  pub start-other : (ly.next ≡ length s → ⊥) → None ≡ start_in (drop 5 s)
+  pub start-other : eqb (length o) 0 ≡ false → None ≡ start_in s
   unfolding start_in
-  start-other e = before-end _ (then (then (then (then word f).1 g).1 h).1 k).1 e
+  start-other e = before-end _ (then (then (then f.rest g).rest h).rest i).rest e
 
-module _ (s : List ℕ) {at : ℕ} {kind a b c label : Found} (word : Goes s (drop 4 s) at) (f : Finds s at kind)
-    (g : Finds s kind.next a) (h : Finds s a.next b) (k : Finds s b.next c) (m : Finds s c.next label) where
-  pub rule-read : label.next ≡ length s →
+module _ (s : List ℕ) {kind a b c label : Option Number} {k l m n o : List ℕ} (f : Finds s kind k) (g : Finds k a l)
+    (h : Finds l b m) (i : Finds m c n) (j : Finds n label o) where
+  pub rule-read : eqb (length o) 0 ≡ true →
       {x : Option Asked} →
-      x ≡ rule_of kind.number a.number b.number c.number label.number →
-      x ≡ rule_in (drop 4 s)
+      x ≡ rule_of kind a b c label →
+      x ≡ rule_in s
   unfolding rule_in
   rule-read e z =
-      let f' = then word f in
-      let g' = then f'.1 g in
-      let h' = then g'.1 h in
-      let k' = then h'.1 k in
-      let m' = then k'.1 m in
-      at-end m'.1 e (z ∙ (λ i. rule_of (f'.0 i) (g'.0 i) (h'.0 i) (k'.0 i) (m'.0 i)))
+      let g' = then f.rest g in
+      let h' = then g'.rest h in
+      let i' = then h'.rest i in
+      let j' = then i'.rest j in
+      at-end j'.rest e (z ∙ (λ t. rule_of (f.number t) (g'.number t) (h'.number t) (i'.number t) (j'.number t)))
 
-  pub rule-other : (label.next ≡ length s → ⊥) → None ≡ rule_in (drop 4 s)
+  pub rule-other : eqb (length o) 0 ≡ false → None ≡ rule_in s
   unfolding rule_in
-  rule-other e = before-end _ (then (then (then (then (then word f).1 g).1 h).1 k).1 m).1 e
+  rule-other e = before-end _ (then (then (then (then f.rest g).rest h).rest i).rest j).rest e
 
 -- ---- numbers in range
 
@@ -226,42 +216,37 @@ module _ (kind a b c label : Option Number) {oa : Option ℤ} (f : oa ≡ signed
 
 -- ---- a label and a text
 
--- a text from a place on
-pub whole : (s : List ℕ) (at : ℕ) → take (length s - at) (drop at s) ≡ drop at s
-whole s at = take_all (length s - at) (drop at s) (omega (arith, length-drop at s))
-
-module _ (s : List ℕ) {at : ℕ} {label : Found} (word : Goes s (drop 3 s) at) (f : Finds s at label) {o : Option ℕ}
-    (fitting : o ≡ unsigned_in 65535 label.number) where
-  told : o ≡ unsigned_in 65535 (number_in (drop 3 s))
-  told = fitting ∙ ap (unsigned_in 65535) (then word f).0
+module _ (s : List ℕ) {m : Option Number} {l : List ℕ} (f : Finds s m l) {o : Option ℕ} (fitting : o ≡ unsigned_in 65535 m) where
+  told : o ≡ unsigned_in 65535 (number_in s)
+  told = fitting ∙ ap (unsigned_in 65535) f.number
 
   typed_by : Bool → Bool → Option Asked
-  typed_by t u = cond (t && u) (Some (typed_of (size_of (number_in (drop 3 s))) (past_field (drop 3 s)))) None
+  typed_by t u = cond (t && u) (Some (typed_of (size_of (number_in s)) (past_field s))) None
 
-  module _ {n b : ℕ} (e : o ≡ Some n) (byte : b ≡ first (drop label.next s)) where
-    here : b ≡ first (past_field (drop 3 s))
-    here = byte ∙ ap first (then word f).1.goes_on
+  module _ {n b : ℕ} (e : o ≡ Some n) (byte : b ≡ first l) where
+    here : b ≡ first (past_field s)
+    here = byte ∙ ap first f.rest
 
-    labelled : (fits 0 65535 (number_in (drop 3 s)) ≡ true) × (n ≡ size_of (number_in (drop 3 s)))
-    labelled = given (fits 0 65535 (number_in (drop 3 s))) (size_of (number_in (drop 3 s))) told e
+    labelled : (fits 0 65535 (number_in s) ≡ true) × (n ≡ size_of (number_in s))
+    labelled = given (fits 0 65535 (number_in s)) (size_of (number_in s)) told e
 
-    pub typed-read : b ≡ 32 → {a : Asked} → a ≡ typed_of n (drop label.next s) → Some a ≡ typed_in (drop 3 s)
+    pub typed-read : b ≡ 32 → {a : Asked} → a ≡ typed_of n l → Some a ≡ typed_in s
     unfolding typed_in typed_by
     typed-read z q =
-        let y : eqb (first (past_field (drop 3 s))) 32 ≡ true = eq-eqb (first (past_field (drop 3 s))) 32 (sym here ∙ z) in
-        ap Some (q ∙ (λ i. typed_of (labelled.1 i) ((then word f).1.goes_on i))) ∙ sym (ap₂ typed_by labelled.0 y)
+        let y : eqb (first (past_field s)) 32 ≡ true = eq-eqb (first (past_field s)) 32 (sym here ∙ z) in
+        ap Some (q ∙ (λ i. typed_of (labelled.1 i) (f.rest i))) ∙ sym (ap₂ typed_by labelled.0 y)
 
-    pub typed_unspaced : (b ≡ 32 → ⊥) → None ≡ typed_in (drop 3 s)
+    pub typed_unspaced : (b ≡ 32 → ⊥) → None ≡ typed_in s
     unfolding typed_in typed_by
     typed_unspaced z =
-        let y : eqb (first (past_field (drop 3 s))) 32 ≡ false = ne_eqb (first (past_field (drop 3 s))) 32 (λ q. z (here ∙ q)) in
+        let y : eqb (first (past_field s)) 32 ≡ false = ne_eqb (first (past_field s)) 32 (λ q. z (here ∙ q)) in
         sym (ap₂ typed_by labelled.0 y)
 
-  pub typed_unlabelled : o ≡ None → None ≡ typed_in (drop 3 s)
+  pub typed_unlabelled : o ≡ None → None ≡ typed_in s
   unfolding typed_in typed_by
   typed_unlabelled e =
-      let m = missing (fits 0 65535 (number_in (drop 3 s))) (size_of (number_in (drop 3 s))) told e in
-      sym (ap (λ t. typed_by t (eqb (first (past_field (drop 3 s))) 32)) m)
+      let m = missing (fits 0 65535 (number_in s)) (size_of (number_in s)) told e in
+      sym (ap (λ t. typed_by t (eqb (first (past_field s)) 32)) m)
 
 -- ---- what a text reads as
 

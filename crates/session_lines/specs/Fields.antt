@@ -2,7 +2,7 @@
 -- on behind the last digit. No field has room for a number beyond 2,147,483,648 either way, so that one is none.
 use Rattle.std.specs.Prelude.{Bool, false, cond, List, ℕ, eqb, leb, ℤ, pos, neg_ℤ, Option, Some, None}
 use Rattle.text.specs.Number.{value_from}
-use Rattle.language.specs.Parser.{first, tail, digit, run, past}
+use Rattle.scanning.specs.Bytes.{first, tail, digit, run, past}
 use Rattle.session_lines.specs.declared.numbers.Number.{Number}
 
 abbrev pub greatest : ℕ

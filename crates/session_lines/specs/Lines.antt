@@ -5,8 +5,9 @@ use Rattle.std.specs.Prelude.{Bool, true, cond, ◌&&◌, List, [], ◌∷◌, �
 use Rattle.text.specs.Text.{text}
 use Rattle.records.specs.declared.Rule.{Rule}
 use Rattle.forms.specs.declared.Written.{Written}
-use Rattle.forms.specs.Value.{Typed, refusal_of}
-use Rattle.language.specs.Parser.{first, tail, answer}
+use Rattle.forms.specs.Value.{Typed, kind_of, refusal_of}
+use Rattle.scanning.specs.Bytes.{first, tail}
+use Rattle.language.specs.Parser.{answer}
 use Rattle.session_lines.specs.declared.numbers.Number.{Number}
 use Rattle.session_lines.specs.declared.Asked.{Asked}
 use Rattle.session_lines.specs.declared.Asked.TheVariants.{Begin, Add, Turn, Back}
@@ -56,7 +57,7 @@ rule_in l =
 -- ---- `add`
 
 abbrev pub written_of : ℕ → Written → Rule
-written_of label w = record { kind = w.kind; a = w.a; b = w.b; c = w.c; label = label }
+written_of label w = record { kind = kind_of w.sense; a = w.a; b = w.b; c = w.c; label = label }
 
 abbrev pub read_as : ℕ → Typed → Asked
 read_as label (Ok w) = Add (written_of label w)

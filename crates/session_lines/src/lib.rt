@@ -34,19 +34,15 @@ pub enum Asked {
 pub fn read_line(text: &[u8]) -> Option<Asked>
     ensures { result ≡ line_in text.now }
 {
-    if text.starts_with(b"start") {
-        return started(text);
+    if let Some(rest) = text.strip_prefix(b"start") {
+        started(rest)
+    } else if let Some(rest) = text.strip_prefix(b"add") {
+        typed(rest)
+    } else if let Some(rest) = text.strip_prefix(b"rule") {
+        added(rest)
+    } else if text == b"back".as_slice() {
+        Some(Asked::Back)
+    } else {
+        None
     }
-    if text.starts_with(b"add") {
-        return typed(text);
-    }
-    if text.starts_with(b"rule") {
-        return added(text);
-    }
-    if text.starts_with(b"back") {
-        if text.len() == 4 {
-            return Some(Asked::Back);
-        }
-    }
-    None
 }

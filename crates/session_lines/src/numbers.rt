@@ -12,13 +12,6 @@ pub struct Number {
     pub size: u64,
 }
 
-// The number of a field, if one stands there, and where the text goes on.
-#[derive(Clone, Copy)]
-pub struct Found {
-    pub number: Option<Number>,
-    pub next: usize,
-}
-
 // A number that is not beyond the greatest.
 fn numeral(negative: bool, size: u64) -> Option<Number>
     ensures { result ≡ numeral_of negative size }
@@ -30,33 +23,30 @@ fn numeral(negative: bool, size: u64) -> Option<Number>
     }
 }
 
-// The number whose space and whose digits stand at two places.
-fn number_from(negative: bool, text: &[u8], at: usize, from: usize) -> Found
-    ensures { FindsFrom negative text.now at from result }
+// The number whose space a text begins with and whose digits another does, and what is left behind the digits.
+fn number_from<'a>(negative: bool, text: &[u8], from: &'a [u8]) -> (Option<Number>, &'a [u8])
+    ensures { FindsFrom negative text.now from.now result.0 result.1.now }
 {
-    let run = digits(text, from, 2147483648);
-    let next = run.end;
-    if byte_at(text, at) != 32 {
-        return Found { number: None, next };
+    let run = digits(from, 2147483648);
+    if byte_at(text) != b' ' {
+        return (None, run.rest);
     }
-    if digit(byte_at(text, from)) {
-        let number = numeral(negative, run.number);
-        Found { number, next }
+    if digit(byte_at(from)) {
+        (numeral(negative, run.number), run.rest)
     } else {
-        Found { number: None, next }
+        (None, run.rest)
     }
 }
 
-// The number in the field at a place, where its space stands.
-pub fn field(text: &[u8], at: usize) -> Found
-    ensures { Finds text.now at result }
+// The number of the field that a text begins with, if one stands there, and what is left of the text behind the field.
+pub fn field(text: &[u8]) -> (Option<Number>, &[u8])
+    ensures { Finds text.now result.0 result.1.now }
 {
-    let sign = after(text, at);
-    if byte_at(text, sign) == 45 {
-        let from = after(text, sign);
-        number_from(true, text, at, from)
+    let from = after(text);
+    if byte_at(from) == b'-' {
+        number_from(true, text, after(from))
     } else {
-        number_from(false, text, at, sign)
+        number_from(false, text, from)
     }
 }
 

@@ -1,5 +1,5 @@
 // The steps that lines ask for, from the numbers behind their word.
-ghost use Rattle.std.specs.Prelude.{◌≡◌, drop};
+ghost use Rattle.std.specs.Prelude.{◌≡◌};
 ghost use Rattle.language.proofs.Refusals.{InRange};
 ghost use Rattle.session_lines.specs.Lines.{begun_of, start_in, rule_of, rule_in, written_of, typed_of, typed_in};
 
@@ -7,7 +7,7 @@ use crate::numbers::{Number, field, sixteen, thirty_two, unsigned_eight, unsigne
 use crate::{Asked, Beginning};
 use forms::Written;
 use records::Rule;
-use scanning::{behind, byte_at};
+use scanning::byte_at;
 
 // A session anew, if its numbers have 16 bits.
 fn begun(
@@ -25,16 +25,16 @@ fn begun(
     Some(Asked::Begin(Beginning { p, q, lx, ly }))
 }
 
-// `start P Q LX LY`.
+// What stands behind `start`: P, Q, LX and LY.
 pub fn started(text: &[u8]) -> Option<Asked>
-    ensures { result ≡ start_in (drop 5 text.now) }
+    ensures { result ≡ start_in text.now }
 {
-    let p = field(text, behind(text, 5));
-    let q = field(text, p.next);
-    let lx = field(text, q.next);
-    let ly = field(text, lx.next);
-    if ly.next == text.len() {
-        begun(p.number, q.number, lx.number, ly.number)
+    let (p, rest) = field(text);
+    let (q, rest) = field(rest);
+    let (lx, rest) = field(rest);
+    let (ly, rest) = field(rest);
+    if rest.is_empty() {
+        begun(p, q, lx, ly)
     } else {
         None
     }
@@ -64,17 +64,17 @@ fn ruled(
     }))
 }
 
-// `rule KIND A B C LABEL`.
+// What stands behind `rule`: KIND, A, B, C and LABEL.
 pub fn added(text: &[u8]) -> Option<Asked>
-    ensures { result ≡ rule_in (drop 4 text.now) }
+    ensures { result ≡ rule_in text.now }
 {
-    let kind = field(text, behind(text, 4));
-    let a = field(text, kind.next);
-    let b = field(text, a.next);
-    let c = field(text, b.next);
-    let label = field(text, c.next);
-    if label.next == text.len() {
-        ruled(kind.number, a.number, b.number, c.number, label.number)
+    let (kind, rest) = field(text);
+    let (a, rest) = field(rest);
+    let (b, rest) = field(rest);
+    let (c, rest) = field(rest);
+    let (label, rest) = field(rest);
+    if rest.is_empty() {
+        ruled(kind, a, b, c, label)
     } else {
         None
     }
@@ -86,7 +86,7 @@ fn named(label: u16, w: Written) -> Rule
     ensures { result ≡ written_of label w }
 {
     Rule {
-        kind: w.kind as u8,
+        kind: w.sense.number(),
         a: w.a as i16,
         b: w.b as i16,
         c: w.c as i32,
@@ -104,15 +104,14 @@ fn typed_under(label: u16, text: &[u8]) -> Asked
     }
 }
 
-// `add LABEL RULE`.
+// What stands behind `add`: LABEL and RULE.
 pub fn typed(text: &[u8]) -> Option<Asked>
-    ensures { result ≡ typed_in (drop 3 text.now) }
+    ensures { result ≡ typed_in text.now }
 {
-    let found = field(text, behind(text, 3));
-    let label = unsigned_sixteen(found.number)?;
-    let from = found.next;
-    if byte_at(text, from) == 32 {
-        Some(typed_under(label, &text[from..]))
+    let (found, rest) = field(text);
+    let label = unsigned_sixteen(found)?;
+    if byte_at(rest) == b' ' {
+        Some(typed_under(label, rest))
     } else {
         None
     }

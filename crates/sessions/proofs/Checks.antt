@@ -1,11 +1,11 @@
 -- What turns an objective back, as the code tests it; and a rule that has none of the causes 8, 9 and 10 is lawful.
-use mathlib.Core.Path.{◌≡◌, refl, sym, ◌∙◌, ap, ap₂, subst}
+use mathlib.Core.Path.{◌≡◌, refl, sym, ◌∙◌, ap, subst}
 use mathlib.Core.Bool.{Bool, true, false, not, ◌||◌, ◌&&◌}
 use mathlib.Core.Logic.{◌⊎◌, inl, inr}
 use Prim.Native.Nat.{ℕ, suc, ◌≤◌, ◌<◌}
 use native.Mathlib.Omega.{arith}
 use borrow.Author.Tests.{eqb-true, ltb-false}
-use lib.Dec.{T, eqb, ltb}
+use lib.Dec.{T, eqb}
 use lib.IntN.{ℤ, pos, negsuc, nat_abs}
 use lib.Signed.{lt_z}
 use mir.Syntax.{w16}
@@ -31,19 +31,6 @@ within-top (negsuc n) f e = omega (arith, ltb-false 32766 n e)
 either-false : (s t : Bool) → (s || t) ≡ false → (s ≡ false) × (t ≡ false)
 either-false true t e = absurd (subst T e tt)
 either-false false t e = (refl, e)
-
-pub one-least : (p q : ℤ) → is_least p ≡ true → false ≡ not (is_least p || is_least q)
-one-least p q e = sym (ap (λ b. not (b || is_least q)) e)
-
-pub other-least : (p q : ℤ) → is_least q ≡ true → false ≡ not (is_least p || is_least q)
-other-least p q e = sym (ap (λ b. not (is_least p || b)) e ∙ go (is_least p))
-  where
-    go : (b : Bool) → not (b || true) ≡ false
-    go true = refl
-    go false = refl
-
-pub none-least : (p q : ℤ) → is_least p ≡ false → is_least q ≡ false → true ≡ not (is_least p || is_least q)
-none-least p q e f = sym (ap₂ (λ b c. not (b || c)) e f)
 
 -- ---- a rule
 

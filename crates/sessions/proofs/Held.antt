@@ -1,17 +1,16 @@
 -- A session as the chain of a book: its rules are in range, the engine plans them, and the names are the places from 1 up.
-use Rattle.std.specs.Prelude.{None, Some}
-use mathlib.Core.Path.{◌≡◌, refl, sym, ◌∙◌, ap, ap₂, subst}
+use Rattle.std.specs.Prelude.{Option, Some, IsSome}
+use mathlib.Core.Path.{◌≡◌, refl, sym, ◌∙◌, ap, ap₂, subst, subst⁻¹}
 use mathlib.Core.List.{List, [], ◌∷◌, map}
 use Prim.Native.Nat.{ℕ, zero, suc, ◌+◌, ◌<◌}
 use native.Mathlib.Omega.{arith}
-use lib.ListN.{length, get_or, take}
+use lib.ListN.{length, get_or}
 use lib.Seq.{get_or-take, length-take-le}
 use lib.IntN.{ℤ, pos, negsuc}
 use mir.Syntax.{w16}
 use mir.Val.{SFits}
 use Rattle.ints.specs.Within.{Within}
 use Rattle.lp.specs.declared.Constraint.{Constraint}
-use Rattle.lp.specs.declared.Terms.{Terms}
 use Rattle.lp.specs.Program.{constraint}
 use Rattle.lp.specs.Range.{SmallSystem, SmallTerms}
 use Rattle.lp.specs.Document.{tie}
@@ -119,12 +118,8 @@ module _ (s : Session) (is : IsSession s) where
         (subst SmallSystem (sym chain-laid) rules-small)
         ∙ ap (λ (S : List Constraint). Some (solution_of s.terms.objective (walk tie s.terms.floors s.terms.objective S))) chain-laid
 
-    pub never-outside : {run : List ℤ} → run ≡ laid_from l s.rules s.n → None ≡ solved_of s.terms run s.n → ⊥
-    never-outside e w =
-        let clash = w ∙ ap (λ (x : List ℤ). solved_of s.terms x s.n) e ∙ walked in
-        let z : ◌≡◌ {A = ℕ} 0 1 = cc in
-        let b : ⊥ = omega arith in
-        b
+    pub planned-some : {run : List ℤ} → run ≡ laid_from l s.rules s.n → {r : Option Solution} → r ≡ solved_of s.terms run s.n → IsSome r
+    planned-some e w = subst⁻¹ IsSome (w ∙ ap (λ (x : List ℤ). solved_of s.terms x s.n) e ∙ walked) refl
 
     pub session-shown : {run : List ℤ} {names : List ℕ} →
         run ≡ laid_from l s.rules s.n →

@@ -1,19 +1,23 @@
 -- From what the code does at each step to the step's promise: which refusal it is, and which session is handed back.
 use mathlib.Core.Path.{◌≡◌, refl, sym, ◌∙◌, ap, ap₂, subst}
-use mathlib.Core.Bool.{Bool, true, false, not, cond, ◌||◌}
+use mathlib.Core.Bool.{Bool, true, false, not, cond, ◌||◌, true≢false}
 use Prim.Native.Nat.{ℕ, ◌+◌, ◌≤◌, ◌<◌}
 use native.Mathlib.Omega.{arith}
 use borrow.Author.Tests.{eq-eqb, ne_eqb, lt-ltb, le-ltb}
-use lib.Dec.{T, eqb}
+use lib.Dec.{T, eqb, ltb}
 use lib.IntN.{ℤ, pos}
 use mir.Syntax.{w16}
 use mir.Val.{SFits, to_z, of_z}
 use mir.Facts.{to_z-of_z}
 use Rattle.records.specs.declared.Rule.{Rule}
-use Rattle.records.specs.Record.{is_least}
-use Rattle.std.proofs.Common.{Option, Some, None}
+use Rattle.records.specs.declared.Sound.{Sound}
+use Rattle.records.specs.Record.{is_least, decoded_with, number_of}
+use Rattle.std.proofs.Common.{Option, Some, None, Ok, Err}
 use Rattle.std.specs.Prelude.{is_none}
+use Rattle.answers.specs.declared.Cause.{Cause}
+use Rattle.answers.specs.declared.Cause.TheVariants as cause
 use Rattle.answers.specs.declared.Refusal.{Refusal}
+use Rattle.answers.specs.Cause.{number_of_cause, numbered}
 use Rattle.answers.specs.Refusal.{refusal}
 use Rattle.sessions.specs.declared.Session.{Session}
 use Rattle.sessions.specs.declared.Step.{Step}
@@ -25,36 +29,46 @@ use Rattle.sessions.proofs.Kept.{start-session}
 
 -- ---- the cause that turns a rule back
 
-module _ (s : Session) (r : Rule) {n : ℕ} (found : n ≡ cause_of r) where
-  pub rule-turned : (n ≡ 0 → ⊥) → AddingChecked s r n
-  rule-turned some =
+-- each cause has a number
+numbered-some : (k : Cause) → number_of_cause k ≡ 0 → ⊥
+numbered-some k e = absurd (true≢false (sym (above k) ∙ ap (ltb 0) e))
+  where
+    above : (k : Cause) → ltb 0 (number_of_cause k) ≡ true
+    above k = elim k as (λ j. ltb 0 (number_of_cause j) ≡ true) [ cause.Length ↦ refl | _ ↦ refl ]
+
+some_apart : {k : Cause} → ◌≡◌ {A = Option Cause} (Some k) None → ⊥
+some_apart e = cc
+
+module _ (s : Session) (r : Rule) where
+  pub rule-turned : {k : Cause} → decoded_with true r 0 ≡ Err k → AddingChecked s r (Some k)
+  rule-turned {k} e =
       record {
         answer =
-            found
+            ap number_of (sym e)
             ∙ sym (ap (λ b. cond b (cond (label_held s r.label) 12 0) (cause_of r))
-            (ne_eqb (cause_of r) 0 (λ e. some (found ∙ e))));
-        lawful = λ e. absurd (some e);
-        new = λ e. absurd (some e);
+            (ne_eqb (cause_of r) 0 (λ z. numbered-some k (ap number_of (sym e) ∙ z))));
+        lawful = λ z. absurd (some_apart z);
+        new = λ z. absurd (some_apart z);
       }
 
-  module _ (none : n ≡ 0) where
+  module _ {x : Sound} (found : decoded_with true r 0 ≡ Ok x) where
     passes : eqb (cause_of r) 0 ≡ true
-    passes = eq-eqb (cause_of r) 0 (sym found ∙ none)
+    passes = eq-eqb (cause_of r) 0 (ap number_of found)
 
-    pub label-turned : {t : Bool} → t ≡ label_held s r.label → t ≡ true → AddingChecked s r 12
+    pub label-turned : {t : Bool} → t ≡ label_held s r.label → t ≡ true → AddingChecked s r (Some cause.Label)
     label-turned e yes' =
         record {
           answer = sym (ap₂ (λ b c. cond b (cond c 12 0) (cause_of r)) passes (sym e ∙ yes'));
-          lawful = λ z. absurd (let w : ⊥ = omega arith in w);
-          new = λ z. absurd (let w : ⊥ = omega arith in w);
+          lawful = λ z. absurd (some_apart z);
+          new = λ z. absurd (some_apart z);
         }
 
     pub none-turned : SFits w16 r.a → SFits w16 r.b → r.label < 65536 → {t : Bool} →
-        t ≡ label_held s r.label → t ≡ false → AddingChecked s r 0
+        t ≡ label_held s r.label → t ≡ false → AddingChecked s r None
     none-turned fa fb fl e no' =
         record {
           answer = sym (ap₂ (λ b c. cond b (cond c 12 0) (cause_of r)) passes (sym e ∙ no'));
-          lawful = λ z. no_cause r fa fb fl (sym found ∙ none);
+          lawful = λ z. no_cause r fa fb fl (ap number_of found);
           new = λ z. sym e ∙ no';
         }
 
@@ -77,35 +91,33 @@ module _ (s : Session) (r : Rule) (x : Step) where
       (le-ltb s.n 64 full))
       h
 
-  module _ (free : s.n < 64) (k : ℕ) (checked : AddingChecked s r k) where
-    by-cause : adding_refusal s r ≡ cond (eqb (adding_cause s r) 0) None (Some (refusal (adding_cause s r) (s.n + 1)))
-    by-cause =
-        ap (λ b. cond b (cond (eqb (adding_cause s r) 0) None (Some (refusal (adding_cause s r) (s.n + 1)))) (Some (refusal 18 0)))
-        (lt-ltb s.n 64 free)
+  module _ (free : s.n < 64) where
+    abbrev by : ℕ → Option Refusal
+    by m = cond (eqb m 0) None (Some (refusal m (s.n + 1)))
 
-    pub adds-turned : (k ≡ 0 → ⊥) → Leads s (Some (refusal k (s.n + 1))) x → Adds s r x
-    adds-turned some h =
+    by-cause : {k : Option Cause} → AddingChecked s r k → adding_refusal s r ≡ by (numbered k)
+    by-cause checked = ap (λ b. cond b (by (adding_cause s r)) (Some (refusal 18 0))) (lt-ltb s.n 64 free) ∙ ap by (sym checked.answer)
+
+    pub adds-turned : (k : Cause) →
+        AddingChecked s r (Some k) →
+        Leads s (Some (refusal (number_of_cause k) (s.n + 1))) x →
+        Adds s r x
+    adds-turned k checked h =
         refused-so
-        (by-cause
-        ∙ ap (λ m. cond (eqb m 0) None (Some (refusal m (s.n + 1)))) (sym checked.answer)
-        ∙ ap (λ b. cond b None (Some (refusal k (s.n + 1)))) (ne_eqb k 0 some))
+        (by-cause checked
+        ∙ ap (λ b. cond b None (Some (refusal (number_of_cause k) (s.n + 1)))) (ne_eqb (number_of_cause k) 0 (numbered-some k)))
         h
 
-    pub adds-taken : k ≡ 0 → {y : Session} → y ≡ longer_by s r → Leads y None x → Adds s r x
-    adds-taken none e h =
+    pub adds-taken : AddingChecked s r None → {y : Session} → y ≡ longer_by s r → Leads y None x → Adds s r x
+    adds-taken checked e h =
         record {
           session-is =
               h.session-is ∙ e
-              ∙ sym (ap (λ (f : Option Refusal). cond (is_none f) (longer_by s r) s) clear);
-          refusal_is = h.refusal_is ∙ sym clear;
+              ∙ sym (ap (λ (f : Option Refusal). cond (is_none f) (longer_by s r) s) (by-cause checked));
+          refusal_is = h.refusal_is ∙ sym (by-cause checked);
           shown = h.shown;
           valid = h.valid;
         }
-      where
-        clear : adding_refusal s r ≡ None
-        clear =
-            by-cause
-            ∙ ap (λ m. cond (eqb m 0) None (Some (refusal m (s.n + 1)))) (sym checked.answer ∙ none)
 
 -- ---- withdrawing
 

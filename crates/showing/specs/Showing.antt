@@ -1,6 +1,6 @@
 -- A panel as it is shown: for a best outcome a line for each record of the chain, for any other outcome none, for a refused book the line
 -- of the refusal. That these are the lines of what a book reads as is proved in the planner, which lends the chain's records.
-use Rattle.std.specs.Prelude.{cond, Result, Ok, Err, List, [], map, ℕ, ◌*◌, ◌≤◌, leb, length}
+use Rattle.std.specs.Prelude.{cond, Result, Ok, Err, List, [], map, ℕ, ◌*◌, leb, length}
 use Rattle.lp.specs.declared.Point.{Point}
 use Rattle.lp.specs.declared.Outcome.{Outcome}
 use Rattle.lp.specs.declared.Outcome.TheVariants as outcome
@@ -39,7 +39,3 @@ panel_from L s (Err f) records = line_of (Err f)
 -- the promise of `show`
 abbrev pub Shows : Layout → List ℕ → Result Outcome Refusal → List ℕ → List ℕ → List ℕ → ℕ → Type 0
 Shows L s q records = Fills (panel_from L s q records) (panel_room L)
-
--- what the lines of records ask: 64 bytes for each
-pub record Listing (records out : List ℕ) : Type 0 where
-  pub room : 64 * length records ≤ length out

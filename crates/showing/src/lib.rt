@@ -3,32 +3,34 @@
 
 #![tactic(auto)]
 
-ghost use Rattle.std.specs.Prelude.{◌≡◌, map, ◌*◌, length};
-ghost use Rattle.records.specs.Layout.{layout_of};
-ghost use Rattle.text.specs.Append.{Appended};
+ghost use Rattle.std.specs.Prelude.{◌≡◌, map, ◌*◌, ◌≤◌, length};
+ghost use Rattle.text.specs.Line.{RoomIn, Added};
 ghost use Rattle.panel_row.specs.Panel.{row_lines};
-ghost use Rattle.showing.specs.Showing.{panel_room, row_for, Listing, Shows};
+ghost use Rattle.showing.specs.Showing.{panel_room as panel_room_of, row_for, Shows};
 
 use answers::Refusal;
 use lp::{Outcome, Point};
 use panel_row::{Row, append_row};
-use records::Version;
+use records::{Book, Version};
+use text::Line;
 
-// How many bytes a panel's buffer has at least: 64 for each record of the greatest book.
-fn panel_room(version: Version) -> usize
-    ensures { result ≡ panel_room (layout_of version) }
+// How many bytes a panel's buffer has at least: 64 for each record of the greatest book, and enough for a refusal's line. It is a match of
+// two constants, which a product of a version's numbers would spell longer.
+fn panel_room(book: &Book) -> usize
+    ensures room { result ≡ panel_room_of book.now.layout }
+    ensures for_a_refusal { 256 ≤ result }
 {
-    match version {
+    match book.version {
         Version::One => 16384,
         Version::Two => 262144,
     }
 }
 
 // The label and slack of the rule in a record.
-fn row(version: Version, book: &[u8], index: u16, v: Point) -> Row
-    ensures { result ≡ row_for (layout_of version) book.now v index }
+fn row(book: &Book, index: u16, v: Point) -> Row
+    ensures { result ≡ row_for book.now.layout book.now.bytes v index }
 {
-    let rule = decoding::rule_at(version, book, index);
+    let rule = decoding::rule_at(book, index);
     Row {
         label: rule.label,
         slack: amounts::amount(rules::constraint(rule), v),
@@ -36,45 +38,37 @@ fn row(version: Version, book: &[u8], index: u16, v: Point) -> Row
 }
 
 // The lines of the records.
-fn list(version: Version, book: &[u8], records: &[u16], v: Point, out: &mut [u8]) -> usize
-    requires { Listing records.now out.old }
-    ensures { Appended out.old 0 (row_lines (map (row_for (layout_of version) book.now v) records.now))
-        (64 * length records.now) out.new result }
+fn list(book: &Book, records: &[u16], v: Point, line: &mut Line)
+    requires { RoomIn line.old (64 * length records.now) }
+    ensures { Added line.old (row_lines (map (row_for book.now.layout book.now.bytes v) records.now)) (64 * length records.now) line.new }
 {
-    let mut at = 0;
     for &index in records {
-        at = append_row(row(version, book, index, v), &mut *out, at);
+        append_row(row(book, index, v), line);
     }
-    at
 }
 
 // The panel of a book by its refusal, or else by the outcome and the records of its chain, and how many bytes it has. The buffer has at
 // least 16,384 bytes for version 1 and 262,144 for version 2; a smaller one is left as it is, and 0 handed back. So is any, where there
 // are more records than a book can have.
 pub fn show(
-    version: Version,
-    book: &[u8],
+    book: &Book,
     outcome: Result<Outcome, Refusal>,
     records: &[u16],
     out: &mut [u8],
 ) -> usize
-    ensures { Shows (layout_of version) book.now outcome records.now out.old out.new result }
+    ensures { Shows book.now.layout book.now.bytes outcome records.now out.old out.new result }
 {
-    let room = panel_room(version);
+    let room = panel_room(book);
     if out.len() < room {
         return 0;
     }
     match outcome {
         Err(refusal) => answer_line::write_line(Err(refusal), out),
-        Ok(outcome) => {
-            if room / 64 < records.len() {
-                return 0;
-            }
-            match outcome {
-                Outcome::Infeasible => 0,
-                Outcome::Unbounded(_, _) => 0,
-                Outcome::Optimal(v) => list(version, book, records, v, out),
-            }
+        Ok(Outcome::Optimal(v)) if records.len() <= room / 64 => {
+            let mut line = Line { out, at: 0 };
+            list(book, records, v, &mut line);
+            line.at
         }
+        Ok(_) => 0,
     }
 }

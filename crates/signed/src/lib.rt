@@ -1,5 +1,5 @@
 // Signed numbers of a book's fields: two's complement of sixteen and of thirty-two bits, and the one number of sixteen bits that is against
-// the format.
+// the format. The two readings are the library's `cast_signed` at two types, a line each; a generic function would be longer than both.
 
 #![tactic(auto)]
 

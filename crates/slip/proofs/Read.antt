@@ -14,8 +14,12 @@ use Rattle.book.specs.Reading.{Reading, refused, accepted, Entry, read_of, rules
 use Rattle.book.specs.Runs.{Few, put_records, put_rules}
 use Rattle.book.specs.Promises.{head_of, ReadInto}
 use Rattle.book.proofs.Bounds.{chain-count, rules-small, terms-small}
-use Rattle.book.proofs.Causes.{accepted-clear, refusal-number, accepted-passed, count-is, count_small}
+use Rattle.book.proofs.Causes.{accepted-clear, accepted-passed, count-is, count_small}
 use Rattle.book.proofs.Runs.{record-placed, records-length, rule-placed, rules-length}
+use Rattle.book.proofs.Results.{ok-err, same_Ok}
+use Rattle.book.proofs.Said.{said-refused}
+use Rattle.std.specs.Prelude.{Ok, Err}
+use Rattle.answers.specs.declared.Refusal.{Refusal}
 use Rattle.answers.specs.Refusal.{refusal}
 use Rattle.slip.specs.declared.Slip.{Slip}
 use Rattle.slip.specs.declared.Verdict.{Verdict}
@@ -70,13 +74,13 @@ small_at (r ∷ S) h (suc k) b = small_at S h.1 k (omega arith)
 
 module _
     (s records : List ℕ) (rules : List ℤ) (h : Head) (records' : List ℕ) (rules' : List ℤ)
-    (read : ReadInto v2 s records rules h records' rules')
+    (read : ReadInto v2 s records rules (Ok h) records' rules')
     (room : Roomy s records rules) where
   -- ---- of an accepted book
 
   module _ (t : Terms) (es : List Entry) (e : read_of v2 s ≡ accepted t es) where
-    same_head : h ≡ head_of (accepted t es)
-    same_head = read.answer ∙ ap head_of e
+    pub same_head : h ≡ record { terms = t; n = length es }
+    same_head = same_Ok h (record { terms = t; n = length es }) (read.answer ∙ ap head_of e)
 
     same-n : h.n ≡ length es
     same-n = ap (λ (x : Head). x.n) same_head
@@ -131,37 +135,37 @@ module _
         small k b =
             subst SmallConstraint (sym (placed k b)) (small_at (rules_of es) (rules-small v2 s e) k (omega (arith, length-rules es)))
 
-  -- ---- of any book
+  -- ---- of a book that is read so
 
-  module _ (clear : h.refusal.number ≡ 0) where
-    never-refused : {n i : ℕ} → read_of v2 s ≡ refused n i → ⊥
-    never-refused q = refusal-number v2 s q (sym (ap (λ (x : Head). x.refusal.number) (read.answer ∙ ap head_of q)) ∙ clear)
+  never-refused : {n i : ℕ} → read_of v2 s ≡ refused n i → ⊥
+  never-refused {n} {i} q = ok-err h (refusal n i) (read.answer ∙ ap head_of q)
 
-    pub judged_asks : Chain h.terms records' rules' h.n
-    judged_asks = go (read_of v2 s) refl
-      where
-        go : (r : Reading) → read_of v2 s ≡ r → Chain h.terms records' rules' h.n
-        go (refused n i) e = absurd (never-refused e)
-        go (accepted t es) e = chain-laid t es e
-
-    pub accepted-verdict : (slip : Slip) →
-        {x : Verdict} →
-        x ≡ judged h.terms (indices records' 0 h.n) (entries rules' 0 h.n) slip →
-        x ≡ verdict_of (read_of v2 s) slip
-    accepted-verdict slip {x} ex = go (read_of v2 s) refl
-      where
-        go : (r : Reading) → read_of v2 s ≡ r → x ≡ verdict_of r slip
-        go (refused n i) e = absurd (never-refused e)
-        go (accepted t es) e =
-            ex
-            ∙ λ i. judged (same_head t es e i).terms (chain-records t es e i) (chain-rules t es e i) slip
-
-  pub refused-verdict : (slip : Slip) → (h.refusal.number ≡ 0 → ⊥) → Refused h.refusal ≡ verdict_of (read_of v2 s) slip
-  refused-verdict slip some = go (read_of v2 s) refl
+  pub judged_asks : Chain h.terms records' rules' h.n
+  judged_asks = go (read_of v2 s) refl
     where
-      go : (r : Reading) → read_of v2 s ≡ r → Refused h.refusal ≡ verdict_of r slip
-      go (refused n i) e = ap (λ (x : Head). Refused x.refusal) (read.answer ∙ ap head_of e)
-      go (accepted t es) e = absurd (some (ap (λ (x : Head). x.refusal.number) (read.answer ∙ ap head_of e)))
+      go : (r : Reading) → read_of v2 s ≡ r → Chain h.terms records' rules' h.n
+      go (refused n i) e = absurd (never-refused e)
+      go (accepted t es) e = chain-laid t es e
+
+  pub accepted-verdict : (slip : Slip) →
+      {x : Verdict} →
+      x ≡ judged h.terms (indices records' 0 h.n) (entries rules' 0 h.n) slip →
+      x ≡ verdict_of (read_of v2 s) slip
+  accepted-verdict slip {x} ex = go (read_of v2 s) refl
+    where
+      go : (r : Reading) → read_of v2 s ≡ r → x ≡ verdict_of r slip
+      go (refused n i) e = absurd (never-refused e)
+      go (accepted t es) e =
+          ex
+          ∙ λ i. judged (same_head t es e i).terms (chain-records t es e i) (chain-rules t es e i) slip
+
+-- ---- of a book that is turned back
+
+pub refused-verdict : {s records : List ℕ} {rules : List ℤ} {x : Refusal} {records' : List ℕ} {rules' : List ℤ} →
+    ReadInto v2 s records rules (Err x) records' rules' →
+    (slip : Slip) →
+    Refused x ≡ verdict_of (read_of v2 s) slip
+refused-verdict r slip = ap (λ (y : Reading). verdict_of y slip) (sym (said-refused r))
 
 -- ---- how many rules a book can have
 

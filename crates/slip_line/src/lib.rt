@@ -2,22 +2,22 @@
 
 #![tactic(auto)]
 
-ghost use Rattle.text.specs.Append.{HasRoom, Appended};
+ghost use Rattle.text.specs.Line.{RoomIn, Added};
 ghost use Rattle.slip_line.specs.Line.{written_fields, LineWritten};
 
 use answers::Refusal;
 use refusal_text::append_refused;
 use slip::Slip;
 use slip_text::append_slip;
-use text::append_word;
+use text::{Line, append_word};
 
-fn append_written(written: Result<Slip, Refusal>, out: &mut [u8]) -> usize
-    requires { HasRoom out.old 0 235 }
-    ensures { Appended out.old 0 (written_fields written) 235 out.new result }
+fn append_written(written: Result<Slip, Refusal>, line: &mut Line)
+    requires { RoomIn line.old 235 }
+    ensures { Added line.old (written_fields written) 235 line.new }
 {
     match written {
-        Err(refusal) => append_refused(refusal.number, refusal.at, out, 0),
-        Ok(s) => append_slip(s, out),
+        Ok(slip) => append_slip(slip, line),
+        Err(refusal) => append_refused(refusal.number, refusal.at, line),
     }
 }
 
@@ -29,7 +29,8 @@ pub fn write_slip(written: Result<Slip, Refusal>, out: &mut [u8]) -> usize
     if out.len() < 256 {
         return 0;
     }
-    let end = append_written(written, out);
-    append_word(b"\n", out, end);
-    end + 1
+    let mut line = Line { out, at: 0 };
+    append_written(written, &mut line);
+    append_word(b"\n", &mut line);
+    line.at
 }

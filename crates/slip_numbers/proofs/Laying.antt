@@ -1,18 +1,31 @@
 -- A slip laid out in a run: its 14 numbers where there is room, else nothing.
 use mathlib.Core.Path.{◌≡◌, refl, sym, ◌∙◌, ap}
-use mathlib.Core.List.{List}
+use mathlib.Core.List.{List, [], ◌∷◌, ◌++◌}
 use mathlib.Core.Bool.{Bool, true, false, cond}
-use Prim.Native.Nat.{ℕ, ◌≤◌, ◌<◌}
+use Prim.Native.Nat.{ℕ, suc, ◌≤◌, ◌<◌}
 use native.Mathlib.Omega.{arith}
 use borrow.Author.Tests.{leb-true, le-leb}
 use lib.Dec.{leb}
-use lib.ListN.{length}
+use lib.ListN.{length, drop, set}
 use lib.IntN.{ℤ}
-use Rattle.lp.specs.declared.Point.{Point}
-use Rattle.lp.specs.declared.Ray.{Ray}
 use Rattle.slip.specs.declared.Slip.{Slip}
-use Rattle.slip_numbers.specs.declared.Opening.{Opening}
-use Rattle.slip_numbers.specs.Form.{opening_with, pair_of, ray_of, numbers_of, puts, put_parts, Laid}
+use Rattle.slip_numbers.specs.Form.{numbers_of, puts, Laid}
+
+-- ---- numbers put one by one stand before what they leave of the run
+
+puts-behind : (xs : List ℤ) (y : ℤ) (l : List ℤ) (k : ℕ) → puts (y ∷ l) (suc k) xs ≡ y ∷ puts l k xs
+puts-behind [] y l k = refl
+puts-behind (x ∷ xs) y l k = puts-behind xs y (set l k x) (suc k)
+
+puts-first : (xs l : List ℤ) → length xs ≤ length l → puts l 0 xs ≡ xs ++ drop (length xs) l
+puts-first [] l h = refl
+puts-first (x ∷ xs) [] h = absurd (beyond (length xs) h)
+  where
+    beyond : (n : ℕ) → suc n ≤ 0 → ⊥
+    beyond n h = omega arith
+puts-first (x ∷ xs) (z ∷ l) h = puts-behind xs x l 0 ∙ ap (λ t. x ∷ t) (puts-first xs l (omega (arith, h)))
+
+-- ---- a slip
 
 module _ (s : Slip) (l : List ℤ) where
   pub laid-short : length l < 14 → Laid s l 0 l
@@ -32,20 +45,15 @@ module _ (s : Slip) (l : List ℤ) where
           go true e = absurd (short (leb-true 14 (length l) e))
           go false e = e
 
-  pub laid_out : 14 ≤ length l →
-      {o : Opening} →
-      o ≡ opening_with s.outcome s.weights →
-      {v : Point} →
-      v ≡ pair_of s.outcome →
-      {d : Ray} →
-      d ≡ ray_of s.outcome →
-      {after : List ℤ} →
-      after ≡ put_parts l o v d s.weights →
-      Laid s l 14 after
-  laid_out h eo ev ed ea =
+  pub laid_out : 14 ≤ length l → {first : List ℤ} → first ≡ numbers_of s → Laid s l 14 (first ++ drop 14 l)
+  laid_out h {first} e =
       record {
-        count = sym (ap (λ b. cond b 14 0) (le-leb 14 (length l) h));
-        run = ea
-            ∙ (λ i. put_parts l (eo i) (ev i) (ed i) s.weights)
-            ∙ sym (ap (λ b. cond b (puts l 0 (numbers_of s)) l) (le-leb 14 (length l) h));
+        count = sym (ap (λ b. cond b 14 0) room);
+        run =
+            ap (λ t. t ++ drop 14 l) e
+            ∙ sym (puts-first (numbers_of s) l h)
+            ∙ sym (ap (λ b. cond b (puts l 0 (numbers_of s)) l) room);
       }
+    where
+      room : leb 14 (length l) ≡ true
+      room = le-leb 14 (length l) h

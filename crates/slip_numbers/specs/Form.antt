@@ -1,8 +1,8 @@
 -- The exchange form of a slip, as a controller hands it over: a run of 14 signed numbers, outcome (1 best, 2 unlimited, 3 impossible),
 -- count, X, Y, D, dx, dy, scale, and then three times code and weight. What is not used is 0. A run of another length, or with another
 -- outcome, stands for a slip that is out of range for every book, and so gets 17.
-use Rattle.std.specs.Prelude.{◌≡◌, List, [], ◌∷◌, Bool, true, false, cond, ◌&&◌, ℕ, suc, ◌≤◌, eqb, leb, length, get_or, set, ℤ, pos}
-use Rattle.std.specs.Int.Signed.{le_z, lt_z}
+use Rattle.std.specs.Prelude.{◌≡◌, List, [], ◌∷◌, Bool, true, false, cond, ◌&&◌, ℕ, suc, ◌≤◌, eqb, leb, length, get_or, set, ℤ, pos, Option, Some, None}
+use Rattle.std.specs.Int.Signed.{lt_z}
 use Rattle.lp.specs.declared.Point.{Point}
 use Rattle.lp.specs.declared.Ray.{Ray}
 use Rattle.lp.specs.declared.Outcome.{Outcome}
@@ -10,7 +10,6 @@ use Rattle.lp.specs.declared.Outcome.TheVariants as outcome
 use Rattle.lp.specs.Program.{point, ray}
 use Rattle.slip.specs.declared.Weights.{Weights}
 use Rattle.slip.specs.declared.Slip.{Slip}
-use Rattle.slip_numbers.specs.declared.Opening.{Opening}
 use Rattle.slip.specs.Facts.{ranges}
 use Rattle.slip.specs.Numbers.{outcome_number}
 
@@ -18,12 +17,6 @@ use Rattle.slip.specs.Numbers.{outcome_number}
 
 abbrev pub at : List ℤ → ℕ → ℤ
 at l k = get_or l k (pos 0)
-
-abbrev pub opening : ℤ → ℤ → Opening
-opening number count = record { outcome = number; count = count }
-
-abbrev pub opening_of : List ℤ → Opening
-opening_of l = opening (at l 0) (at l 1)
 
 abbrev pub pair_in : List ℤ → Point
 pair_in l = point (at l 2) (at l 3) (at l 4)
@@ -72,6 +65,10 @@ out_of_range =
 abbrev pub is_slip : List ℤ → Bool
 is_slip l = eqb (length l) 14 && ranges (pos 1) (at l 0) (pos 3)
 
+-- the slip, if the run is one's
+abbrev pub slip_in : List ℤ → Option Slip
+slip_in l = cond (is_slip l) (Some (record { outcome = outcome_in l; weights = weights_in l })) None
+
 abbrev pub slip_of : List ℤ → Slip
 slip_of l = cond (is_slip l) (record { outcome = outcome_in l; weights = weights_in l }) out_of_range
 
@@ -87,13 +84,10 @@ ray_of outcome.Infeasible = ray (pos 0) (pos 0)
 ray_of (outcome.Unbounded v d) = d
 ray_of (outcome.Optimal v) = ray (pos 0) (pos 0)
 
-abbrev pub opening_with : Outcome → Weights → Opening
-opening_with o w = opening (outcome_number o) w.count
-
-abbrev pub parts : Opening → Point → Ray → Weights → List ℤ
-parts o v d w =
-    o.outcome
-    ∷ o.count
+abbrev pub parts : ℤ → Point → Ray → Weights → List ℤ
+parts outcome v d w =
+    outcome
+    ∷ w.count
     ∷ v.x
     ∷ v.y
     ∷ v.d
@@ -109,15 +103,12 @@ parts o v d w =
     ∷ []
 
 abbrev pub numbers_of : Slip → List ℤ
-numbers_of s = parts (opening_with s.outcome s.weights) (pair_of s.outcome) (ray_of s.outcome) s.weights
+numbers_of s = parts (outcome_number s.outcome) (pair_of s.outcome) (ray_of s.outcome) s.weights
 
 -- numbers put into a run from place k on
 abbrev pub puts : List ℤ → ℕ → List ℤ → List ℤ
 puts l k [] = l
 puts l k (x ∷ xs) = puts (set l k x) (suc k) xs
-
-abbrev pub put_parts : List ℤ → Opening → Point → Ray → Weights → List ℤ
-put_parts l o v d w = puts l 0 (parts o v d w)
 
 -- the promise of laying a slip out: 14 numbers at the start of a run that has room, else nothing
 pub record Laid (s : Slip) (before : List ℤ) (r : ℕ) (after : List ℤ) : Type 0 where

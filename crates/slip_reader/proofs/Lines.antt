@@ -1,17 +1,15 @@
 -- The line of a slip is read back as that slip, so that a text says one slip at most. Every number is read from where it was written, and
 -- what follows a field begins with a space or a line feed, or is nothing.
 use mathlib.Core.Path.{◌≡◌, refl, ap, sym, ◌∙◌, subst}
-use mathlib.Core.Bool.{Bool, true, false, cond, ◌&&◌, ◌||◌}
+use mathlib.Core.Bool.{Bool, true, false, cond, ◌||◌}
 use mathlib.Core.List.{List, [], ◌∷◌, ◌++◌, append_assoc, append-nil}
-use mathlib.Core.Logic.{◌⊎◌, inl, inr}
+use mathlib.Core.Logic.{inl, inr}
 use Prim.Native.Nat.{ℕ, zero, suc, ◌+◌, ◌-◌, ◌*◌, ◌≤◌, ◌<◌}
 use native.Mathlib.Omega.{arith}
 use lib.Dec.{T, eqb, leb}
-use lib.ListN.{length, drop, get_or}
-use lib.IntN.{ℤ, pos, negsuc, neg_ℤ, ◌-ℤ◌, ◌+ℤ◌}
-use lib.Signed.{le_z, lt_z}
-use mir.Syntax.{w64}
-use mir.Val.{SFits}
+use lib.ListN.{drop, get_or}
+use lib.IntN.{ℤ, pos, negsuc, ◌-ℤ◌, ◌+ℤ◌}
+use lib.Signed.{le_z}
 use borrow.Author.Tests.{ne_eqb, le-leb, leb-false, lt-leb, lt-ltb}
 use Rattle.lp.specs.declared.Point.{Point}
 use Rattle.lp.specs.declared.Ray.{Ray}
@@ -20,13 +18,14 @@ use Rattle.lp.specs.declared.Outcome.TheVariants.{Infeasible, Unbounded, Optimal
 use Rattle.lp.specs.Program.{point, ray}
 use Rattle.text.specs.Text.{text}
 use Rattle.text.specs.Number.{decimal, value_from, signed, integer}
+use Rattle.pairs.specs.Pair.{pair, direction}
 use Rattle.text.proofs.Reading.{Digits, decimal-value, decimal-digits, no_leading_zero}
 use Rattle.slip.specs.declared.Weights.{Weights}
 use Rattle.slip.specs.declared.Slip.{Slip}
 use Rattle.slip.specs.Slots.{one, two, three}
-use Rattle.slip_text.specs.Text.{code_text, slot_text, entries_text, pair_text, ray_text, fields_of, slip_text}
+use Rattle.slip_text.specs.Text.{code_text, slot_text, entries_text, fields_of, slip_text}
 use Rattle.slip_text.proofs.Parts.{back}
-use Rattle.slip_reader.specs.Fields.{ends, grown, size_from, past, greatest, signed_of, is_minus, digits_in, integer_in, past_field}
+use Rattle.slip_reader.specs.Fields.{ends, grown, size_from, past, greatest, signed_of, is_minus, integer_in, past_field}
 use Rattle.slip_reader.specs.Fields.{record_code, code_in, slot_code, slot_weight, past_slot, counted_of, weights_in, no_weights}
 use Rattle.slip_reader.specs.Fields.{point_in, past_pair, best_in, unlimited_in, impossible_in, slip_in}
 use Rattle.slip_reader.specs.Reading.{Slotted, Counted, Plain, Wide, WideWeights, WideOutcome, Stands, Says}
@@ -279,8 +278,8 @@ pub pair_read : (v : Point) (r : List ℕ) →
     Wide v.y →
     Wide v.d →
     Ended r →
-    TookPair (pair_text v ++ r) v r
-unfolding pair_text point_in past_pair
+    TookPair (pair v ++ r) v r
+unfolding pair point_in past_pair
 pair_read v r a b c e =
     let row : (integer v.x ++ (integer v.y ++ integer v.d)) ++ r ≡ integer v.x ++ (integer v.y ++ (integer v.d ++ r)) =
     append_assoc (integer v.x) (integer v.y ++ integer v.d) r
@@ -310,17 +309,17 @@ best-read : (v : Point) (w : Weights) (r : List ℕ) →
     WideOutcome (Optimal v) →
     WideWeights w →
     Ended r →
-    best_in ((pair_text v ++ (integer w.scale ++ entries_text w)) ++ r) ≡ record { outcome = Optimal v; weights = w }
+    best_in ((pair v ++ (integer w.scale ++ entries_text w)) ++ r) ≡ record { outcome = Optimal v; weights = w }
 best-read v w r c f g e =
-    let row : (pair_text v ++ (integer w.scale ++ entries_text w)) ++ r ≡ pair_text v ++ (integer w.scale ++ (entries_text w ++ r)) =
-    append_assoc (pair_text v) (integer w.scale ++ entries_text w) r
-    ∙ ap (λ l. pair_text v ++ l) (append_assoc (integer w.scale) (entries_text w) r) in
-    let pair = pair_read v (integer w.scale ++ (entries_text w ++ r)) f.0 f.1 f.2
+    let row : (pair v ++ (integer w.scale ++ entries_text w)) ++ r ≡ pair v ++ (integer w.scale ++ (entries_text w ++ r)) =
+    append_assoc (pair v) (integer w.scale ++ entries_text w) r
+    ∙ ap (λ l. pair v ++ l) (append_assoc (integer w.scale) (entries_text w) r) in
+    let taken = pair_read v (integer w.scale ++ (entries_text w ++ r)) f.0 f.1 f.2
     (ended-integer w.scale (entries_text w ++ r)) in
     let scale = integer-read w.scale (entries_text w ++ r) g.scale (ended-entries w r) in
-    let rest = ap past_pair row ∙ pair.rest in
+    let rest = ap past_pair row ∙ taken.rest in
     λ i. record {
-      outcome = Optimal ((ap point_in row ∙ pair.value) i);
+      outcome = Optimal ((ap point_in row ∙ taken.value) i);
       weights =
           ((λ j. weights_in ((ap integer_in rest ∙ scale.value) j) ((ap past_field rest ∙ scale.rest) j)) ∙ entries-read w r c g e) i;
     }
@@ -328,21 +327,21 @@ best-read v w r c f g e =
 unlimited-read : (v : Point) (d : Ray) (r : List ℕ) →
     WideOutcome (Unbounded v d) →
     Ended r →
-    unlimited_in ((pair_text v ++ ray_text d) ++ r) ≡ record { outcome = Unbounded v d; weights = no_weights }
-unfolding ray_text
+    unlimited_in ((pair v ++ direction d) ++ r) ≡ record { outcome = Unbounded v d; weights = no_weights }
+unfolding direction
 unlimited-read v d r f e =
-    let row : (pair_text v ++ (integer d.dx ++ integer d.dy)) ++ r ≡ pair_text v ++ (integer d.dx ++ (integer d.dy ++ r)) =
-    append_assoc (pair_text v) (integer d.dx ++ integer d.dy) r
-    ∙ ap (λ l. pair_text v ++ l) (append_assoc (integer d.dx) (integer d.dy) r) in
-    let pair = pair_read v (integer d.dx ++ (integer d.dy ++ r)) f.0 f.1 f.2
+    let row : (pair v ++ (integer d.dx ++ integer d.dy)) ++ r ≡ pair v ++ (integer d.dx ++ (integer d.dy ++ r)) =
+    append_assoc (pair v) (integer d.dx ++ integer d.dy) r
+    ∙ ap (λ l. pair v ++ l) (append_assoc (integer d.dx) (integer d.dy) r) in
+    let taken = pair_read v (integer d.dx ++ (integer d.dy ++ r)) f.0 f.1 f.2
     (ended-integer d.dx (integer d.dy ++ r)) in
     let dx = integer-read d.dx (integer d.dy ++ r) f.3 (ended-integer d.dy r) in
     let dy = integer-read d.dy r f.4 e in
-    let rest = ap past_pair row ∙ pair.rest in
+    let rest = ap past_pair row ∙ taken.rest in
     let rest₂ = ap past_field rest ∙ dx.rest in
     λ i. record {
       outcome =
-          Unbounded ((ap point_in row ∙ pair.value) i)
+          Unbounded ((ap point_in row ∙ taken.value) i)
           (ray ((ap integer_in rest ∙ dx.value) i) ((ap integer_in rest₂ ∙ dy.value) i));
       weights = no_weights;
     }

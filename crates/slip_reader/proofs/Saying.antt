@@ -1,18 +1,15 @@
 -- What is read of any bytes is a slip that a line can say, if it names three entries at most; and so the reader's answer is right.
 use mathlib.Core.Path.{◌≡◌, refl, ap, sym, ◌∙◌, subst}
-use mathlib.Core.Bool.{Bool, true, false, cond, ◌&&◌}
-use mathlib.Core.List.{List, []}
-use Prim.Native.Nat.{ℕ, zero, suc, ◌+◌, ◌≤◌, ◌<◌}
+use mathlib.Core.Bool.{Bool, true, false, cond}
+use mathlib.Core.List.{List}
+use Prim.Native.Nat.{ℕ, ◌+◌, ◌≤◌}
 use native.Mathlib.Omega.{arith}
 use lib.Dec.{T, eqb, leb}
 use lib.ListN.{drop, get_or}
 use lib.IntN.{ℤ, pos, negsuc, neg_ℤ, ◌+ℤ◌}
 use lib.Signed.{le_z, lt_z}
-use mir.Syntax.{w64}
-use mir.Val.{SFits}
-use mir.Facts.{to_z-of_z}
-use borrow.Author.Tests.{leb-true, ltb-true, le-leb, lt-leb, ltb-false}
-use Rattle.ints.proofs.Bits.{read, low}
+use borrow.Author.Tests.{leb-true, ltb-true, le-leb}
+use Rattle.ints.proofs.Bits.{low}
 use Rattle.lp.specs.declared.Outcome.{Outcome}
 use Rattle.lp.specs.declared.Outcome.TheVariants.{Infeasible, Unbounded, Optimal}
 use Rattle.slip.specs.declared.Weights.{Weights}
@@ -23,8 +20,8 @@ use Rattle.slip_reader.specs.Fields.{size_from, greatest, signed_of, is_minus, d
 use Rattle.slip_reader.specs.Fields.{slot_code, slot_weight, past_slot, counted_of, weights_in, no_weights, point_in, past_pair}
 use Rattle.slip_reader.specs.Fields.{best_in, unlimited_in, impossible_in, slip_in}
 use Rattle.slip_reader.specs.Reading.{Slotted, Counted, Plain, Wide, WideWeights, WideOutcome, Stands, Says}
-use Rattle.slip_reader.specs.Asked.{Judges, JudgesLine}
-use Rattle.slip_reader.proofs.Lines.{says-read, says-one}
+use Rattle.slip_reader.specs.Asked.{JudgesLine}
+use Rattle.slip_reader.proofs.Lines.{says-read}
 
 -- ---- numbers that were read have 64 bits
 
@@ -210,53 +207,7 @@ plain-few (Optimal v) w p = p.few
 plain-few (Unbounded v d) w p = ap (λ u. ranges (pos 0) u.count (pos 3)) p
 plain-few Infeasible w p = p.0.few
 
--- ---- the test of the count
-
-module _ (z : ℤ) (h : SFits w64 z) where
-  test_low : {b : Bool} → lt_z (read z) (pos 0) ≡ b → lt_z z (pos 0) ≡ b
-  test_low e = ap (λ y. lt_z y (pos 0)) (sym (to_z-of_z {w = w64} h)) ∙ e
-
-  test-high : {b : Bool} → lt_z (pos 3) (read z) ≡ b → lt_z (pos 3) z ≡ b
-  test-high e = ap (λ y. lt_z (pos 3) y) (sym (to_z-of_z {w = w64} h)) ∙ e
-
-  pub count_low : lt_z (read z) (pos 0) ≡ true → ranges (pos 0) z (pos 3) ≡ true → ⊥
-  count_low e = go z (test_low e)
-    where
-      go : (y : ℤ) → lt_z y (pos 0) ≡ true → ranges (pos 0) y (pos 3) ≡ true → ⊥
-      go (pos n) e f = absurd (omega (arith, ltb-true n 0 e))
-      go (negsuc n) e f = absurd (subst T (sym f) tt)
-
-  pub count-high : lt_z (pos 3) (read z) ≡ true → ranges (pos 0) z (pos 3) ≡ true → ⊥
-  count-high e = go z (test-high e)
-    where
-      last : (t u : Bool) → t && u ≡ true → u ≡ true
-      last true u e = e
-      last false u e = absurd (subst T (sym e) tt)
-
-      go : (y : ℤ) → lt_z (pos 3) y ≡ true → ranges (pos 0) y (pos 3) ≡ true → ⊥
-      go (pos n) e f = absurd (omega (arith, ltb-true 3 n e, leb-true n 3 (last (leb 0 n) (leb n 3) f)))
-      go (negsuc n) e f = absurd (subst T (sym e) tt)
-
-  pub count-within : lt_z (read z) (pos 0) ≡ false → lt_z (pos 3) (read z) ≡ false → ranges (pos 0) z (pos 3) ≡ true
-  count-within e f = go z (test_low e) (test-high f)
-    where
-      go : (y : ℤ) → lt_z y (pos 0) ≡ false → lt_z (pos 3) y ≡ false → ranges (pos 0) y (pos 3) ≡ true
-      go (pos n) e f = λ i. le-leb 0 n (omega arith) i && le-leb n 3 (omega (arith, ltb-false 3 n f)) i
-      go (negsuc n) e f = absurd (subst T e tt)
-
 -- ---- the line
-
-module _ (s : Slip) (l : List ℕ) where
-  pub never : (Few s → ⊥) → JudgesLine s l false
-  never n =
-      record {
-        few = λ e. absurd (subst T (sym e) tt);
-        met = λ e. absurd (subst T (sym e) tt);
-        unmet = λ e f g. n f;
-      }
-
-  pub judged : {r : Bool} → Few s → Judges s l r → JudgesLine s l r
-  judged f j = record { few = λ e. f; met = j.met; unmet = λ e g. j.unmet e }
 
 module _ (l : List ℕ) (s : Slip) (parsed : s ≡ slip_in l) {r : Bool} (j : JudgesLine s l r) where
   pub given : r ≡ true → Says l s

@@ -1,41 +1,43 @@
--- What the private functions hand back, one record for each. A place in the text stands for the text from there on.
-use Rattle.std.specs.Prelude.{◌≡◌, List, Bool, true, false, ℕ, pos, drop}
-use Rattle.scanning.specs.Places.{Goes}
+-- What the private functions hand back, one record for each: what they read of a text, and what is left of it then.
+use Rattle.std.specs.Prelude.{◌≡◌, List, ◌++◌, ◌⊎◌, Bool, true, false, ℕ, ℤ, pos}
+use Rattle.text.specs.Text.{text}
+use Rattle.lp.specs.declared.Point.{Point}
 use Rattle.slip.specs.declared.Slip.{Slip}
 use Rattle.slip.specs.Facts.{ranges}
-use Rattle.slip_reader.specs.declared.fields.Run.{Run}
-use Rattle.slip_reader.specs.declared.fields.Found.{Found}
-use Rattle.slip_reader.specs.declared.parts.Slot.{Slot}
-use Rattle.slip_reader.specs.declared.parts.Pair.{Pair}
-use Rattle.slip_reader.specs.Fields.{size_from, past, integer_in, code_in, past_field, slot_code, slot_weight, past_slot, point_in, past_pair}
+use Rattle.slip_reader.specs.Fields.{size_from, past, signed_of, integer_in, code_in, past_field}
+use Rattle.slip_reader.specs.Fields.{slot_code, slot_weight, past_slot, point_in, past_pair}
 use Rattle.slip_reader.specs.Reading.{Stands}
 
-pub record Runs (text : List ℕ) (at : ℕ) (r : Run) : Type 0 where
-  pub size : r.size ≡ size_from 0 (drop at text)
-  pub goes : Goes text (past (drop at text)) r.end
+pub record Runs (text : List ℕ) (size : ℕ) (rest : List ℕ) : Type 0 where
+  pub value : size ≡ size_from 0 text
+  pub goes_on : rest ≡ past text
 
-pub record Finds (text : List ℕ) (at : ℕ) (r : Found) : Type 0 where
-  pub value : r.value ≡ integer_in (drop at text)
-  pub goes : Goes text (past_field (drop at text)) r.next
+pub record FindsNumber (negative : Bool) (text : List ℕ) (z : ℤ) (rest : List ℕ) : Type 0 where
+  pub value : z ≡ signed_of negative (size_from 0 text)
+  pub goes_on : rest ≡ past text
 
-pub record FindsCode (text : List ℕ) (at : ℕ) (r : Found) : Type 0 where
-  pub value : r.value ≡ code_in (drop at text)
-  pub goes : Goes text (past_field (drop at text)) r.next
+pub record Finds (text : List ℕ) (z : ℤ) (rest : List ℕ) : Type 0 where
+  pub value : z ≡ integer_in text
+  pub goes_on : rest ≡ past_field text
 
-pub record FindsSlot (counts : Bool) (text : List ℕ) (at : ℕ) (r : Slot) : Type 0 where
-  pub code : r.code ≡ slot_code counts (drop at text)
-  pub weight : r.weight ≡ slot_weight counts (drop at text)
-  pub goes : Goes text (past_slot counts (drop at text)) r.next
+pub record FindsCode (text : List ℕ) (z : ℤ) (rest : List ℕ) : Type 0 where
+  pub value : z ≡ code_in text
+  pub goes_on : rest ≡ past_field text
 
-pub record FindsPair (text : List ℕ) (at : ℕ) (r : Pair) : Type 0 where
-  pub point : r.point ≡ point_in (drop at text)
-  pub goes : Goes text (past_pair (drop at text)) r.next
+pub record FindsSlot (counts : Bool) (text : List ℕ) (code weight : ℤ) (rest : List ℕ) : Type 0 where
+  pub entry : code ≡ slot_code counts text
+  pub value : weight ≡ slot_weight counts text
+  pub goes_on : rest ≡ past_slot counts text
+
+pub record FindsPair (text : List ℕ) (v : Point) (rest : List ℕ) : Type 0 where
+  pub value : v ≡ point_in text
+  pub goes_on : rest ≡ past_pair text
 
 -- ---- comparisons
 
-pub record Judges (s : Slip) (l : List ℕ) (r : Bool) : Type 0 where
-  pub met : r ≡ true → Stands s l
-  pub unmet : r ≡ false → Stands s l → ⊥
+pub record Judges (written l : List ℕ) (r : Bool) : Type 0 where
+  pub met : r ≡ true → (l ≡ written) ⊎ (l ≡ written ++ text "\n")
+  pub unmet : r ≡ false → (l ≡ written) ⊎ (l ≡ written ++ text "\n") → ⊥
 
 pub record JudgesLine (s : Slip) (l : List ℕ) (r : Bool) : Type 0 where
   pub few : r ≡ true → ranges (pos 0) s.weights.count (pos 3) ≡ true

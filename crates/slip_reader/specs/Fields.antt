@@ -1,9 +1,8 @@
--- How any bytes are read as a slip. A text stands for what is left of it; a field begins with the byte before it, a space in a line,
--- and ends
--- before the next space or line feed. That the line of a slip is read as that slip is proved in proofs/Lines.antt; nothing here stands
--- in a
--- promise, since what was read is written again and compared.
-use Rattle.std.specs.Prelude.{List, [], ◌∷◌, Bool, true, false, cond, ◌&&◌, ◌||◌, ℕ, ◌+◌, ◌-◌, ◌*◌, eqb, leb, get_or, drop, ℤ, pos, negsuc, neg_ℤ, ◌+ℤ◌}
+-- How any bytes are read as a slip. A text stands for what is left of it; a field begins with the byte before it, a space in a line, and
+-- ends before the next space or line feed. That the line of a slip is read as that slip is proved in proofs/Lines.antt; nothing here stands
+-- in a promise, since what was read is written again and compared.
+use Rattle.std.specs.Prelude.{List, [], ◌∷◌, Bool, true, false, cond, ◌&&◌, ◌||◌, ℕ, ◌+◌, ◌-◌, ◌*◌, eqb, leb, get_or, drop}
+use Rattle.std.specs.Prelude.{ℤ, pos, negsuc, neg_ℤ, ◌+ℤ◌}
 use Rattle.std.specs.Int.Signed.{le_z, lt_z}
 use Rattle.lp.specs.declared.Point.{Point}
 use Rattle.lp.specs.declared.Outcome.TheVariants.{Infeasible, Unbounded, Optimal}
@@ -11,8 +10,6 @@ use Rattle.lp.specs.Program.{point, ray}
 use Rattle.slip.specs.declared.Weights.{Weights}
 use Rattle.slip.specs.declared.Slip.{Slip}
 use Rattle.slip.specs.Weights as weights
-use Rattle.slip_reader.specs.declared.fields.Run.{Run}
-use Rattle.slip_reader.specs.declared.fields.Found.{Found}
 
 -- ---- bytes
 
@@ -42,12 +39,6 @@ abbrev pub signed_of : Bool → ℕ → ℤ
 signed_of negative n =
     cond (leb n greatest) (cond negative (neg_ℤ (pos n)) (pos n)) (cond negative (negsuc greatest) (pos greatest))
 
-abbrev pub found_with : ℤ → ℕ → Found
-found_with z next = record { value = z; next = next }
-
-abbrev pub found_of : Bool → Run → Found
-found_of negative r = found_with (signed_of negative r.size) r.end
-
 -- 45 is the minus
 abbrev pub is_minus : List ℕ → Bool
 is_minus l = eqb (get_or l 0 0) 45
@@ -70,9 +61,6 @@ record_code z =
       | true ↦ pos 0
       | false ↦ elim (lt_z z (pos greatest)) [ true ↦ z +ℤ pos 1 | false ↦ z ]
     ]
-
-abbrev pub recorded_of : Found → Found
-recorded_of f = found_with (record_code f.value) f.next
 
 -- 88 and 89 are X and Y
 unfoldable pub code_in : List ℕ → ℤ

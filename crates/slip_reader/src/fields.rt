@@ -1,37 +1,16 @@
 // The fields of a line: each stands after one space, as a sign or none and digits. Whatever else stands there makes some number too, since
-// the slip is written again and compared. A place in the text is at most its length.
-ghost use Rattle.std.specs.Prelude.{◌≡◌, ◌-◌, ◌≤◌, length};
-ghost use Rattle.slip_reader.specs.Fields.{ends as ends_of, grown, found_of, recorded_of};
-ghost use Rattle.slip_reader.specs.Asked.{Runs, Finds, FindsCode};
+// the slip is written again and compared. A reader takes what is left of the text and hands back what it read and what is left then.
+ghost use Rattle.std.specs.Prelude.{◌≡◌};
+ghost use Rattle.slip_reader.specs.Fields.{ends as ends_of, grown, signed_of, record_code as record_code_of};
+ghost use Rattle.slip_reader.specs.Asked.{Runs, FindsNumber, Finds, FindsCode};
 
 use scanning::{after, byte_at};
-
-// A number's size, and where its field ends.
-#[derive(Clone, Copy)]
-pub struct Run {
-    pub size: u64,
-    pub end: usize,
-}
-
-// A field's number, and where the field ends.
-#[derive(Clone, Copy)]
-pub struct Found {
-    pub value: i64,
-    pub next: usize,
-}
 
 // A space or a line feed.
 fn ends(b: u8) -> bool
     ensures { result ≡ ends_of b }
 {
-    if b == 32 { true } else { b == 10 }
-}
-
-// The value of a digit.
-fn figure(b: u8) -> u64
-    ensures { result ≡ b - 48 }
-{
-    if b < 48 { 0 } else { (b - 48) as u64 }
+    b == b' ' || b == b'\n'
 }
 
 // A number with a digit more. What is beyond every number of 64 bits stays.
@@ -39,101 +18,80 @@ fn grow(n: u64, b: u8) -> u64
     ensures { result ≡ grown n b }
 {
     if n <= 922337203685477580 {
-        n * 10 + figure(b)
+        n * 10 + u64::from(b.saturating_sub(b'0'))
     } else {
         n
     }
 }
 
-// As many digits as there are up to the field's end.
-fn digits(text: &[u8], at: usize) -> Run
-    requires { at ≤ length text.now }
-    ensures { Runs text.now at result }
+// The number of the digits up to the field's end.
+#[tactic(auto, unfolding(crate::specs::Fields::size_from, crate::specs::Fields::past))]
+fn digits(text: &[u8]) -> (u64, &[u8])
+    ensures { Runs text.now result.0 result.1.now }
 {
-    let mut size: u64 = 0;
-    for i in at..text.len() {
-        let b = text[i];
-        if ends(b) {
-            return Run { size, end: i };
-        }
-        size = grow(size, b);
+    let mut size = 0;
+    let mut rest = text;
+    while let Some((b, more)) = rest.split_first()
+        && !ends(*b)
+    {
+        size = grow(size, *b);
+        rest = more;
     }
-    let end = text.len();
-    Run { size, end }
+    (size, rest)
 }
 
 // The number of a sign and a size, as far as 64 bits go.
-fn signed(negative: bool, r: Run) -> Found
-    ensures { result ≡ found_of negative r }
+fn signed(negative: bool, size: u64) -> i64
+    ensures { result ≡ signed_of negative size }
 {
-    let next = r.end;
-    if r.size <= 9223372036854775807 {
-        let value = r.size as i64;
-        if negative {
-            Found {
-                value: 0 - value,
-                next,
-            }
-        } else {
-            Found { value, next }
-        }
-    } else if negative {
-        Found {
-            value: -9223372036854775808,
-            next,
-        }
+    if negative {
+        0i64.saturating_sub_unsigned(size)
     } else {
-        Found {
-            value: 9223372036854775807,
-            next,
-        }
+        0i64.saturating_add_unsigned(size)
     }
 }
 
-// The number in the field at a place, where its space stands.
-pub fn integer(text: &[u8], at: usize) -> Found
-    requires { at ≤ length text.now }
-    ensures { Finds text.now at result }
+// The number of a sign and the digits behind it.
+fn number(negative: bool, text: &[u8]) -> (i64, &[u8])
+    ensures { FindsNumber negative text.now result.0 result.1.now }
 {
-    let from = after(text, at);
-    if byte_at(text, from) == 45 {
-        let start = after(text, from);
-        signed(true, digits(text, start))
+    let (size, rest) = digits(text);
+    (signed(negative, size), rest)
+}
+
+// The number in the field that a text begins with, its space first.
+#[tactic(auto, unfolding(crate::specs::Fields::integer_in, crate::specs::Fields::past_field))]
+pub fn integer(text: &[u8]) -> (i64, &[u8])
+    ensures { Finds text.now result.0 result.1.now }
+{
+    let field = after(text);
+    if byte_at(field) == b'-' {
+        number(true, after(field))
     } else {
-        signed(false, digits(text, from))
+        number(false, field)
     }
 }
 
 // The code of a record is one more than its index. An index below 1 is none: its code is that of floor x, whose text is another.
-fn recorded(f: Found) -> Found
-    ensures { result ≡ recorded_of f }
+fn record_code(index: i64) -> i64
+    ensures { result ≡ record_code_of index }
 {
-    let next = f.next;
-    if f.value <= 0 {
-        return Found { value: 0, next };
+    if index <= 0 {
+        0
+    } else {
+        index.saturating_add(1)
     }
-    if f.value < 9223372036854775807 {
-        return Found {
-            value: f.value + 1,
-            next,
-        };
-    }
-    f
 }
 
-// The code of the entry in the field at a place: a floor's letter or a record's index.
-pub fn code(text: &[u8], at: usize) -> Found
-    requires { at ≤ length text.now }
-    ensures { FindsCode text.now at result }
+// The code of the entry in the field that a text begins with: a floor's letter or a record's index.
+#[tactic(auto, unfolding(crate::specs::Fields::code_in))]
+pub fn code(text: &[u8]) -> (i64, &[u8])
+    ensures { FindsCode text.now result.0 result.1.now }
 {
-    let field = integer(text, at);
-    let letter = byte_at(text, after(text, at));
-    let next = field.next;
-    if letter == 88 {
-        Found { value: 0, next }
-    } else if letter == 89 {
-        Found { value: 1, next }
-    } else {
-        recorded(field)
+    let (index, rest) = integer(text);
+    match byte_at(after(text)) {
+        b'X' => (0, rest),
+        b'Y' => (1, rest),
+        _ => (record_code(index), rest),
     }
 }

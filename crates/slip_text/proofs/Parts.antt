@@ -1,8 +1,8 @@
 -- The parts of a slip's line, from the tests that the code makes on machine numbers.
 use mathlib.Core.Path.{◌≡◌, refl, sym, ◌∙◌, ap, subst}
-use mathlib.Core.List.{List, [], ◌++◌}
+use mathlib.Core.List.{[], ◌++◌}
 use mathlib.Core.Bool.{Bool, true, false, cond, ◌&&◌}
-use Prim.Native.Nat.{ℕ, zero, suc, ◌+◌, ◌^◌, ◌<◌}
+use Prim.Native.Nat.{ℕ, zero, suc, ◌^◌, ◌<◌}
 use native.Mathlib.Omega.{arith}
 use lib.Dec.{T}
 use lib.IntN.{ℤ, pos, negsuc, ◌-ℤ◌, +ℤ_one}
@@ -14,10 +14,10 @@ use Rattle.ints.proofs.Bits.{read}
 use Rattle.ints.proofs.Ring.{ring, ◌⊕◌, ◌⊖◌, ◌≐◌, con}
 use Rattle.text.specs.Text.{text}
 use Rattle.text.specs.Number.{integer}
-use Rattle.text.specs.Append.{Appended}
-use Rattle.text.proofs.Put.{followed, spelt}
+use Rattle.text.specs.declared.Line.{Line}
+use Rattle.text.specs.Line.{Added}
+use Rattle.text.proofs.Adding.{followed, spelt}
 use Rattle.slip.specs.declared.Weights.{Weights}
-use Rattle.slip.specs.Slots.{one}
 use Rattle.slip.proofs.Sizes.{unread}
 use Rattle.slip_text.specs.Text.{code_text, slot_text, entries_text}
 
@@ -52,7 +52,7 @@ module _ (c : ℤ) (f : SFits w64 c) where
       go (pos (suc k)) e = (k, refl)
       go (negsuc k) e = absurd (subst T e tt)
 
-  pub less-fits : le_z (read c) (pos 0) ≡ false → le_z (read c) (pos 1) ≡ false → SFits w64 (read c -ℤ pos 1)
+  less-fits : le_z (read c) (pos 0) ≡ false → le_z (read c) (pos 1) ≡ false → SFits w64 (read c -ℤ pos 1)
   less-fits e d =
       let p = positive e in
       subst (λ z. SFits w64 (z -ℤ pos 1)) (sym (to_z-of_z {w = w64} f ∙ p.1)) (small p.0 p.1)
@@ -90,15 +90,15 @@ pub entries-parts : (w : Weights) →
     mag w.second_weight < 2 ^ 63 →
     mag w.third < 2 ^ 63 →
     mag w.third_weight < 2 ^ 63 →
-    {l₀ l₁ l₂ l₃ l₄ : List ℕ} {n₀ n₁ n₂ n₃ n₄ : ℕ} →
-    Appended l₀ n₀ (integer (read w.count)) 21 l₁ n₁ →
-    Appended l₁ n₁ (slot_text (lt_z (pos 0) (read w.count)) (read w.first) (read w.first_weight)) 42 l₂ n₂ →
-    Appended l₂ n₂
-    (slot_text (lt_z (pos 0) (read w.count) && lt_z (pos 1) (read w.count)) (read w.second) (read w.second_weight)) 42 l₃ n₃ →
-    Appended l₃ n₃
+    {l₀ l₁ l₂ l₃ l₄ : Line} →
+    Added l₀ (integer (read w.count)) 21 l₁ →
+    Added l₁ (slot_text (lt_z (pos 0) (read w.count)) (read w.first) (read w.first_weight)) 42 l₂ →
+    Added l₂
+    (slot_text (lt_z (pos 0) (read w.count) && lt_z (pos 1) (read w.count)) (read w.second) (read w.second_weight)) 42 l₃ →
+    Added l₃
     (slot_text (lt_z (pos 0) (read w.count) && lt_z (pos 1) (read w.count) && lt_z (pos 2) (read w.count)) (read w.third)
-    (read w.third_weight)) 42 l₄ n₄ →
-    Appended l₀ n₀ (entries_text w) 147 l₄ n₄
+    (read w.third_weight)) 42 l₄ →
+    Added l₀ (entries_text w) 147 l₄
 unfolding entries_text
 entries-parts w hc h₁ g₁ h₂ g₂ h₃ g₃ a b c d =
     followed (spelt (ap integer n) a)

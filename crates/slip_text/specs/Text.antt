@@ -2,12 +2,11 @@
 -- k times entry and weight, entries written as in the plan's line.
 use Rattle.std.specs.Prelude.{List, [], ◌++◌, Bool, true, false, cond, ℕ, ℤ, pos, ◌-ℤ◌}
 use Rattle.std.specs.Int.Signed.{le_z}
-use Rattle.lp.specs.declared.Point.{Point}
-use Rattle.lp.specs.declared.Ray.{Ray}
 use Rattle.lp.specs.declared.Outcome.{Outcome}
 use Rattle.lp.specs.declared.Outcome.TheVariants.{Infeasible, Unbounded, Optimal}
 use Rattle.text.specs.Text.{text}
 use Rattle.text.specs.Number.{field, integer}
+use Rattle.pairs.specs.Pair.{pair, direction}
 use Rattle.slip.specs.declared.Weights.{Weights}
 use Rattle.slip.specs.declared.Slip.{Slip}
 use Rattle.slip.specs.Slots.{one, two, three}
@@ -31,15 +30,9 @@ entries_text w =
     ++ (slot_text (one w) w.first w.first_weight
     ++ (slot_text (two w) w.second w.second_weight ++ slot_text (three w) w.third w.third_weight))
 
-unfoldable pub pair_text : Point → List ℕ
-pair_text v = integer v.x ++ (integer v.y ++ integer v.d)
-
-unfoldable pub ray_text : Ray → List ℕ
-ray_text d = integer d.dx ++ integer d.dy
-
 unfoldable pub fields_of : Outcome → Weights → List ℕ
-fields_of (Optimal v) w = text "best" ++ (pair_text v ++ (integer w.scale ++ entries_text w))
-fields_of (Unbounded v d) w = text "unlimited" ++ (pair_text v ++ ray_text d)
+fields_of (Optimal v) w = text "best" ++ (pair v ++ (integer w.scale ++ entries_text w))
+fields_of (Unbounded v d) w = text "unlimited" ++ (pair v ++ direction d)
 fields_of Infeasible w = text "impossible" ++ entries_text w
 
 abbrev pub slip_text : Slip → List ℕ

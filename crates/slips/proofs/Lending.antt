@@ -1,23 +1,22 @@
 -- From what reading a book left in the lent runs to the weights of its best pair.
+use Rattle.std.specs.Prelude.{Ok}
 use mathlib.Core.Path.{◌≡◌, refl, sym, ◌∙◌, ap, subst}
 use mathlib.Core.List.{List, [], ◌∷◌}
-use Prim.Native.Nat.{ℕ, ◌+◌, ◌<◌}
+use Prim.Native.Nat.{ℕ, ◌+◌}
 use native.Mathlib.Omega.{arith}
 use lib.IntN.{ℤ, pos}
-use Rattle.ints.proofs.Machine.{within-numeral}
 use Rattle.lp.specs.declared.Constraint.{Constraint}
 use Rattle.lp.specs.declared.Functional.{Functional}
 use Rattle.lp.specs.declared.Floors.{Floors}
-use Rattle.lp.specs.declared.Terms.{Terms}
 use Rattle.lp.specs.declared.Point.{Point}
 use Rattle.lp.specs.Range.{SmallConstraint, SmallSystem}
 use Rattle.records.specs.Layout.{v2}
 use Rattle.book.specs.declared.Head.{Head}
-use Rattle.book.specs.Reading.{Reading, refused, accepted, Entry, read_of}
+use Rattle.book.specs.Reading.{Reading, refused, accepted, read_of}
 use Rattle.book.specs.Promises.{head_of, ReadInto}
 use Rattle.slip.specs.declared.Weights.{Weights}
 use Rattle.slip.proofs.Judging.{entries-small}
-use Rattle.slip.proofs.Read.{chain-laid, chain-records, chain-rules}
+use Rattle.slip.proofs.Read.{same_head, chain-laid, chain-records, chain-rules}
 use Rattle.slips.specs.declared.pass.Held.{Held}
 use Rattle.slips.specs.Pass.{normal_of, side, turned_of, pass_of, held_of}
 use Rattle.slips.specs.Runs.{entries, indices, SmallHeld, Passing}
@@ -52,7 +51,7 @@ weighing_of {f} {v} {floors} {records} {l} {n} p eg eh =
 
 module _
     (s records : List ℕ) (rules : List ℤ) (h : Head) (records' : List ℕ) (rules' : List ℤ)
-    (read : ReadInto v2 s records rules h records' rules')
+    (read : ReadInto v2 s records rules (Ok h) records' rules')
     {v : Point}
     (lent : Lent s records rules v) where
   pub passing_of : Passing h.terms.objective v h.terms.floors records' rules' h.n
@@ -69,17 +68,7 @@ module _
             entries = c.entries;
           }
       go (refused n i) e =
-          subst (λ (h : Head). Passing h.terms.objective v h.terms.floors records' rules' h.n) (sym (read.answer ∙ ap head_of e))
-          (record {
-            objective = record { p-small = within-numeral tt; q-small = within-numeral tt };
-            pair = lent.pair;
-            floors-small = record { lx_small = within-numeral tt; ly_small = within-numeral tt };
-            names = omega arith;
-            entries = record { room = omega arith; small = λ k b. absurd (nothing k b) };
-          })
-        where
-          nothing : (k : ℕ) → k < 0 → ⊥
-          nothing k b = omega arith
+          absurd (let clash = read.answer ∙ ap head_of e in let z : ◌≡◌ {A = ℕ} 0 1 = cc in let b : ⊥ = omega arith in b)
 
   pub best_of : {g : Constraint} →
       g ≡ normal_of h.terms.objective →
@@ -92,9 +81,6 @@ module _
       record {
         best = λ t es e.
             ew ∙ (λ i. weights_of (eg i) (eh i))
-            ∙ (λ i. best_weights (head t es e i).terms v (chain-records s records rules h records' rules' read lent.room t es e i)
+            ∙ (λ i. best_weights (ap (λ (x : Head). x.terms) (same_head s records rules h records' rules' read lent.room t es e) i) v (chain-records s records rules h records' rules' read lent.room t es e i)
             (chain-rules s records rules h records' rules' read lent.room t es e i));
       }
-    where
-      head : (t : Terms) (es : List Entry) → read_of v2 s ≡ accepted t es → h ≡ head_of (accepted t es)
-      head t es e = read.answer ∙ ap head_of e

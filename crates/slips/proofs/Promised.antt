@@ -12,7 +12,6 @@ use Rattle.lp.specs.declared.Constraint.{Constraint}
 use Rattle.lp.specs.declared.Terms.{Terms}
 use Rattle.lp.specs.declared.Point.{Point}
 use Rattle.lp.specs.declared.Ray.{Ray}
-use Rattle.lp.specs.declared.Outcome.{Outcome}
 use Rattle.lp.specs.declared.Outcome.TheVariants as outcome
 use Rattle.lp.specs.Outcome.{det}
 use Rattle.records.specs.Layout.{v2}

@@ -3,14 +3,14 @@
 use mathlib.Core.Path.{◌≡◌, refl, sym, ◌∙◌, ap, subst}
 use mathlib.Core.List.{List}
 use mathlib.Core.Bool.{Bool, true, false}
-use Prim.Native.Nat.{ℕ, zero, suc, ◌+◌, ◌-◌, ◌^◌, ◌≤◌, ◌<◌}
+use Prim.Native.Nat.{ℕ, suc, ◌+◌, ◌-◌, ◌^◌, ◌≤◌, ◌<◌}
 use native.Mathlib.Omega.{arith}
 use native.Mathlib.Nat.{sub-zero}
 use native.Mathlib.Numerals.{add-one}
 use lib.IntN.{ℤ, pos, negsuc, neg_ℤ, ◌+ℤ◌, ◌-ℤ◌, ◌*ℤ◌}
 use lib.Signed.{lt_z, mag}
 use mir.Syntax.{w64}
-use mir.Val.{SFits, to_z, of_z}
+use mir.Val.{SFits, to_z}
 use mir.Facts.{to_z-of_z}
 use Rattle.ints.proofs.Bits.{read}
 use Rattle.ints.proofs.Machine.{within_neg, within-numeral}
@@ -22,7 +22,7 @@ use Rattle.lp.specs.Program.{constraint, slack, floor_x, floor_y}
 use Rattle.lp.specs.Outcome.{det}
 use Rattle.lp.specs.Certificate.{is_zero}
 use Rattle.lp.specs.Range.{SmallConstraint, SmallFunctional}
-use Rattle.slip.specs.Runs.{entry, Factors}
+use Rattle.slip.specs.Runs.{Factors}
 use Rattle.slip.proofs.Sizes.{unread, within-unread}
 use Rattle.slip.proofs.Shares.{floor_x-small, floor_y-small}
 use Rattle.slips.specs.declared.pass.Side.{Side}

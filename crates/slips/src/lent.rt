@@ -8,14 +8,21 @@ ghost use Rattle.slips.specs.Writing.{Lent, FewAt, BestOf};
 use crate::pass::passed;
 use crate::weights::optimum_weights;
 use lp::{Constraint, Point};
-use records::Version;
+use records::{Book, Version};
 use slip::Weights;
 
+// With the runs lent. A book that is turned back has no best pair, and nobody asks for its weights.
 fn best_in(book: &[u8], v: Point, records: &mut [u16], rules: &mut [i64]) -> Weights
     requires { Lent book.now records.old rules.old v }
     ensures { BestOf book.now v result }
 {
-    let head = reading::read(Version::Two, book, &mut *records, &mut *rules);
+    let book = Book {
+        version: Version::Two,
+        bytes: book,
+    };
+    let Ok(head) = reading::read(&book, &mut *records, &mut *rules) else {
+        return Weights::nothing(0);
+    };
     let terms = head.terms;
     let f = terms.objective;
     let held = passed(f, v, terms.floors, &*records, &*rules, head.n);

@@ -3,7 +3,6 @@
 
 #![tactic(auto)]
 
-mod exact;
 mod lent;
 mod pass;
 mod weights;
@@ -13,7 +12,7 @@ ghost use Rattle.slips.specs.Writing.{Plans, Slips, Writes};
 use answers::{Plan, Refusal};
 use lent::best_weights;
 use lp::Outcome;
-use records::Version;
+use records::{Book, Version};
 use slip::{Slip, Weights};
 use weights::conflict_weights;
 
@@ -44,8 +43,9 @@ fn slip_for(book: &[u8], plan: Plan) -> Slip
 pub fn slip_of(book: &[u8]) -> Result<Slip, Refusal>
     ensures { Writes book.now result }
 {
-    match planner::plan(Version::Two, book) {
-        Err(refusal) => Err(refusal),
-        Ok(plan) => Ok(slip_for(book, plan)),
-    }
+    let plan = planner::plan(&Book {
+        version: Version::Two,
+        bytes: book,
+    })?;
+    Ok(slip_for(book, plan))
 }

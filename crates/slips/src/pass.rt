@@ -5,7 +5,7 @@ ghost use Rattle.slip.specs.Runs.{entry, Room as RuleRoom};
 ghost use Rattle.slips.specs.Pass.{normal_of, nothing_held, placed_of, turned_of, floors_held, held_of};
 ghost use Rattle.slips.specs.Runs.{side_at, entries, indices, Room, Placing, Turning, Flooring, Passing};
 
-use crate::exact::{det, dot, opposite, tight};
+use exact::{det, dot, tight};
 use lp::{Constraint, Floors, Functional, Point};
 
 // An entry, by its code and its rule.
@@ -27,8 +27,8 @@ fn nothing_held(f: Constraint) -> Held
     ensures { result ≡ nothing_held f }
 {
     let rule = Constraint {
-        a: opposite(f.a),
-        b: opposite(f.b),
+        a: -f.a,
+        b: -f.b,
         c: 0,
     };
     let none = Constraint { a: 0, b: 0, c: 0 };
@@ -96,12 +96,12 @@ fn floors_held(f: Constraint, v: Point, floors: Floors) -> Held
     let x = Constraint {
         a: -1,
         b: 0,
-        c: opposite(floors.lx),
+        c: -floors.lx,
     };
     let y = Constraint {
         a: 0,
         b: -1,
-        c: opposite(floors.ly),
+        c: -floors.ly,
     };
     let first = turned(f, v, Side { code: 0, rule: x }, nothing_held(f));
     turned(f, v, Side { code: 1, rule: y }, first)

@@ -3,8 +3,8 @@ ghost use Rattle.std.specs.Prelude.{◌≡◌};
 ghost use Rattle.slips.specs.Weights.{one_weight, two_weights, weights_of, used_of, conflict_weights};
 ghost use Rattle.slips.specs.Weights.{SmallCodes, Enclosing, Along, Weighing};
 
-use crate::exact::{det, dot};
 use crate::pass::{Held, Side};
+use exact::{det, dot};
 use lp::{Certificate, Constraint};
 use slip::Weights;
 use witness::is_zero;

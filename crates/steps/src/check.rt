@@ -4,9 +4,9 @@ ghost use Rattle.records.specs.Record.{is_least};
 ghost use Rattle.sessions.specs.Sessions.{IsSession, label_held};
 ghost use Rattle.sessions.specs.Checking.{AddingChecked};
 
+use answers::Cause;
 use causes::decoded;
 use records::Rule;
-use rules::number_of;
 use sessions::Session;
 use signed::least;
 
@@ -14,13 +14,7 @@ use signed::least;
 pub fn lawful_objective(p: i16, q: i16) -> bool
     ensures { result ≡ not (is_least p || is_least q) }
 {
-    if least(p) {
-        return false;
-    }
-    if least(q) {
-        return false;
-    }
-    true
+    !(least(p) || least(q))
 }
 
 // Whether a rule held has this label.
@@ -32,17 +26,17 @@ fn label_held(session: Session, label: u16) -> bool
     rules[..session.n].iter().any(|rule| label == rule.label)
 }
 
-// The cause that turns a rule back, or 0. A rule of a session comes from no record, so that no padding is set and no link follows.
-pub fn cause_of_adding(session: Session, rule: Rule) -> u8
+// The cause that turns a rule back, if there is one. A rule of a session comes from no record, so that no padding is set and no link
+// follows.
+pub fn cause_of_adding(session: Session, rule: Rule) -> Option<Cause>
     requires { IsSession session }
     ensures { AddingChecked session rule result }
 {
-    let number = number_of(decoded(true, rule, 0));
-    if number != 0 {
-        return number;
+    if let Err(cause) = decoded(true, rule, 0) {
+        return Some(cause);
     }
     if label_held(session, rule.label) {
-        return 12;
+        return Some(Cause::Label);
     }
-    0
+    None
 }

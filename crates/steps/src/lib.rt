@@ -8,10 +8,11 @@ mod check;
 mod plan;
 mod state;
 
+ghost use Rattle.answers.specs.Cause.{number_of_cause};
 ghost use Rattle.sessions.specs.Sessions.{IsSession};
 ghost use Rattle.sessions.specs.Steps.{Leads, Starts, Adds, Withdraws, Stays};
 
-use answers::Refusal;
+use answers::{Cause, Refusal};
 use check::{cause_of_adding, lawful_objective};
 use plan::plan_held;
 use records::Rule;
@@ -32,11 +33,11 @@ fn taken(session: Session) -> Step
 }
 
 // One that is refused.
-fn refused(session: Session, number: u8, at: u16) -> Step
+fn refused(session: Session, cause: Cause, at: u16) -> Step
     requires { IsSession session }
-    ensures { Stays session number at result }
+    ensures { Stays session (number_of_cause cause) at result }
 {
-    let refusal = Refusal { number, at };
+    let refusal = Refusal::of(cause, at);
     let plan = plan_held(session);
     Step {
         session,
@@ -52,7 +53,7 @@ pub fn start(p: i16, q: i16, lx: i16, ly: i16) -> Step
     if lawful_objective(p, q) {
         taken(begun(p, q, lx, ly))
     } else {
-        refused(begun(0, 0, 0, 0), 4, 0)
+        refused(begun(0, 0, 0, 0), Cause::Objective, 0)
     }
 }
 
@@ -63,10 +64,9 @@ pub fn add(session: Session, rule: Rule) -> Step
 {
     let n = session.n;
     if n >= 64 {
-        return refused(session, 18, 0);
+        return refused(session, Cause::Full, 0);
     }
-    let cause = cause_of_adding(session, rule);
-    if cause != 0 {
+    if let Some(cause) = cause_of_adding(session, rule) {
         return refused(session, cause, n as u16 + 1);
     }
     taken(longer(session, rule))
@@ -78,7 +78,7 @@ pub fn withdraw(session: Session) -> Step
     ensures { Withdraws session result }
 {
     if session.n == 0 {
-        return refused(session, 19, 0);
+        return refused(session, Cause::Empty, 0);
     }
     taken(shorter(session))
 }

@@ -5,7 +5,7 @@ ghost use Rattle.sessions.specs.Sessions.{IsSession, Shown};
 ghost use Rattle.sessions.specs.Laying.{positions, EntryRoom, laid_from, LaysRules};
 
 use answers::Plan;
-use lp::{Certificate, Constraint, Outcome};
+use lp::Constraint;
 use rules::constraint;
 use sessions::Session;
 
@@ -14,8 +14,8 @@ fn places() -> [u16; 64]
     ensures { result ≡ positions 64 }
 {
     let mut names = [0u16; 64];
-    for i in 0..64 {
-        names[i] = i as u16 + 1;
+    for (i, name) in names.iter_mut().enumerate() {
+        *name = i as u16 + 1;
     }
     names
 }
@@ -26,12 +26,9 @@ fn put(run: &mut [i64], k: usize, r: Constraint)
     ensures { run.new ≡ put_entry run.old (k + 2) r }
 {
     let at = 3 * (k + 2);
-    let a = r.a;
-    let b = r.b;
-    let c = r.c;
-    run[at] = a;
-    run[at + 1] = b;
-    run[at + 2] = c;
+    run[at] = r.a;
+    run[at + 1] = r.b;
+    run[at + 2] = r.c;
 }
 
 // The rules held, as they are planned, behind the floors' room.
@@ -40,26 +37,8 @@ fn lay(session: Session, run: &mut [i64])
     ensures { run.new ≡ laid_from run.old session.rules session.n }
 {
     let rules = session.rules;
-    for i in 0..session.n {
-        put(&mut *run, i, constraint(rules[i]));
-    }
-}
-
-// What stands where there is nothing to plan.
-fn no_plan() -> Plan {
-    Plan {
-        outcome: Outcome::Infeasible,
-        moves: 0,
-        opened: 0,
-        place: 0,
-        witness: Certificate {
-            first: 0,
-            first_weight: 0,
-            second: 0,
-            second_weight: 0,
-            third: 0,
-            third_weight: 0,
-        },
+    for (i, rule) in rules[..session.n].iter().enumerate() {
+        put(&mut *run, i, constraint(*rule));
     }
 }
 
@@ -71,8 +50,6 @@ pub fn plan_held(session: Session) -> Plan
     let mut entries = [0i64; 198];
     lay(session, &mut entries);
     let names = places();
-    match engine::solve(session.terms, &mut entries, session.n) {
-        None => no_plan(),
-        Some(solution) => plans::plan_of(solution, &names),
-    }
+    let solution = engine::solve(session.terms, &mut entries, session.n).unwrap();
+    plans::plan_of(solution, &names)
 }

@@ -25,12 +25,12 @@ pub fn begun(p: i16, q: i16, lx: i16, ly: i16) -> Session
     ensures { result ≡ start_of p q lx ly }
 {
     let objective = Functional {
-        p: p as i64,
-        q: q as i64,
+        p: i64::from(p),
+        q: i64::from(q),
     };
     let floors = Floors {
-        lx: lx as i64,
-        ly: ly as i64,
+        lx: i64::from(lx),
+        ly: i64::from(ly),
     };
     let terms = Terms { objective, floors };
     let rules = [no_rule(); 64];
@@ -43,13 +43,11 @@ pub fn longer(session: Session, rule: Rule) -> Session
     ensures { result ≡ longer_by session rule }
 {
     let mut rules = session.rules;
-    let terms = session.terms;
-    let n = session.n;
-    rules[n] = rule;
+    rules[session.n] = rule;
     Session {
         rules,
-        n: n + 1,
-        terms,
+        n: session.n + 1,
+        ..session
     }
 }
 
@@ -59,8 +57,11 @@ pub fn shorter(session: Session) -> Session
     ensures { result ≡ shorter_by session }
 {
     let mut rules = session.rules;
-    let terms = session.terms;
     let n = session.n - 1;
     rules[n] = no_rule();
-    Session { rules, n, terms }
+    Session {
+        rules,
+        n,
+        ..session
+    }
 }

@@ -1,7 +1,7 @@
 -- Signed numbers as bytes, from the machine's bits (`Bits` of `ints`): what the sign's test says of the spelling, and how many digits
 -- there are.
-use mathlib.Core.Path.{◌≡◌, refl, ap, sym, ◌∙◌, subst}
-use mathlib.Core.List.{List, ◌++◌}
+use mathlib.Core.Path.{◌≡◌, refl, ap, sym, ◌∙◌}
+use mathlib.Core.List.{◌++◌}
 use mathlib.Core.Bool.{true, false}
 use Prim.Native.Nat.{ℕ, suc, ◌≤◌}
 use native.Mathlib.Nat.{lt_of_le_of_lt}
@@ -15,12 +15,28 @@ use mir.Val.{SFits}
 use mir.Facts.{to_z-of_z}
 use Rattle.ints.proofs.Bits.{read, below-zero, from_zero}
 use Rattle.text.specs.Text.{text}
-use Rattle.text.specs.Number.{decimal, signed, integer}
-use Rattle.text.specs.Append.{Appended}
+use Rattle.text.specs.Number.{decimal, signed, integer, sign}
+use Rattle.text.specs.declared.Line.{Line}
+use Rattle.text.specs.Line.{Added}
 use Rattle.text.proofs.Decimal.{decimal-short}
-use Rattle.text.proofs.Put.{spelt}
+use Rattle.text.proofs.Adding.{spelt}
+
+-- ---- what stands before its digits
+
+pub minus-sign : (z : ℤ) → SFits w64 z → lt_z (read z) (pos 0) ≡ true → text " -" ≡ sign z
+unfolding sign
+minus-sign z f t = ap sign (sym (below-zero z f t))
+
+pub no_sign : (z : ℤ) → SFits w64 z → lt_z (read z) (pos 0) ≡ false → text " " ≡ sign z
+unfolding sign
+no_sign z f t = ap sign (sym (from_zero z f t))
 
 -- ---- its bytes, where n is the magnitude of what was read back
+
+of-sign : (z : ℤ) → sign z ++ decimal (nat_abs z) ≡ integer z
+unfolding integer signed sign
+of-sign (pos n) = refl
+of-sign (negsuc n) = refl
 
 module _ (z : ℤ) (n : ℕ) (f : SFits w64 z) (e : n ≡ nat_abs (read z)) where
   magnitude-is : n ≡ nat_abs z
@@ -29,17 +45,11 @@ module _ (z : ℤ) (n : ℕ) (f : SFits w64 z) (e : n ≡ nat_abs (read z)) wher
   pub digits-short : length (decimal n) ≤ 19
   digits-short = decimal-short 18 n (rw magnitude-is (lt_of_le_of_lt (nat_abs-le z f.sfits) (lit< tt)))
 
-  pub with_minus : lt_z (read z) (pos 0) ≡ true → text " -" ++ decimal n ≡ integer z
-  unfolding integer signed
-  with_minus t =
-      ap (λ (m : ℕ). text " -" ++ decimal m) magnitude-is
-      ∙ subst (λ (y : ℤ). text " -" ++ decimal (nat_abs y) ≡ integer y) (sym (below-zero z f t)) refl
-
-  pub without_sign : lt_z (read z) (pos 0) ≡ false → text " " ++ decimal n ≡ integer z
-  unfolding integer signed
-  without_sign t =
-      ap (λ (m : ℕ). text " " ++ decimal m) magnitude-is
-      ∙ subst (λ (y : ℤ). text " " ++ decimal (nat_abs y) ≡ integer y) (sym (from_zero z f t)) refl
+  pub sign-digits : sign (read z) ++ decimal n ≡ integer z
+  sign-digits =
+      ap (λ (y : ℤ). sign y ++ decimal n) (to_z-of_z {w = w64} f)
+      ∙ ap (λ (m : ℕ). sign z ++ decimal m) magnitude-is
+      ∙ of-sign z
 
 -- a space, a sign and at most 19 digits
 pub integer-short : (z : ℤ) → SFits w64 z → length (integer z) ≤ 21
@@ -49,8 +59,5 @@ integer-short (negsuc n) f = omega (arith, decimal-short 18 (suc n) (lt_of_le_of
 
 -- ---- a signed number handed to a function
 
-pub whole : {before after : List ℕ} {at next i : ℕ} (z : ℤ) →
-    SFits w64 z →
-    Appended before at (integer (read z)) i after next →
-    Appended before at (integer z) i after next
+pub whole : {l m : Line} {i : ℕ} (z : ℤ) → SFits w64 z → Added l (integer (read z)) i m → Added l (integer z) i m
 whole z f = spelt (ap integer (to_z-of_z {w = w64} f))

@@ -2,15 +2,16 @@
 -- and of one that it fills.
 use mathlib.Core.Path.{◌≡◌, refl, ap, sym, ◌∙◌, subst}
 use mathlib.Core.List.{List, [], ◌∷◌, ◌++◌, append_assoc}
-use mathlib.Core.Bool.{Bool, true, false}
+use mathlib.Core.Bool.{Bool, false}
 use Prim.Native.Nat.{ℕ, suc, ◌+◌, ◌-◌, ◌≤◌, ◌<◌}
 use native.Mathlib.Nat.{le_refl, le-add_right, zero-add}
 use native.Mathlib.Omega.{arith}
-use borrow.Author.Tests.{ltb-true, ltb-false}
-use borrow.Rule.Slice.PartMut.{put_mid, post_of, Post-is}
+use borrow.Author.Tests.{ltb-false}
+use borrow.Rule.Slice.PartMut.{put_mid, mid_of, post_of, Post-is}
 use lib.Dec.{ltb}
-use lib.ListN.{length, set, take, drop, length-append}
-use lib.Seq.{sets, sets-eq}
+use lib.ListN.{length, set, take, drop, length-append, length-drop, take-append-drop}
+use lib.Seq.{sets, sets-eq, length-take-le, drop-drop}
+use Rattle.std.proofs.lemmas.List.{drop-append-le}
 use Rattle.text.specs.Append.{Appended, Appends, Fills}
 
 sets_append : (l : List ℕ) (i : ℕ) (u v : List ℕ) → sets l i (u ++ v) ≡ sets (sets l i u) (i + length u) v
@@ -76,21 +77,34 @@ copied out at {word} {part} same room =
 pub nothing : (out : List ℕ) (at room : ℕ) → Appended out at [] room out at
 nothing out at room = record { stored = refl; moved = omega arith; small = omega arith }
 
--- ---- a buffer of any size: the test of its room is handed in as a Bool
+-- ---- put at the start of a part of a buffer: in the whole from the part's place on
 
--- one without room is left as it was
-pub no_room : {before bytes : List ℕ} {at room : ℕ} (b : Bool) →
-    b ≡ ltb (length before) (at + room) →
-    b ≡ true →
-    Appends before at bytes room before at
-no_room {before} {at = at} {room} b e t =
+pub in_part : (out part bytes : List ℕ) (at : ℕ) {room count : ℕ} →
+    at + length bytes ≤ length out →
+    Appended (mid_of at (length out - at) out) 0 bytes room part count →
+    Appended out at bytes room (put_mid at (length out - at) out part) (at + count)
+in_part out part bytes at h f =
+    let k : ℕ = length out - at in
+    let mid : List ℕ = mid_of at k out in
+    let post : List ℕ = post_of at k out in
+    let n : ℕ = length bytes in
+    let within : n ≤ length mid = rw (length-take-le k (drop at out) (omega (arith, length-drop at out))) (omega arith) in
     record {
-      fits = λ h. absurd (omega (arith, ltb-true (length before) (at + room) (sym e ∙ t)));
-      untouched = λ _. refl;
-      stays = λ _. refl;
+      stored =
+          ap (λ (l : List ℕ). take at out ++ (l ++ post))
+          (f.stored ∙ sets-eq bytes mid 0 (omega arith) ∙ ap (λ (i : ℕ). bytes ++ drop i mid) (zero-add n))
+          ∙ ap (λ (l : List ℕ). take at out ++ l) (append_assoc bytes (drop n mid) post)
+          ∙ ap (λ (l : List ℕ). take at out ++ (bytes ++ l))
+          (sym (drop-append-le n mid post within) ∙ ap (drop n) (take-append-drop k (drop at out)) ∙ drop-drop n at out)
+          ∙ sym (append_assoc (take at out) bytes (drop (at + n) out))
+          ∙ sym (sets-eq bytes out at h);
+      moved = omega (arith, f.moved);
+      small = f.small;
     }
 
--- and so much is free in one with room
+-- ---- a buffer of any size: the test of its room is handed in as a Bool
+
+-- so much is free in one with room
 pub free : (before : List ℕ) (at room : ℕ) (b : Bool) →
     b ≡ ltb (length before) (at + room) →
     b ≡ false →
@@ -140,11 +154,3 @@ filled {line} {before} h k f =
     (f.stored ∙ sets-eq line before 0 (omega (arith, f.small)) ∙ ap (λ (n : ℕ). line ++ drop n before) (zero-add (length line)))
     (omega (arith, f.moved))
     (omega (arith, f.moved, f.small))
-
--- a text that fills less room fills more
-pub widened : {line before after : List ℕ} {room small count : ℕ} →
-    room ≤ length before →
-    small ≤ room →
-    Fills line small before after count →
-    Fills line room before after count
-widened h k f = enough-room h (f.stands (omega arith)) (f.counted (omega arith)) (omega (arith, f.enough))

@@ -40,6 +40,11 @@ number n = field (decimal n)
 unfoldable pub integer : ℤ → List ℕ
 integer z = field (signed z)
 
+-- what of it stands before the digits
+unfoldable pub sign : ℤ → List ℕ
+sign (pos n) = text " "
+sign (negsuc n) = text " -"
+
 -- ---- what every program prints of something turned back: the cause's number, and the record that it names
 
 unfoldable pub refused : ℕ → ℕ → List ℕ

@@ -1,3 +1,2 @@
--- Lemmas over the definitions: an input with its line feed, without one, and with no bytes (Feeds), and the lines spelt out (Examples).
-pub mod Feeds
+-- The lines spelt out (Examples).
 pub mod Examples

@@ -1,11 +1,6 @@
 -- The text of an input: all its bytes, or all but the last where that is a line feed, byte 10.
-use Rattle.std.specs.Prelude.{◌≡◌, List, cond, ℕ, ◌-◌, ◌≤◌, eqb, length, take, get_or}
+use Rattle.std.specs.Prelude.{List, cond, ℕ, ◌-◌, eqb, length, take, get_or}
 
 -- an input without bytes has none that is a line feed
 unfoldable pub without_feed : List ℕ → List ℕ
 without_feed input = cond (eqb (get_or input (length input - 1) 0) 10) (take (length input - 1) input) input
-
--- so many bytes of the input are its text
-pub record TextLength (input : List ℕ) (n : ℕ) : Type 0 where
-  pub within : n ≤ length input
-  pub text : take n input ≡ without_feed input

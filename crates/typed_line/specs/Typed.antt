@@ -5,10 +5,10 @@ use Rattle.text.specs.Text.{text}
 use Rattle.text.specs.Number.{number, integer, refused}
 use Rattle.text.specs.Append.{Fills}
 use Rattle.forms.specs.declared.Written.{Written}
-use Rattle.forms.specs.Value.{Typed, refusal_of}
+use Rattle.forms.specs.Value.{Typed, kind_of, refusal_of}
 
 unfoldable pub rule_fields : Written → List ℕ
-rule_fields w = text "rule" ++ (number w.kind ++ (integer w.a ++ (integer w.b ++ integer w.c)))
+rule_fields w = text "rule" ++ (number (kind_of w.sense) ++ (integer w.a ++ (integer w.b ++ integer w.c)))
 
 unfoldable pub typed_fields : Typed → List ℕ
 typed_fields (Ok w) = rule_fields w

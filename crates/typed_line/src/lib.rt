@@ -2,8 +2,9 @@
 
 #![tactic(auto)]
 
+ghost use Rattle.std.specs.Prelude.{◌≡◌};
 ghost use Rattle.language.specs.Parser.{answer};
-ghost use Rattle.typed_line.specs.Feed.{without_feed, TextLength};
+ghost use Rattle.typed_line.specs.Feed.{without_feed};
 ghost use Rattle.typed_line.specs.Typed.{TypedWritten};
 
 use typed_rules::read_rule;
@@ -11,15 +12,15 @@ use written::write_typed;
 
 mod written;
 
-// How many bytes of an input are the text.
-fn text_length(input: &[u8]) -> usize
-    ensures { TextLength input.now result }
+// The text of an input.
+#[tactic(auto, unfolding(crate::specs::Feed::without_feed))]
+fn text_of(input: &[u8]) -> &[u8]
+    ensures { result.now ≡ without_feed input.now }
 {
-    let n = input.len();
-    if n == 0 {
-        return 0;
+    match input {
+        [text @ .., b'\n'] => text,
+        _ => input,
     }
-    if input[n - 1] == 10 { n - 1 } else { n }
 }
 
 // The line of an input, at the start of a buffer of at least 96 bytes, and its length. A smaller buffer is left as it is, and 0 handed
@@ -27,6 +28,5 @@ fn text_length(input: &[u8]) -> usize
 pub fn typed_line(input: &[u8], out: &mut [u8]) -> usize
     ensures { TypedWritten (answer (without_feed input.now)) out.old out.new result }
 {
-    let n = text_length(input);
-    write_typed(read_rule(&input[..n]), out)
+    write_typed(read_rule(text_of(input)), out)
 }

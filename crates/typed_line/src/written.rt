@@ -1,34 +1,34 @@
 // The line of what a typed text reads as: `rule kind a b c`, or `refused number 0`.
-ghost use Rattle.text.specs.Append.{HasRoom, Appended};
+ghost use Rattle.text.specs.Line.{RoomIn, Added};
 ghost use Rattle.typed_line.specs.Typed.{rule_fields, typed_fields, TypedWritten};
 
 use forms::{Typed, Written};
 use numerals::{append_integer, append_number};
 use refusal_text::append_refused;
-use text::append_word;
+use text::{Line, append_word};
 
 // The line of a rule, but for its line feed.
-fn append_rule(w: Written, out: &mut [u8]) -> usize
-    requires { HasRoom out.old 0 88 }
-    ensures { Appended out.old 0 (rule_fields w) 88 out.new result }
+fn append_rule(w: Written, line: &mut Line)
+    requires { RoomIn line.old 88 }
+    ensures { Added line.old (rule_fields w) 88 line.new }
 {
-    let kind = append_word(b"rule", out, 0);
-    let a = append_number(w.kind, out, kind);
-    let b = append_integer(w.a, out, a);
-    let c = append_integer(w.b, out, b);
-    append_integer(w.c, out, c)
+    append_word(b"rule", line);
+    append_number(w.sense.number() as usize, line);
+    append_integer(w.a, line);
+    append_integer(w.b, line);
+    append_integer(w.c, line);
 }
 
 // The line of a typed text, but for its line feed.
-fn append_typed(t: Typed, out: &mut [u8]) -> usize
-    requires { HasRoom out.old 0 88 }
-    ensures { Appended out.old 0 (typed_fields t) 88 out.new result }
+fn append_typed(t: Typed, line: &mut Line)
+    requires { RoomIn line.old 88 }
+    ensures { Added line.old (typed_fields t) 88 line.new }
 {
     match t {
-        Ok(w) => append_rule(w, out),
+        Ok(w) => append_rule(w, line),
         Err(flaw) => {
             let refusal = flaw.refusal();
-            append_refused(refusal.number, refusal.at, out, 0)
+            append_refused(refusal.number, refusal.at, line)
         }
     }
 }
@@ -41,6 +41,8 @@ pub fn write_typed(t: Typed, out: &mut [u8]) -> usize
     if out.len() < 96 {
         return 0;
     }
-    let end = append_typed(t, out);
-    append_word(b"\n", out, end)
+    let mut line = Line { out, at: 0 };
+    append_typed(t, &mut line);
+    append_word(b"\n", &mut line);
+    line.at
 }

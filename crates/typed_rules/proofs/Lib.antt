@@ -1,7 +1,6 @@
--- Lemmas over the definitions: bytes of a text (Bytes), and the readers against the parser (Parsed, Places, Reading, Following, Whole).
-pub mod Bytes
+-- Lemmas over the definitions: rests of a text (Rests), and the readers against the parser (Parsed, Reading, Following, Whole).
+pub mod Rests
 pub mod Parsed
-pub mod Places
 pub mod Following
 pub mod Reading
 pub mod Whole

@@ -12,16 +12,8 @@ ghost use Rattle.language.specs.Parser.{answer};
 use forms::{Flaw, Typed, Value};
 use readers::read_text;
 
-// The first byte that is no space, or 0 at the end; where it stands, and where the text goes on after it.
-#[derive(Clone, Copy)]
-pub struct Lexed {
-    pub byte: u8,
-    pub start: usize,
-    pub next: usize,
-}
-
-// What a reader found: a value and where the text goes on, or nothing of the language.
-type Step = Option<(Value, usize)>;
+// What a reader found: a value and what is left of the text behind it, or nothing of the language.
+type Step<'a> = Option<(Value, &'a [u8])>;
 
 // What a text reads as.
 pub fn read_rule(text: &[u8]) -> Typed

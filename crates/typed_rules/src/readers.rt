@@ -1,48 +1,37 @@
-// The readers of side, term and factor call each other, and the remaining text falls. Each hands back the value of what it read and
-// the place after it.
-ghost use Rattle.std.specs.Prelude.{◌≡◌, ◌≤◌, length};
+// The readers of side, term and factor call each other, and the remaining text falls. Each takes what is left of a text and hands back the
+// value of what it read with what is left behind that.
+ghost use Rattle.std.specs.Prelude.{◌≡◌};
+ghost use Rattle.forms.specs.Small.{Small};
 ghost use Rattle.language.specs.Parser.{parse, judged};
-ghost use Rattle.typed_rules.specs.Promises.{ReadsNumber, SmallStep, opposed_of, Placed, Closes, Follows, ReadsFactor, ReadsTerm, ReadsSide, ReadsFactors, ReadsTerms, Judges, JudgesRight};
+ghost use Rattle.typed_rules.specs.Promises.{ReadsNumber, Closes, ReadsFactor, ReadsTerm, ReadsSide, ReadsFactors, ReadsTerms, Judges, JudgesRight};
 
 use crate::Step;
-use crate::tokens::{lex, skip};
+use crate::tokens::skip;
 use form_products::product;
 use form_sums::{conclude, difference, negated, sum};
-use forms::{Flaw, Form, Typed, Value, numeral};
-use scanning::{byte_at, digit, digits};
+use forms::{Flaw, Form, Sense, Typed, Value, numeral};
+use scanning::{after, byte_at, digit, digits};
 
 // A number of at most 10 digits.
-fn number(text: &[u8], at: usize) -> Step
-    requires { at ≤ length text.now }
-    ensures { ReadsNumber text.now at result }
+fn number(text: &[u8]) -> Step
+    ensures { ReadsNumber text.now result }
 {
-    let run = digits(text, at, 1000000000);
-    let end = run.end;
-    if end - at <= 10 {
-        Some((numeral(run.number as usize), end))
+    let run = digits(text, 1000000000);
+    if text.len() - run.rest.len() <= 10 {
+        Some((numeral(run.number as usize), run.rest))
     } else {
         None
     }
 }
 
-// The factor after a minus: its opposite.
-fn opposed(s: Step) -> Step
-    requires { SmallStep s }
-    ensures { result ≡ opposed_of s }
+// The parenthesis after a side whose value is v.
+fn closed(text: &[u8], v: Value) -> Step
+    requires { Small v }
+    ensures { Closes text.now v result }
 {
-    let (v, n) = s?;
-    Some((negated(v), n))
-}
-
-// The parenthesis after a side.
-fn closed(text: &[u8], s: Step) -> Step
-    requires { Placed text.now s }
-    ensures { Closes text.now s result }
-{
-    let (v, at) = s?;
-    let l = lex(text, at);
-    if l.byte == 41 {
-        Some((v, l.next))
+    let item = skip(text);
+    if byte_at(item) == b')' {
+        Some((v, after(item)))
     } else {
         None
     }
@@ -50,114 +39,106 @@ fn closed(text: &[u8], s: Step) -> Step
 
 // A number, x, y, a minus before a factor, or a side in parentheses.
 #[cycle(factor_factors_side_term_terms)]
-fn factor(text: &[u8], at: usize, depth: usize) -> Step
-    requires { at ≤ length text.now }
-    ensures { ReadsFactor text.now at depth result }
+fn factor(text: &[u8], depth: usize) -> Step
+    ensures { ReadsFactor text.now depth result }
 {
-    let l = lex(text, at);
-    let b = l.byte;
-    if digit(b) {
-        number(text, l.start)
-    } else if b == 120 {
-        Some((Ok(Form { a: 1, b: 0, c: 0 }), l.next))
-    } else if b == 121 {
-        Some((Ok(Form { a: 0, b: 1, c: 0 }), l.next))
-    } else if b == 45 {
-        opposed(factor(text, l.next, depth))
-    } else if b == 40 {
-        if depth == 0 {
-            None
-        } else {
-            closed(text, side(text, l.next, depth - 1))
+    let item = skip(text);
+    let rest = after(item);
+    match byte_at(item) {
+        b if digit(b) => number(item),
+        b'x' => Some((Ok(Form { a: 1, b: 0, c: 0 }), rest)),
+        b'y' => Some((Ok(Form { a: 0, b: 1, c: 0 }), rest)),
+        b'-' => {
+            let (v, rest) = factor(rest, depth)?;
+            Some((negated(v), rest))
         }
-    } else {
-        None
+        b'(' => {
+            let (v, rest) = side(rest, depth.checked_sub(1)?)?;
+            closed(rest, v)
+        }
+        _ => None,
     }
 }
 
 // Factors joined by *.
 #[cycle(factor_factors_side_term_terms)]
-fn term(text: &[u8], at: usize, depth: usize) -> Step
-    requires { at ≤ length text.now }
-    ensures { ReadsTerm text.now at depth result }
+fn term(text: &[u8], depth: usize) -> Step
+    ensures { ReadsTerm text.now depth result }
 {
-    let (v, n) = factor(text, at, depth)?;
-    factors(text, n, depth, v)
+    let (v, rest) = factor(text, depth)?;
+    factors(rest, depth, v)
 }
 
 // What follows factors whose product is v.
 #[cycle(factor_factors_side_term_terms)]
-fn factors(text: &[u8], at: usize, depth: usize, v: Value) -> Step
-    requires { Follows text.now at v }
-    ensures { ReadsFactors text.now at depth v result }
+fn factors(text: &[u8], depth: usize, v: Value) -> Step
+    requires { Small v }
+    ensures { ReadsFactors text.now depth v result }
 {
-    let l = lex(text, at);
-    if l.byte == 42 {
-        let (w, n) = factor(text, l.next, depth)?;
-        factors(text, n, depth, product(v, w))
+    let item = skip(text);
+    if byte_at(item) == b'*' {
+        let (w, rest) = factor(after(item), depth)?;
+        factors(rest, depth, product(v, w))
     } else {
-        Some((v, at))
+        Some((v, text))
     }
 }
 
 // Terms joined by + and -.
 #[cycle(factor_factors_side_term_terms)]
-fn side(text: &[u8], at: usize, depth: usize) -> Step
-    requires { at ≤ length text.now }
-    ensures { ReadsSide text.now at depth result }
+fn side(text: &[u8], depth: usize) -> Step
+    ensures { ReadsSide text.now depth result }
 {
-    let (v, n) = term(text, at, depth)?;
-    terms(text, n, depth, v)
+    let (v, rest) = term(text, depth)?;
+    terms(rest, depth, v)
 }
 
 // What follows terms whose sum is v.
 #[cycle(factor_factors_side_term_terms)]
-fn terms(text: &[u8], at: usize, depth: usize, v: Value) -> Step
-    requires { Follows text.now at v }
-    ensures { ReadsTerms text.now at depth v result }
+fn terms(text: &[u8], depth: usize, v: Value) -> Step
+    requires { Small v }
+    ensures { ReadsTerms text.now depth v result }
 {
-    let l = lex(text, at);
-    if l.byte == 43 {
-        let (w, n) = term(text, l.next, depth)?;
-        terms(text, n, depth, sum(v, w))
-    } else if l.byte == 45 {
-        let (w, n) = term(text, l.next, depth)?;
-        terms(text, n, depth, difference(v, w))
-    } else {
-        Some((v, at))
+    let item = skip(text);
+    match byte_at(item) {
+        b'+' => {
+            let (w, rest) = term(after(item), depth)?;
+            terms(rest, depth, sum(v, w))
+        }
+        b'-' => {
+            let (w, rest) = term(after(item), depth)?;
+            terms(rest, depth, difference(v, w))
+        }
+        _ => Some((v, text)),
     }
 }
 
 // The right side, after < or >, where the left side's value is v.
-fn right(text: &[u8], at: usize, kind: usize, v: Value) -> Typed
-    requires { Follows text.now at v }
-    ensures { JudgesRight text.now at kind v result }
+fn right(text: &[u8], sense: Sense, v: Value) -> Typed
+    requires { Small v }
+    ensures { JudgesRight text.now sense v result }
 {
-    if byte_at(text, at) != 61 {
+    if byte_at(text) != b'=' {
         return Err(Flaw::Text);
     }
-    let Some((w, n)) = side(text, at + 1, 8) else {
-        return Err(Flaw::Text);
-    };
-    if skip(text, n) < text.len() {
-        Err(Flaw::Text)
+    let (w, rest) = side(after(text), 8).ok_or(Flaw::Text)?;
+    if skip(rest).is_empty() {
+        conclude(sense, v, w)
     } else {
-        conclude(kind, v, w)
+        Err(Flaw::Text)
     }
 }
 
 // The relation and the right side, after a left side whose value is v.
-fn relation(text: &[u8], at: usize, v: Value) -> Typed
-    requires { Follows text.now at v }
-    ensures { Judges text.now at v result }
+fn relation(text: &[u8], v: Value) -> Typed
+    requires { Small v }
+    ensures { Judges text.now v result }
 {
-    let l = lex(text, at);
-    if l.byte == 60 {
-        right(text, l.next, 1, v)
-    } else if l.byte == 62 {
-        right(text, l.next, 2, v)
-    } else {
-        Err(Flaw::Text)
+    let item = skip(text);
+    match byte_at(item) {
+        b'<' => right(after(item), Sense::AtMost, v),
+        b'>' => right(after(item), Sense::AtLeast, v),
+        _ => Err(Flaw::Text),
     }
 }
 
@@ -165,8 +146,6 @@ fn relation(text: &[u8], at: usize, v: Value) -> Typed
 pub fn read_text(text: &[u8]) -> Typed
     ensures { result ≡ judged (parse text.now) }
 {
-    let Some((v, n)) = side(text, 0, 8) else {
-        return Err(Flaw::Text);
-    };
-    relation(text, n, v)
+    let (v, rest) = side(text, 8).ok_or(Flaw::Text)?;
+    relation(rest, v)
 }

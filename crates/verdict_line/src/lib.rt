@@ -2,22 +2,22 @@
 
 #![tactic(auto)]
 
-ghost use Rattle.text.specs.Append.{HasRoom, Appended};
+ghost use Rattle.text.specs.Line.{RoomIn, Added};
 ghost use Rattle.verdict_line.specs.Verdict.{verdict_text, VerdictWritten};
 
 use refusal_text::append_refused;
 use slip::Verdict;
-use text::append_word;
+use text::{Line, append_word};
 
 // The line but for its line feed.
-fn append_verdict(v: Verdict, out: &mut [u8]) -> usize
-    requires { HasRoom out.old 0 49 }
-    ensures { Appended out.old 0 (verdict_text v) 49 out.new result }
+fn append_verdict(v: Verdict, line: &mut Line)
+    requires { RoomIn line.old 49 }
+    ensures { Added line.old (verdict_text v) 49 line.new }
 {
     match v {
-        Verdict::Refused(refusal) => append_refused(refusal.number, refusal.at, out, 0),
-        Verdict::Yes => append_word(b"yes", out, 0),
-        Verdict::No => append_word(b"no", out, 0),
+        Verdict::Refused(refusal) => append_refused(refusal.number, refusal.at, line),
+        Verdict::Yes => append_word(b"yes", line),
+        Verdict::No => append_word(b"no", line),
     }
 }
 
@@ -29,7 +29,8 @@ pub fn write_verdict(v: Verdict, out: &mut [u8]) -> usize
     if out.len() < 64 {
         return 0;
     }
-    let end = append_verdict(v, out);
-    append_word(b"\n", out, end);
-    end + 1
+    let mut line = Line { out, at: 0 };
+    append_verdict(v, &mut line);
+    append_word(b"\n", &mut line);
+    line.at
 }

@@ -1,5 +1,5 @@
-// Slips for programs in other languages, as runs of 14 numbers: the planner's slip of a book, and what the checker says of one. Books are of
-// version 2.
+// Slips for programs in other languages, as runs of 14 numbers: the planner's slip of a book, and what the checker says of one. Books are
+// of version 2.
 ghost use Rattle.std.specs.Prelude.{◌≡◌};
 ghost use Rattle.records.specs.Layout.{v2};
 ghost use Rattle.book.specs.Reading.{read_of};

@@ -95,8 +95,8 @@ pub extern "C" fn vishalneq_corners(book: &[u8], out: &mut [u8]) -> usize
     vishalneq::vishalneq_corners(book, out)
 }
 
-// The answers to a batch's objectives, 32 bytes each, at the start of a buffer, and how many bytes they have. What is turned back leaves the
-// buffer as it is, and 65,536 times the number plus the record is handed back.
+// The answers to a batch's objectives, 32 bytes each, at the start of a buffer, and how many bytes they have. What is turned back leaves
+// the buffer as it is, and 65,536 times the number plus the record is handed back.
 #[unsafe(no_mangle)]
 pub extern "C" fn vishalneq_batch(book: &[u8], objectives: &[u8], out: &mut [u8]) -> usize
     ensures { BatchWritten book.now objectives.now out.old out.new result }

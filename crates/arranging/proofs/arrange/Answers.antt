@@ -8,9 +8,7 @@ returns-then-run-gt4098 c = let a = c.args in too_long (comes_at a.keys.now) a.r
 
 pub returns : goal.returns
 returns c =
-    let six = c in
-    let twelve = six in
-    let a = twelve.args in
-    arranged-run (comes_at a.keys.now) twelve.if-run-gt4098.false six.count_up.ensures
-    six.sort.ensures
+    let a = c.args in
+    arranged-run (comes_at a.keys.now) c.if-run-gt4098.false c.count_up.ensures
+    c.sort.ensures
     c.keep_distinct.ensures

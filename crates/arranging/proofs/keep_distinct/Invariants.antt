@@ -1,7 +1,6 @@
 -- `arranging::keep_distinct` meets its contract: after each turn, those before place i are kept or dropped.
-use Rattle.sorting.specs.Keys.{comes_at}
 use Rattle.arranging.proofs.Steps.{Keeping}
 use Rattle.arranging.proofs.keep_distinct.Given as goal
 
 abbrev pub invariant-loop-i : goal.invariant-loop-i
-invariant-loop-i l = Keeping (comes_at l.keys) l.initial.run l.run l.i l.k
+invariant-loop-i g l = Keeping (g.O.Order.comes l.order) l.initial.run l.run l.i l.k

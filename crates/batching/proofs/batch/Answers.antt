@@ -7,15 +7,12 @@ use Rattle.batching.proofs.batch.Goals as goal
 
 pub batch_sized-requires-clause-few : goal.batch_sized-requires-clause-few
 batch_sized-requires-clause-few c =
-    let start = c in
-    few-by-length Two start.args.book.now 30 refl c.if-book-le434.true
+    few-by-length Two c.args.book.now refl 30 refl c.if-book-le434.true
 
 pub batch_sized-requires-then-book-le3584-clause-few : goal.batch_sized-requires-then-book-le3584-clause-few
 batch_sized-requires-then-book-le3584-clause-few c =
-    let start = c in
-    few-by-length Two start.args.book.now 255 refl c.if-book-le3584.true
+    few-by-length Two c.args.book.now refl 255 refl c.if-book-le3584.true
 
 pub batch_sized-requires-else-book-le3584-clause-few : goal.batch_sized-requires-else-book-le3584-clause-few
 batch_sized-requires-else-book-le3584-clause-few c =
-    let start = c in
-    most-rules Two start.args.book.now
+    most-rules Two c.args.book.now refl

@@ -1,28 +1,22 @@
 -- `cells::put_point` meets its contract: three numbers one after the other are a pair.
 use native.Mathlib.Omega.{arith}
-use Rattle.cells.specs.Cells.{point_bytes}
-use Rattle.cells.proofs.Written.{point-put, kept-short, cell-read}
+use Prim.Native.Nat.{◌+◌, ◌-◌}
+use mathlib.Core.Path.{◌∙◌}
+use borrow.Author.Rules.{rules}
+use mir.Syntax.{w64}
+use mir.Val.{of_z}
+use Rattle.cells.proofs.Written.{point-put, cell-put, cell-read}
 use Rattle.cells.proofs.put_point.Goals as goal
-
-pub returns-then-out-lt24 : goal.returns-then-out-lt24
-returns-then-out-lt24 c = let a = c.args in kept-short a.out.now a.at 24 (point_bytes a.v) (omega arith)
-
-pub returns-then-out-at : goal.returns-then-out-at
-returns-then-out-at c = let a = c.args in kept-short a.out.now a.at 24 (point_bytes a.v) (omega arith)
 
 pub returns : goal.returns
 returns c =
-    let six = c in
-    let twelve = six in
-    let eighteen = twelve in
-    let twentyFour = eighteen in
-    let a = twentyFour.args in
-    let h = eighteen.struct_told-1.given in
-    point-put a.out.now a.at a.v
-    (omega arith)
-    (cell-read a.v.x h.0.1 c.to_le_bytes.ensures)
-    (cell-read a.v.y h.1.0.1 c.to_le_bytes-2.ensures)
-    (cell-read a.v.d h.1.1.0.1 c.to_le_bytes-3.ensures)
-    twelve.put.ensures
-    six.put-2.ensures
-    c.put-3.ensures
+    let o = c.args.out.now in
+    let at = c.args.at in
+    let v = c.args.v in
+    let x = c.copy_from_slice.ensures.after ∙ cell-read v.x (search rules) c.to_le_bytes.ensures in
+    let y = c.copy_from_slice-2.ensures.after ∙ cell-read v.y (search rules) c.to_le_bytes-2.ensures in
+    let d = c.copy_from_slice-3.ensures.after ∙ cell-read v.d (search rules) c.to_le_bytes-3.ensures in
+    point-put o at v (omega arith)
+    (cell-put o at (at + 8 - at) (of_z w64 v.x) x (omega arith))
+    (cell-put _ (at + 8) (at + 16 - (at + 8)) (of_z w64 v.y) y (omega arith))
+    (cell-put _ (at + 16) (at + 24 - (at + 16)) (of_z w64 v.d) d (omega arith))

@@ -6,13 +6,11 @@ use Rattle.check_line.proofs.check_line.Goals as goal
 
 pub returns-in-None : goal.returns-in-None
 returns-in-None c =
-    let start = c in
-    checks_none start.args.book.now start.args.text.now
-    (subst (Reads start.args.text.now) c.in-None.is c.read_slip.ensures) c.check_numbers.ensures
+    checks_none c.args.book.now c.args.text.now
+    (subst (Reads c.args.text.now) c.in-None.is c.read_slip.ensures) c.check_numbers.ensures
 
 pub returns-in-Some : goal.returns-in-Some
 returns-in-Some c =
-    let start = c in
-    checks_given start.args.book.now start.args.text.now c.in-Some.s
-    (subst (Reads start.args.text.now) c.in-Some.is c.read_slip.ensures)
+    checks_given c.args.book.now c.args.text.now c.in-Some.s
+    (subst (Reads c.args.text.now) c.in-Some.is c.read_slip.ensures)
     c.check.ensures

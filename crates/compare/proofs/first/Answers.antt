@@ -15,28 +15,25 @@ returns-then-smaller c =
 
 pub returns-then-smaller-2 : goal.returns-then-smaller-2
 returns-then-smaller-2 c =
-    let e = c in
-    let v = e.args.v in
-    let w = e.args.w in
-    let hv = e.struct_told-1.given in
-    let hw = e.struct_told-3-1.given in
+    let v = c.args.v in
+    let w = c.args.w in
+    let hv = c.struct_told-1.given in
+    let hw = c.struct_told-3-1.given in
     second-first v w
-    (less-read v.x v.d w.x w.d hv.0.1 hv.1.1.0.1 hw.0.1 hw.1.1.0.1 e.smaller.ensures)
+    (less-read v.x v.d w.x w.d hv.0.1 hv.1.1.0.1 hw.0.1 hw.1.1.0.1 c.smaller.ensures)
     (less-read w.x w.d v.x v.d hw.0.1 hw.1.1.0.1 hv.0.1 hv.1.1.0.1 c.smaller-2.ensures)
-    e.if-smaller.false
+    c.if-smaller.false
     c.if-smaller-2.true
 
 pub returns : goal.returns
 returns c =
-    let g = c in
-    let e = g in
-    let v = e.args.v in
-    let w = e.args.w in
-    let hv = e.struct_told-1.given in
-    let hw = e.struct_told-3-1.given in
+    let v = c.args.v in
+    let w = c.args.w in
+    let hv = c.struct_told-1.given in
+    let hw = c.struct_told-3-1.given in
     less-read v.y v.d w.y w.d hv.1.0.1 hv.1.1.0.1 hw.1.0.1 hw.1.1.0.1 c.smaller-3.ensures
     ∙ by-y v w
-    (less-read v.x v.d w.x w.d hv.0.1 hv.1.1.0.1 hw.0.1 hw.1.1.0.1 e.smaller.ensures)
-    (less-read w.x w.d v.x v.d hw.0.1 hw.1.1.0.1 hv.0.1 hv.1.1.0.1 g.smaller-2.ensures)
-    e.if-smaller.false
-    g.if-smaller-2.false
+    (less-read v.x v.d w.x w.d hv.0.1 hv.1.1.0.1 hw.0.1 hw.1.1.0.1 c.smaller.ensures)
+    (less-read w.x w.d v.x v.d hw.0.1 hw.1.1.0.1 hv.0.1 hv.1.1.0.1 c.smaller-2.ensures)
+    c.if-smaller.false
+    c.if-smaller-2.false

@@ -13,9 +13,8 @@ smaller-requires c =
 
 pub returns-then-is_denominator : goal.returns-then-is_denominator
 returns-then-is_denominator c =
-    let s = c in
-    let a = s.args in
-    let f = s.ranges in
+    let a = c.args in
+    let f = c.ranges in
     less-read a.x a.d a.x2 a.d2 f.x.sfits f.d.sfits f.x2.sfits f.d2.sfits c.smaller.ensures
     ∙ in-range a.d a.d2 (denominator-told a.d f.d.sfits c.is_denominator.ensures)
     (denominator-told a.d2 f.d2.sfits c.is_denominator-2.ensures)
@@ -24,9 +23,8 @@ returns-then-is_denominator c =
 
 pub returns-else-is_denominator : goal.returns-else-is_denominator
 returns-else-is_denominator c =
-    let s = c in
-    let a = s.args in
-    let f = s.ranges in
+    let a = c.args in
+    let f = c.ranges in
     c.if-is_denominator.false ∙ out_of_range a.d a.d2 (denominator-told a.d f.d.sfits c.is_denominator.ensures)
     (denominator-told a.d2 f.d2.sfits c.is_denominator-2.ensures)
     (less a.x a.d a.x2 a.d2)

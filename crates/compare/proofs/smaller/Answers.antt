@@ -10,34 +10,29 @@ nonzero_div-q2 c = divisible c.args.x2 c.args.d2 c.ranges.x2 c.requires.second
 
 pub returns-then-q-q2 : goal.returns-then-q-q2
 returns-then-q-q2 c =
-    let s = c in
-    first-smaller s.args.x s.args.d s.args.x2 s.args.d2 s.ranges.x s.ranges.x2 s.requires.first s.requires.second
+    first-smaller c.args.x c.args.d c.args.x2 c.args.d2 c.ranges.x c.ranges.x2 c.requires.first c.requires.second
     c.if-q-q2.true
 
 pub returns-then-q2-q : goal.returns-then-q2-q
 returns-then-q2-q c =
-    let s = c in
-    second-smaller s.args.x s.args.d s.args.x2 s.args.d2 s.ranges.x s.ranges.x2 s.requires.first s.requires.second
+    second-smaller c.args.x c.args.d c.args.x2 c.args.d2 c.ranges.x c.ranges.x2 c.requires.first c.requires.second
     c.if-q2-q.true
 
 pub nonzero_rem-r : goal.nonzero_rem-r
-nonzero_rem-r c = let s = c in divisible s.args.x s.args.d s.ranges.x s.requires.first
+nonzero_rem-r c = divisible c.args.x c.args.d c.ranges.x c.requires.first
 
 pub nonzero_rem-r2 : goal.nonzero_rem-r2
-nonzero_rem-r2 c = let s = c in divisible s.args.x2 s.args.d2 s.ranges.x2 s.requires.second
+nonzero_rem-r2 c = divisible c.args.x2 c.args.d2 c.ranges.x2 c.requires.second
 
 pub overflow_mul-result : goal.overflow_mul-result
 overflow_mul-result c =
-    let s = c in
-    product-fits s.args.x s.args.d s.ranges.x s.requires.first s.args.d2 s.requires.second
+    product-fits c.args.x c.args.d c.ranges.x c.requires.first c.args.d2 c.requires.second
 
 pub overflow_mul-result-2 : goal.overflow_mul-result-2
 overflow_mul-result-2 c =
-    let s = c in
-    product-fits s.args.x2 s.args.d2 s.ranges.x2 s.requires.second s.args.d s.requires.first
+    product-fits c.args.x2 c.args.d2 c.ranges.x2 c.requires.second c.args.d c.requires.first
 
 pub returns : goal.returns
 returns c =
-    let s = c in
-    by-remainders s.args.x s.args.d s.args.x2 s.args.d2 s.ranges.x s.ranges.x2 s.requires.first s.requires.second
+    by-remainders c.args.x c.args.d c.args.x2 c.args.d2 c.ranges.x c.ranges.x2 c.requires.first c.requires.second
     c.if-q-q2.false c.if-q2-q.false

@@ -7,15 +7,12 @@ use Rattle.cornering.proofs.corners.Goals as goal
 
 pub corners_sized-requires-clause-few : goal.corners_sized-requires-clause-few
 corners_sized-requires-clause-few c =
-    let start = c in
-    few-by-length Two start.args.book.now 30 refl c.if-book-le434.true
+    few-by-length Two c.args.book.now refl 30 refl c.if-book-le434.true
 
 pub corners_sized-requires-then-book-le3584-clause-few : goal.corners_sized-requires-then-book-le3584-clause-few
 corners_sized-requires-then-book-le3584-clause-few c =
-    let start = c in
-    few-by-length Two start.args.book.now 255 refl c.if-book-le3584.true
+    few-by-length Two c.args.book.now refl 255 refl c.if-book-le3584.true
 
 pub corners_sized-requires-else-book-le3584-clause-few : goal.corners_sized-requires-else-book-le3584-clause-few
 corners_sized-requires-else-book-le3584-clause-few c =
-    let start = c in
-    most-rules Two start.args.book.now
+    most-rules Two c.args.book.now refl

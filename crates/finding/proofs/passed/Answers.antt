@@ -1,6 +1,5 @@
 -- `finding::passed` meets its contract: no record before the place is wanted.
 use mathlib.Core.Path.{sym, ◌∙◌}
-use Prim.Native.Nat.{◌-◌}
 use native.Mathlib.Omega.{arith}
 use Rattle.finding.proofs.Passing.{passed_start, passed_eight}
 use Rattle.finding.proofs.passed.Goals as goal

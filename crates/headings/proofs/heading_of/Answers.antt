@@ -1,34 +1,21 @@
--- `headings::heading_of` meets its contract: each part is a field of the header.
-use mathlib.Core.Path.{◌≡◌, ap, ◌∙◌}
-use native.Mathlib.Omega.{arith}
-use mir.Syntax.{w16, w64}
-use mir.Val.{SFits, to_z, of_z}
-use Rattle.std.proofs.lemmas.Int.{ints}
-use Rattle.records.specs.declared.fields.Fields.{Fields}
-use Rattle.records.specs.Layout.{layout_of}
-use Rattle.records.specs.Header.{floors_in}
-use Rattle.records.proofs.Small.{floors-read}
-use borrow.Author.Rules.{rules}
+-- `headings::heading_of` meets its contract: the causes are the book's, and so is what it says.
+use mathlib.Core.Path.{subst, ap, ◌∙◌}
+use Rattle.records.specs.Encoded.{Encoded}
+use Rattle.records.specs.Number.{Bytes}
+use Rattle.headings.specs.Tests.{heading_in}
+use Rattle.headings.proofs.HeaderTests.{turned-back, says}
 use Rattle.headings.proofs.heading_of.Goals as goal
 
-pub returns : goal.returns
-returns c =
-    let e = c.fields_at-f.ensures in
-    let fp : SFits w16 c.signed16.result = search rules in
-    let fq : SFits w16 c.signed16-2.result = search rules in
-    let wp : to_z w64 (of_z w64 c.from.result) ≡ c.signed16.result = omega (arith, ints) in
-    let wq : to_z w64 (of_z w64 c.from-2.result) ≡ c.signed16-2.result = omega (arith, ints) in
-    let p = wp ∙ c.signed16.ensures ∙ ap (λ (f : Fields). to_z w16 f.a) e in
-    let q = wq ∙ c.signed16-2.ensures ∙ ap (λ (f : Fields). to_z w16 f.b) e in
-    let n = ap (λ (f : Fields). f.label) e in
-    let l = ap (λ (f : Fields). f.link) e in
-    let L = layout_of c.args.version in
-    let z =
-    c.floors_in-floors.ensures ∙ ap (λ (f : Fields). floors_in L f.c) e
-    ∙ floors-read L c.args.book.now (λ i. (c.type_inv.book i).fits) in
-    λ j. record {
-      fault = c.fault.ensures j;
-      terms = record { objective = record { p = p j; q = q j }; floors = z j };
-      count = n j;
-      link = l j;
-    }
+pub returns-in-Some : goal.returns-in-Some
+returns-in-Some c =
+    let k = c.args.book.now in
+    turned-back k.layout k.bytes c.fields_at-f.result c.fields_at-f.ensures c.cause_in.result c.cause_in.ensures c.in-Some.cause
+    c.in-Some.is
+
+pub returns-in-None : goal.returns-in-None
+returns-in-None c =
+    let k = c.args.book.now in
+    let f = c.fields_at-f.result in
+    says k.layout k.bytes f c.fields_at-f.ensures c.cause_in.result c.cause_in.ensures c.said.result
+    (subst (λ (b : Encoded). Bytes b.bytes) c.book.view_is c.book.invariant) c.in-None.is
+    (c.said.ensures ∙ ap (λ (b : Encoded). heading_in b.layout f) c.book.view_is)

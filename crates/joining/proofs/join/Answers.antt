@@ -5,5 +5,4 @@ use Rattle.joining.proofs.join.Goals as goal
 
 pub join_few-requires : goal.join_few-requires
 join_few-requires c =
-    let start = c in
-    few_of_lengths start.args.site.now start.args.tenant.now 255 3584 refl c.if-site-gt3584.false c.if-tenant-gt3584.false
+    few_of_lengths c.args.site.now c.args.tenant.now 255 3584 refl c.if-site-gt3584.false c.if-tenant-gt3584.false

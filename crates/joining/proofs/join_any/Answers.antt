@@ -6,10 +6,8 @@ use Rattle.joining.proofs.join_any.Goals as goal
 
 pub join_few-requires : goal.join_few-requires
 join_few-requires c =
-    let start = c in
-    few-by-length start.args.site.now start.args.tenant.now 255 3584 refl c.within.ensures c.if-within.true
+    few-by-length c.args.site.now c.args.tenant.now 255 3584 refl c.within.ensures c.if-within.true
 
 pub join_sized-requires-clause-few : goal.join_sized-requires-clause-few
 join_sized-requires-clause-few c =
-    let start = c in
-    most-rules start.args.site.now start.args.tenant.now
+    most-rules c.args.site.now c.args.tenant.now

@@ -5,5 +5,4 @@ use Rattle.joining.proofs.join_few.Goals as goal
 
 pub join_sized-requires-clause-few : goal.join_sized-requires-clause-few
 join_sized-requires-clause-few c =
-    let start = c in
-    few-by-length start.args.site.now start.args.tenant.now 30 434 refl c.within.ensures c.if-within.true
+    few-by-length c.args.site.now c.args.tenant.now 30 434 refl c.within.ensures c.if-within.true

@@ -1,83 +1,59 @@
 -- `judging::judge` meets its contract: each way out is one case of `judged`.
-use native.Mathlib.Omega.{arith}
-use Prim.Native.Nat.{ℕ}
-use mathlib.Core.Path.{◌≡◌, refl, sym, ap, ◌∙◌}
-use Rattle.records.specs.declared.Rule.{Rule}
-use Rattle.std.specs.Prelude.{Result, Ok, Err}
-use Rattle.answers.specs.Refusal.{refusal}
-use Rattle.records.specs.declared.Sound.{Sound}
-use Rattle.records.specs.declared.Fault.{Fault}
-use Rattle.records.specs.declared.Fault.TheVariants as fault
-use Rattle.records.specs.Layout.{layout_of}
-use Rattle.records.specs.Record.{number_of}
-use Rattle.records.proofs.Checks.{sound-holds}
-use Rattle.book.specs.Tables.{is_noted}
-use Rattle.book.proofs.Leading.{judged-over, judged-fault, judged-met, judged-sound, again_kept}
+use mathlib.Core.Path.{refl, sym, ap, ◌∙◌}
+use Rattle.std.specs.Prelude.{Err}
+use Rattle.std.proofs.Common.{rules}
+use Rattle.book.proofs.Leading.{small-over, small-faulty, small-sound, judged-over, judged-held, judged-met, judged-sound}
 use Rattle.judging.proofs.judge.Goals as goal
-
--- what is not sound has a number of its own
-unsound : (d : Result Sound Fault) → ((s : Sound) → d ≡ Ok s → ⊥) → number_of d ≡ 0 → ⊥
-unsound (Ok s) h e = absurd (h s refl)
-unsound (Err fault.Kind) h e = omega arith
-unsound (Err fault.Slope) h e = omega arith
-unsound (Err fault.Bound) h e = omega arith
 
 pub returns-then-link-count : goal.returns-then-link-count
 returns-then-link-count c =
     let a = c.args in
     record {
-      answer = judged-over (layout_of a.version) a.book.now a.labels.now a.count a.n a.at a.link c.if-link-count.true;
+      answer =
+          ap Err c.of.ensures
+          ∙ judged-over a.book.now.layout a.book.now.bytes a.labels.now a.count a.n a.at a.link c.if-link-count.true;
       met = refl;
+      small = small-over a.book.now.layout a.book.now.bytes a.labels.now a.count a.n a.at a.link c.if-link-count.true;
     }
 
-pub returns-in_default : goal.returns-in_default
-returns-in_default c =
+pub returns-in-Err : goal.returns-in-Err
+returns-in-Err c =
     let a = c.args in
-    let d = c.visit-decoded in
-    let f = unsound d.result c.in_default.not-Ok in
     record {
       answer =
-          ap (λ (k : ℕ). Err (refusal k a.link)) (c.number_of-number.ensures ∙ ap number_of d.ensures)
-          ∙ judged-fault (layout_of a.version) a.book.now a.labels.now a.count a.n a.at a.link
-          c.if-link-count.false (rw d.ensures at f);
+          ap Err c.of-in-Err.ensures
+          ∙ judged-held a.book.now.layout a.book.now.bytes a.labels.now a.count a.n a.at a.link c.if-link-count.false
+          (sym c.in-Err.is ∙ c.visit.ensures);
       met = refl;
+      small =
+          small-faulty a.book.now.layout a.book.now.bytes a.labels.now a.count a.n a.at a.link (sym c.in-Err.is ∙ c.visit.ensures);
     }
 
 pub returns-then-noted : goal.returns-then-noted
 returns-then-noted c =
     let a = c.args in
-    let d = c.visit-decoded in
-    let e = c.in-Ok.is in
-    let held = sound-holds (layout_of a.version) _ _ _ (sym d.ensures ∙ e) in
-    let label = ap (λ (r : Rule). r.label) held.0 in
     record {
       answer =
-          judged-met (layout_of a.version) a.book.now a.labels.now a.count a.n a.at a.link
-          c.if-link-count.false
-          (ap number_of (sym d.ensures ∙ e))
-          (ap (is_noted a.labels.now) (sym label) ∙ sym c.noted.ensures ∙ c.if-noted.true)
-          c.again.ensures;
-      met = again_kept (layout_of a.version) a.book.now a.n a.at a.link a.labels.now c.again.ensures;
+          ap Err c.again.ensures
+          ∙ judged-met a.book.now.layout a.book.now.bytes a.labels.now a.count a.n a.at a.link c.if-link-count.false
+          c.in-Ok.sound (sym c.in-Ok.is ∙ c.visit.ensures)
+          (sym c.noted.ensures ∙ c.if-noted.true);
+      met = refl;
+      small =
+          small-sound a.book.now.layout a.book.now.bytes a.labels.now a.count a.n a.at a.link (sym c.in-Ok.is ∙ c.visit.ensures)
+          (search rules);
     }
-
-pub note-requires : goal.note-requires
-note-requires c = sym c.noted.ensures ∙ c.if-noted.false
 
 pub returns : goal.returns
 returns c =
     let a = c.args in
-    let d = c.visit-decoded in
-    let e = c.in-Ok.is in
-    let held = sound-holds (layout_of a.version) _ _ _ (sym d.ensures ∙ e) in
-    let label = ap (λ (r : Rule). r.label) held.0 in
     record {
       answer =
-          (λ j. Ok (record { rule = held.0 j; next = held.1 j }))
-          ∙ judged-sound (layout_of a.version) a.book.now a.labels.now a.count a.n a.at a.link
-          c.if-link-count.false
-          (ap number_of (sym d.ensures ∙ e))
-          (ap (is_noted a.labels.now) (sym label)
-          ∙ sym c.noted.ensures
-          ∙ c.if-noted.false);
+          judged-sound a.book.now.layout a.book.now.bytes a.labels.now a.count a.n a.at a.link c.if-link-count.false
+          c.in-Ok.sound (sym c.in-Ok.is ∙ c.visit.ensures)
+          (sym c.noted.ensures ∙ c.if-noted.false);
       met = c.note.ensures;
+      small =
+          small-sound a.book.now.layout a.book.now.bytes a.labels.now a.count a.n a.at a.link (sym c.in-Ok.is ∙ c.visit.ensures)
+          (search rules);
     }

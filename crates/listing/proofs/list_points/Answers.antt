@@ -17,8 +17,7 @@ put_points-requires c = let t = c.if-out-n.false in record { all = c.if-run-n.fa
 
 pub returns : goal.returns
 returns c =
-    let six = c in
-    let a = six.args in
+    let a = c.args in
     let t = c.if-out-n.false in
     all_listed a.keys.now a.run.now a.n c.if-run-n.false (omega arith)
     c.put_points.ensures

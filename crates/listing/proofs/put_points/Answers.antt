@@ -4,7 +4,7 @@ use Rattle.listing.proofs.Written.{putting_start, putting_on, putting_end}
 use Rattle.listing.proofs.put_points.Goals as goal
 
 pub loop-i-init : goal.loop-i-init
-loop-i-init c = let s = c in putting_start s.args.keys.now s.args.run.now s.args.n s.requires
+loop-i-init c = putting_start c.args.keys.now c.args.run.now c.args.n c.requires
 
 pub overflow_mul-i : goal.overflow_mul-i
 overflow_mul-i c =
@@ -16,16 +16,14 @@ overflow_mul-i c =
 
 pub bounds-run-i : goal.bounds-run-i
 bounds-run-i c =
-    let t = c in
-    let a = t.loop-i.invariant.asked.all in
-    omega (arith, t.loop-i-test.true)
+    let a = c.loop-i.invariant.asked.all in
+    omega (arith, c.loop-i-test.true)
 
 pub loop-i-preserved : goal.loop-i-preserved
 loop-i-preserved c =
-    let six = c in
-    let a = six.args in
+    let a = c.args in
     let put = c.put_point in
-    putting_on a.keys.now a.run.now a.n six.loop-i.invariant six.loop-i-test.true
+    putting_on a.keys.now a.run.now a.n c.loop-i.invariant c.loop-i-test.true
     c.point_at.ensures
     put.ensures put.auto.out
 

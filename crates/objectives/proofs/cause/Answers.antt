@@ -11,10 +11,14 @@ returns-then-bad_objectives c =
     cause-sixteen a.objectives.now a.room (sym c.bad_objectives.ensures ∙ c.if-bad_objectives.true)
 
 pub overflow_mul-objectives : goal.overflow_mul-objectives
-overflow_mul-objectives c = omega (arith, few-objectives c.args.objectives.now ((sym c.bad_objectives.ensures ∙ c.if-bad_objectives.false)))
+overflow_mul-objectives c = omega (arith, few-objectives c.args.objectives.now (sym c.bad_objectives.ensures ∙ c.if-bad_objectives.false))
 
 pub returns-then-room-objectives : goal.returns-then-room-objectives
-returns-then-room-objectives c = let a = c.args in cause-eleven a.objectives.now a.room ((sym c.bad_objectives.ensures ∙ c.if-bad_objectives.false)) c.if-room-objectives.true
+returns-then-room-objectives c =
+    let a = c.args in
+    cause-eleven a.objectives.now a.room (sym c.bad_objectives.ensures ∙ c.if-bad_objectives.false) c.if-room-objectives.true
 
 pub returns-else-room-objectives : goal.returns-else-room-objectives
-returns-else-room-objectives c = let a = c.args in cause-none a.objectives.now a.room ((sym c.bad_objectives.ensures ∙ c.if-bad_objectives.false)) c.if-room-objectives.false
+returns-else-room-objectives c =
+    let a = c.args in
+    cause-none a.objectives.now a.room (sym c.bad_objectives.ensures ∙ c.if-bad_objectives.false) c.if-room-objectives.false

@@ -12,13 +12,13 @@ returns-in-Some c =
 pub offer_all-requires : goal.offer_all-requires
 offer_all-requires c =
     let a = c.args in
-    let lay = c.lay-listed in
+    let lay = c.lay_sampled-listed in
     filling a.floors a.run.now a.order.now a.ring.now a.corners.now a.objectives.now a.out.now
     (sym c.cause.ensures ∙ c.in_default.is) lay.ensures lay.auto.corners
 
 pub returns : goal.returns
 returns c =
     let a = c.args in
-    let lay = c.lay-listed in
+    let lay = c.lay_sampled-listed in
     answers-done a.floors a.run.now a.order.now a.ring.now a.corners.now a.objectives.now a.out.now
     (sym c.cause.ensures ∙ c.in_default.is) lay.ensures lay.auto.corners c.offer_all.ensures

@@ -4,5 +4,5 @@ use Rattle.one_book.proofs.start_numbers.Goals as goal
 
 pub returns : goal.returns
 returns c =
-    let seen = c.start_after-seen in
+    let seen = c.start_after in
     start_seen _ _ _ seen.result seen.ensures _ _ _ c.put_start.ensures

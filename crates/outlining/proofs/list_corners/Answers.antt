@@ -42,4 +42,4 @@ returns-then-n-run c =
 pub returns-else-n-run : goal.returns-else-n-run
 returns-else-n-run c =
     let a = c.args in
-    finishes-none a.keys.now a.n a.run.now a.out.now refl c.if-n-run.false
+    finishes-none a.keys.now a.n a.run.now a.out.now refl c.if-n-run.false c.of-refusal.ensures

@@ -4,10 +4,10 @@ use Rattle.repacker.proofs.repack.Goals as goal
 
 pub repack_sized-requires-clause-few : goal.repack_sized-requires-clause-few
 repack_sized-requires-clause-few c =
-    let start = c in
-    short-few start.args.version start.args.book.now c.if-book-le3584.true
+    let b = c.book in
+    short-few b.inside.version b.inside.bytes.now b.view_is c.if-book-le3584.true
 
 pub repack_sized-requires-else-book-le3584-clause-few : goal.repack_sized-requires-else-book-le3584-clause-few
 repack_sized-requires-else-book-le3584-clause-few c =
-    let start = c in
-    most-rules start.args.version start.args.book.now
+    let b = c.book in
+    most-rules b.inside.version b.inside.bytes.now b.view_is

@@ -1,47 +1,37 @@
 -- `session_lines::read_line` meets its contract: the first word chooses the step.
+use mathlib.Core.Path.{ap, ◌∙◌}
+use lib.Pointwise.{pointwise}
+use Rattle.std.proofs.Common.{nat_eq}
+use Rattle.session_lines.specs.Lines.{start_in, typed_in, rule_in}
 use Rattle.session_lines.proofs.Spelling.{start-as, add-as, rule-as, back-as}
-use Rattle.session_lines.proofs.Choosing.{starts, adds, rules, goes_back, longer, other}
+use Rattle.session_lines.proofs.Choosing.{starts, adds, rules, goes_back, other}
 use Rattle.session_lines.proofs.read_line.Goals as goal
 
-pub returns-then-starts_with : goal.returns-then-starts_with
-returns-then-starts_with c =
-    let l = c.args.text.now in
-    starts l (start-as l c.starts_with.ensures.value) c.if-starts_with.true
-    c.started.ensures
+pub returns-in-Some : goal.returns-in-Some
+returns-in-Some c =
+    let told = c.in-Some.ensures.cases in
+    starts c.args.text.now (start-as c.args.text.now) told.0 (c.started.ensures ∙ ap start_in told.1)
 
-pub returns-then-starts_with-2 : goal.returns-then-starts_with-2
-returns-then-starts_with-2 c =
-    let l = c.args.text.now in
-    adds l (start-as l c.starts_with.ensures.value) c.if-starts_with.false
-    (add-as l c.starts_with-2.ensures.value) c.if-starts_with-2.true c.typed.ensures
+pub returns-in-Some-strip_prefix : goal.returns-in-Some-strip_prefix
+returns-in-Some-strip_prefix c =
+    let told = c.in-Some-strip_prefix.ensures.cases in
+    adds c.args.text.now (start-as c.args.text.now) c.in_default.ensures.cases (add-as c.args.text.now) told.0
+    (c.typed.ensures ∙ ap typed_in told.1)
 
-pub returns-then-starts_with-3 : goal.returns-then-starts_with-3
-returns-then-starts_with-3 c =
-    let l = c.args.text.now in
-    rules l (start-as l c.starts_with.ensures.value) c.if-starts_with.false
-    (add-as l c.starts_with-2.ensures.value) c.if-starts_with-2.false
-    (rule-as l c.starts_with-3.ensures.value) c.if-starts_with-3.true c.added.ensures
+pub returns-in-Some-strip_prefix-2 : goal.returns-in-Some-strip_prefix-2
+returns-in-Some-strip_prefix-2 c =
+    let told = c.in-Some-strip_prefix-2.ensures.cases in
+    rules c.args.text.now (start-as c.args.text.now) c.in_default.ensures.cases (add-as c.args.text.now)
+    c.in_default-strip_prefix.ensures.cases (rule-as c.args.text.now) told.0 (c.added.ensures ∙ ap rule_in told.1)
 
-pub returns-then-text-eq4 : goal.returns-then-text-eq4
-returns-then-text-eq4 c =
-    let l = c.args.text.now in
-    goes_back l (start-as l c.starts_with.ensures.value) c.if-starts_with.false
-    (add-as l c.starts_with-2.ensures.value) c.if-starts_with-2.false
-    (rule-as l c.starts_with-3.ensures.value) c.if-starts_with-3.false
-    (back-as l c.starts_with-4.ensures.value) c.if-starts_with-4.true c.if-text-eq4.true
+pub returns-then-eq : goal.returns-then-eq
+returns-then-eq c =
+    goes_back c.args.text.now (start-as c.args.text.now) c.in_default.ensures.cases (add-as c.args.text.now)
+    c.in_default-strip_prefix.ensures.cases (rule-as c.args.text.now) c.in_default-strip_prefix-2.ensures.cases
+    (c.eq.ensures ∙ ap (pointwise nat_eq c.args.text.now) c.as_slice.ensures ∙ back-as c.args.text.now) c.if-eq.true
 
-pub returns-else-text-eq4 : goal.returns-else-text-eq4
-returns-else-text-eq4 c =
-    let l = c.args.text.now in
-    longer l (start-as l c.starts_with.ensures.value) c.if-starts_with.false
-    (add-as l c.starts_with-2.ensures.value) c.if-starts_with-2.false
-    (rule-as l c.starts_with-3.ensures.value) c.if-starts_with-3.false
-    (back-as l c.starts_with-4.ensures.value) c.if-starts_with-4.true c.if-text-eq4.false
-
-pub returns-else-starts_with-4 : goal.returns-else-starts_with-4
-returns-else-starts_with-4 c =
-    let l = c.args.text.now in
-    other l (start-as l c.starts_with.ensures.value) c.if-starts_with.false
-    (add-as l c.starts_with-2.ensures.value) c.if-starts_with-2.false
-    (rule-as l c.starts_with-3.ensures.value) c.if-starts_with-3.false
-    (back-as l c.starts_with-4.ensures.value) c.if-starts_with-4.false
+pub returns-else-eq : goal.returns-else-eq
+returns-else-eq c =
+    other c.args.text.now (start-as c.args.text.now) c.in_default.ensures.cases (add-as c.args.text.now)
+    c.in_default-strip_prefix.ensures.cases (rule-as c.args.text.now) c.in_default-strip_prefix-2.ensures.cases
+    (c.eq.ensures ∙ ap (pointwise nat_eq c.args.text.now) c.as_slice.ensures ∙ back-as c.args.text.now) c.if-eq.false

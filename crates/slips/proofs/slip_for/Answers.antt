@@ -4,25 +4,20 @@ use Rattle.slips.proofs.slip_for.Goals as goal
 
 pub conflict_weights-requires : goal.conflict_weights-requires
 conflict_weights-requires c =
-    let s = c in
-    witness_small s.args.book.now s.args.plan s.requires c.in-Infeasible.is
+    witness_small c.args.book.now c.args.plan c.requires c.in-Infeasible.is
 
 pub best_weights-requires : goal.best_weights-requires
 best_weights-requires c =
-    let s = c in
-    pair_small s.args.book.now s.args.plan s.requires c.in-Optimal.v c.in-Optimal.is
+    pair_small c.args.book.now c.args.plan c.requires c.in-Optimal.v c.in-Optimal.is
 
 pub returns-in-Infeasible : goal.returns-in-Infeasible
 returns-in-Infeasible c =
-    let s = c in
-    impossible-slip s.args.book.now s.args.plan s.requires c.in-Infeasible.is c.conflict_weights.ensures
+    impossible-slip c.args.book.now c.args.plan c.requires c.in-Infeasible.is c.conflict_weights.ensures
 
 pub returns-in-Unbounded : goal.returns-in-Unbounded
 returns-in-Unbounded c =
-    let s = c in
-    unlimited-slip s.args.book.now s.args.plan s.requires c.in-Unbounded.field-0 c.in-Unbounded.field-1 c.in-Unbounded.is c.nothing.ensures
+    unlimited-slip c.args.book.now c.args.plan c.requires c.in-Unbounded.field-0 c.in-Unbounded.field-1 c.in-Unbounded.is c.nothing.ensures
 
 pub returns-in-Optimal : goal.returns-in-Optimal
 returns-in-Optimal c =
-    let s = c in
-    best-slip s.args.book.now s.args.plan s.requires c.in-Optimal.v c.in-Optimal.is c.best_weights.ensures
+    best-slip c.args.book.now c.args.plan c.requires c.in-Optimal.v c.in-Optimal.is c.best_weights.ensures

@@ -1,4 +1,4 @@
--- `typed_rules::read_rule` meets its contract: what a text reads as: the rule, or the number of the refusal.
+-- `typed_rules::read_rule` meets its contract: what a text reads as: the rule, or its flaw.
 use borrow.Author.Tests.{le-leb, lt-leb}
 use Rattle.language.specs.Parser.{answer}
 use Rattle.typed_rules.proofs.read_rule.Goals as goal

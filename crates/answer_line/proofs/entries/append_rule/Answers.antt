@@ -3,25 +3,16 @@ use mathlib.Core.Path.{ap, sym}
 use native.Mathlib.Omega.{arith}
 use Rattle.report.specs.declared.Naming.{Naming}
 use Rattle.report.specs.Line.{rule}
-use Rattle.text.proofs.Put.{spelt, roomier}
+use Rattle.text.proofs.Adding.{fits, spelt, roomier}
 use Rattle.answer_line.proofs.entries.append_rule.Goals as goal
 
 pub returns-in-OneBook : goal.returns-in-OneBook
 unfolding rule
 returns-in-OneBook c =
-    let number = c in
-    let told = number in
-    let start = told in
     spelt
-    (ap (λ (m : Naming). rule m start.args.name) (sym told.in-OneBook.is))
-    (roomier (omega arith) (number.append_number.ensures.fits (omega arith)))
+    (ap (λ (m : Naming). rule m c.args.name) (sym c.in-OneBook.is))
+    (roomier (omega arith) (fits (omega arith) c.append_number.ensures))
 
 pub returns-in-TwoBooks : goal.returns-in-TwoBooks
 unfolding rule
-returns-in-TwoBooks c =
-    let lettered = c in
-    let told = lettered in
-    let start = told in
-    spelt
-    (ap (λ (m : Naming). rule m start.args.name) (sym told.in-TwoBooks.is))
-    lettered.append_rule_of_two.ensures
+returns-in-TwoBooks c = spelt (ap (λ (m : Naming). rule m c.args.name) (sym c.in-TwoBooks.is)) c.append_rule_of_two.ensures

@@ -6,23 +6,17 @@ use Rattle.answer_line.proofs.entries.count_named.Goals as goal
 
 pub overflow_add-result : goal.overflow_add-result
 overflow_add-result c =
-    let start = c in
-    omega (arith, at_most_one (read start.args.k.first_weight), at_most_one (read start.args.k.second_weight))
+    omega (arith, at_most_one (read c.args.k.first_weight), at_most_one (read c.args.k.second_weight))
 
 pub overflow_add-result-2 : goal.overflow_add-result-2
 overflow_add-result-2 c =
-    let start = c in
-    let k = start.args.k in
+    let k = c.args.k in
     omega (arith, at_most_one (read k.first_weight), at_most_one (read k.second_weight), at_most_one (read k.third_weight))
 
 pub returns : goal.returns
 returns c =
-    let third = c in
-    let second = third in
-    let first = second in
-    let start = first in
-    counted start.args.k first.used.result second.used-2.result third.used-3.result
-    (record { sfits = first.struct_told-1.given.1.0.1 })
-    (record { sfits = second.struct_told-2-1.given.1.1.1.0.1 })
-    (record { sfits = third.struct_told-3-1.given.1.1.1.1.1.0.1 })
-    first.used.ensures second.used-2.ensures third.used-3.ensures
+    counted c.args.k c.used.result c.used-2.result c.used-3.result
+    (record { sfits = omega arith })
+    (record { sfits = omega arith })
+    (record { sfits = omega arith })
+    c.used.ensures c.used-2.ensures c.used-3.ensures

@@ -1,25 +1,22 @@
 -- `checking::entries::rule_in` meets its contract: the rule in a record.
-use mathlib.Core.Path.{sym}
+use mathlib.Core.Path.{◌∙◌}
 use native.Mathlib.Omega.{arith}
-use lib.Seq.{length-take-le}
-use Rattle.checking.proofs.Naming.{named-at, named-nowhere}
+use Rattle.checking.proofs.Naming.{place-below, named-at, named-nowhere}
 use Rattle.checking.proofs.entries.rule_in.Goals as goal
 
-pub slice_bounds-place-end : goal.slice_bounds-place-end
-slice_bounds-place-end c = sym (length-take-le _ _ c.requires.names)
+pub returns-in_err-at : goal.returns-in_err-at
+returns-in_err-at c =
+    let a = c.args in
+    c.from_residual.ensures
+    ∙ named-nowhere a.records.now a.rules.now a.wanted a.n c.requires.names c.place.ensures c.in_err-at.was
 
 pub entry-requires : goal.entry-requires
-entry-requires c = record { room = omega (arith, c.requires.room, c.if-at-n.true) }
+entry-requires c =
+    let a = c.args in
+    let below = place-below a.records.now a.rules.now a.wanted a.n c.requires.names c.place.ensures c.in_ok-at.was in
+    record { room = omega (arith, c.requires.room, below) }
 
-pub returns-then-at-n : goal.returns-then-at-n
-returns-then-at-n c =
-    let s = c in
-    named-at s.args.records.now s.args.rules.now s.args.wanted s.args.n s.requires.names
-    c.place-at.ensures c.if-at-n.true
-    c.entry.ensures
-
-pub returns-else-at-n : goal.returns-else-at-n
-returns-else-at-n c =
-    let s = c in
-    named-nowhere s.args.records.now s.args.rules.now s.args.wanted s.args.n s.requires.names
-    c.place-at.ensures c.if-at-n.false
+pub returns : goal.returns
+returns c =
+    let a = c.args in
+    named-at a.records.now a.rules.now a.wanted a.n c.requires.names c.place.ensures c.in_ok-at.was c.entry.ensures

@@ -1,6 +1,7 @@
 -- `checking::entries::stays_all` meets its contract.
 use mathlib.Core.Path.{sym, ◌∙◌}
 use Rattle.slip.proofs.Passes.{stayed_start, stayed_asks, stayed_step, stayed_stop, stayed_end, entry-room}
+use Rattle.checking.proofs.Exact.{stayed-along}
 use Rattle.checking.proofs.entries.stays_all.Goals as goal
 
 pub loop-i-init : goal.loop-i-init
@@ -9,16 +10,13 @@ loop-i-init c = stayed_start c.args.rules.now c.args.n c.args.d
 pub entry-requires : goal.entry-requires
 entry-requires c = entry-room c.requires.entries c.loop-i-test.true
 
-pub stays-requires : goal.stays-requires
-stays-requires c = stayed_asks c.requires c.loop-i-test.true c.entry.ensures
-
 pub loop-i-preserved : goal.loop-i-preserved
 loop-i-preserved c = stayed_step c.loop-i.invariant c.loop-i-test.true
-    c.entry.ensures (sym c.stays.ensures ∙ c.if-not-stays.false)
+    c.entry.ensures (sym (c.stays.ensures ∙ stayed-along (stayed_asks c.requires c.loop-i-test.true c.entry.ensures)) ∙ c.if-not-stays.false)
 
 pub returns-then-not-stays : goal.returns-then-not-stays
 returns-then-not-stays c = stayed_stop c.loop-i.invariant c.loop-i-test.true
-    c.entry.ensures (sym c.stays.ensures ∙ c.if-not-stays.true)
+    c.entry.ensures (sym (c.stays.ensures ∙ stayed-along (stayed_asks c.requires c.loop-i-test.true c.entry.ensures)) ∙ c.if-not-stays.true)
 
 pub returns : goal.returns
 returns c = stayed_end c.loop-i.invariant c.loop-i-test.false

@@ -1,21 +1,14 @@
 -- `checking::facts::all_tight` meets its contract.
 use mathlib.Core.Bool.{◌&&◌}
+use mathlib.Core.Path.{◌∙◌}
+use Rattle.checking.proofs.Exact.{tight-there}
 use Rattle.checking.proofs.facts.all_tight.Goals as goal
 
-pub tight-requires : goal.tight-requires
-tight-requires c = record { rule = c.requires.slots.first.rule; pair = c.requires.pair }
-
-pub tight-requires-2 : goal.tight-requires-2
-tight-requires-2 c = record {
-  rule = c.requires.slots.second.rule;
-  pair = c.requires.pair;
-}
-
-pub tight-requires-3 : goal.tight-requires-3
-tight-requires-3 c = record {
-  rule = c.requires.slots.third.rule;
-  pair = c.requires.pair;
-}
-
 pub returns : goal.returns
-returns c = λ i. c.tight.ensures i && c.tight-2.ensures i && c.tight-3.ensures i
+returns c =
+    let s = c.requires.slots in
+    let p = c.requires.pair in
+    let first = c.tight.ensures ∙ tight-there (record { rule = s.first.rule; pair = p }) in
+    let second = c.tight-2.ensures ∙ tight-there (record { rule = s.second.rule; pair = p }) in
+    let third = c.tight-3.ensures ∙ tight-there (record { rule = s.third.rule; pair = p }) in
+    λ i. first i && second i && third i

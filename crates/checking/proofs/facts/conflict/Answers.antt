@@ -13,15 +13,13 @@ looked_up-slots-requires c = chain-naming c.requires
 
 pub total-requires : goal.total-requires
 total-requires c =
-    let s = c in
-    subst SmallSlots (sym c.looked_up-slots.ensures) (chain-slots s.requires s.args.w)
+    subst SmallSlots (sym c.looked_up-slots.ensures) (chain-slots c.requires c.args.w)
 
 pub returns-then-within-sound : goal.returns-then-within-sound
 returns-then-within-sound c =
-    let s = c in
-    let w = s.args.w in
+    let w = c.args.w in
     let h = c.struct_told-1.given in
-    conflict-said s.args.t (indices s.args.records.now 0 s.args.n) (entries s.args.rules.now 0 s.args.n) w
+    conflict-said c.args.t (indices c.args.records.now 0 c.args.n) (entries c.args.rules.now 0 c.args.n) w
     c.looked_up-slots.ensures c.sound.ensures
     (c.within.ensures ∙ ap (λ z. ranges (pos 1) z (pos 3)) (unread {z = w.count}
     h.1.0.1)) c.if-within-sound.true
@@ -29,10 +27,9 @@ returns-then-within-sound c =
 
 pub returns-else-within-sound : goal.returns-else-within-sound
 returns-else-within-sound c =
-    let s = c in
-    let w = s.args.w in
+    let w = c.args.w in
     let h = c.struct_told-1.given in
-    conflict-refused s.args.t (indices s.args.records.now 0 s.args.n) (entries s.args.rules.now 0 s.args.n) w
+    conflict-refused c.args.t (indices c.args.records.now 0 c.args.n) (entries c.args.rules.now 0 c.args.n) w
     c.looked_up-slots.ensures c.sound.ensures
     (c.within.ensures ∙ ap (λ z. ranges (pos 1) z (pos 3)) (unread {z = w.count} h.1.0.1))
     c.if-within-sound.false

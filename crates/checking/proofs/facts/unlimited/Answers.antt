@@ -3,6 +3,7 @@ use mathlib.Core.Path.{sym, ◌∙◌}
 use Rattle.slip.proofs.Shares.{both}
 use Rattle.slip.specs.Runs.{indices, entries}
 use Rattle.slip.proofs.Judging.{pair_small, ray-small, unlimited-said, unlimited-refused}
+use Rattle.checking.proofs.Exact.{gained-along}
 use Rattle.checking.proofs.facts.unlimited.Goals as goal
 
 pub allowed-kept-requires : goal.allowed-kept-requires
@@ -17,11 +18,11 @@ allowed-kept-requires c =
     }
 
 pub stays_all-requires : goal.stays_all-requires
-stays_all-requires c = record { entries = c.requires.entries; ray = (let r = both c.pair_in_range.result c.ray_in_range.result c.if-pair_in_range-ray_in_range.true in ray-small c.args.d (sym c.ray_in_range.ensures ∙ r.1)) }
-
-pub gains-requires : goal.gains-requires
-gains-requires c =
-    record { objective = c.requires.terms.objective-small; ray = (let r = both c.pair_in_range.result c.ray_in_range.result c.if-pair_in_range-ray_in_range.true in ray-small c.args.d (sym c.ray_in_range.ensures ∙ r.1)) }
+stays_all-requires c = record {
+  entries = c.requires.entries;
+  ray = (let r = both c.pair_in_range.result c.ray_in_range.result c.if-pair_in_range-ray_in_range.true
+      in ray-small c.args.d (sym c.ray_in_range.ensures ∙ r.1));
+}
 
 pub returns-then-pair_in_range-ray_in_range : goal.returns-then-pair_in_range-ray_in_range
 returns-then-pair_in_range-ray_in_range c =
@@ -32,7 +33,12 @@ returns-then-pair_in_range-ray_in_range c =
     c.if-pair_in_range-ray_in_range.true
     c.allowed-kept.ensures
     c.stays_all.ensures
-    c.gains.ensures
+    (c.gains.ensures
+    ∙ gained-along (record {
+      objective = c.requires.terms.objective-small;
+      ray = (let r = both c.pair_in_range.result c.ray_in_range.result c.if-pair_in_range-ray_in_range.true
+          in ray-small c.args.d (sym c.ray_in_range.ensures ∙ r.1));
+    }))
     c.said.ensures
 
 pub returns-else-pair_in_range-ray_in_range : goal.returns-else-pair_in_range-ray_in_range

@@ -3,20 +3,11 @@ use Rattle.slip.proofs.Read.{judged_asks, accepted-verdict, refused-verdict}
 use Rattle.checking.proofs.lent.check_in.Goals as goal
 
 pub judged-requires : goal.judged-requires
-judged-requires c =
-    let s = c in
-    let r = c.read-head in
-    judged_asks s.args.book.now _ _ r.result _ _ r.ensures s.requires c.if-number-eq0.true
+judged-requires c = judged_asks c.args.book.now _ _ c.in-Ok.head _ _ c.in-Ok.ensures c.requires
 
-pub returns-then-number-eq0 : goal.returns-then-number-eq0
-returns-then-number-eq0 c =
-    let s = c in
-    let r = c.read-head in
-    accepted-verdict s.args.book.now _ _ r.result _ _ r.ensures s.requires c.if-number-eq0.true s.args.slip
-    c.judged.ensures
+pub returns-in-Ok : goal.returns-in-Ok
+returns-in-Ok c =
+    accepted-verdict c.args.book.now _ _ c.in-Ok.head _ _ c.in-Ok.ensures c.requires c.args.slip c.judged.ensures
 
-pub returns-else-number-eq0 : goal.returns-else-number-eq0
-returns-else-number-eq0 c =
-    let s = c in
-    let r = c.read-head in
-    refused-verdict s.args.book.now _ _ r.result _ _ r.ensures s.requires s.args.slip c.if-number-eq0.false
+pub returns-in-Err : goal.returns-in-Err
+returns-in-Err c = refused-verdict c.in-Err.ensures c.args.slip

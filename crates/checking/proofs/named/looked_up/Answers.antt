@@ -18,10 +18,9 @@ slot_at-requires-3 c = c.requires
 
 pub returns : goal.returns
 returns c =
-    let s = c in
-    let w = s.args.w in
+    let w = c.args.w in
     let h = c.struct_told-9-1.given in
-    let e = entry_of s.args.floors (indices s.args.records.now 0 s.args.n) (entries s.args.rules.now 0 s.args.n) in
+    let e = entry_of c.args.floors (indices c.args.records.now 0 c.args.n) (entries c.args.rules.now 0 c.args.n) in
     let n = unread {z = w.count} h.1.0.1 in
     let e1 = unread {z = w.first} h.1.1.0.1 in
     let w1 = unread {z = w.first_weight} h.1.1.1.0.1 in

@@ -5,17 +5,16 @@ use Rattle.checking.proofs.named.total.Goals as goal
 pub added-last-requires : goal.added-last-requires
 added-last-requires c = summed_read (last_summed c.requires)
 
-pub added-requires : goal.added-requires
-added-requires c = second_asks c.requires (last-added
-    c.requires c.added-last.ensures)
+pub added-rest-requires : goal.added-rest-requires
+added-rest-requires c = second_asks c.requires (last-added c.requires c.added-last.ensures)
 
-pub added-requires-2 : goal.added-requires-2
-added-requires-2 c =
+pub added-requires : goal.added-requires
+added-requires c =
     let h = c.requires in
-    first_asks h (second-added h (last-added h c.added-last.ensures) c.added.ensures)
+    first_asks h (second-added h (last-added h c.added-last.ensures) c.added-rest.ensures)
 
 pub returns : goal.returns
 returns c =
     let h = c.requires in
-    all-added h (second-added h (last-added h c.added-last.ensures) c.added.ensures)
-    c.added-2.ensures
+    all-added h (second-added h (last-added h c.added-last.ensures) c.added-rest.ensures)
+    c.added.ensures

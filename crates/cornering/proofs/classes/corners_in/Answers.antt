@@ -1,42 +1,22 @@
 -- `cornering::classes::corners_in` meets its contract: refused as read, or the list of the corners that were laid out.
+use mathlib.Core.Path.{sym}
 use mathlib.Core.List.{[]}
-use lib.ListN.{take}
-use lib.Seq.{length-take-le}
-use Rattle.records.specs.Layout.{v2}
-use Rattle.records.specs.Header.{count_of}
 use Rattle.book.proofs.Said.{said-refused}
-use Rattle.planner.proofs.Runs.{part_room}
-use Rattle.batching.proofs.Books.{ready}
-use Rattle.batching.proofs.Runs.{rules-room, named, ordered}
+use Rattle.batching.proofs.Runs.{entered}
 use Rattle.cornering.proofs.Books.{outlines-refused, outlines}
 use Rattle.cornering.proofs.classes.corners_in.Goals as goal
 
-pub returns-then-refusal-ne0 : goal.returns-then-refusal-ne0
-returns-then-refusal-ne0 c =
-    let read = c.read-head in
-    let a = c.args in
-    outlines-refused a.book.now a.out.now read.result.refusal.number read.result.refusal.at
-    (said-refused read.ensures c.if-refusal-ne0.true)
+pub returns-in-Err : goal.returns-in-Err
+returns-in-Err c = outlines-refused c.args.book.now c.args.out.now (said-refused c.in-Err.ensures)
 
 pub slice_bounds-lay-end : goal.slice_bounds-lay-end
-slice_bounds-lay-end c =
-    let read = c.read-head in
-    let start = c in
-    let s = start.args.book.now in
-    let l = start.args.run.now in
-    let x = ready (take 6 l) [] read.ensures (length-take-le 6 l start.requires.floors)
-    (λ z. part_room l (count_of v2 s) (rules-room start.requires z)) c.if-refusal-ne0.false in
-    named s read.result _ x start.requires read.new.records read.auto.records
+slice_bounds-lay-end c = (entered [] c.requires c.in-Ok.ensures c.read.auto.records).named
+
+pub slice_bounds-lay-end-2 : goal.slice_bounds-lay-end-2
+slice_bounds-lay-end-2 c = (entered [] c.requires c.in-Ok.ensures c.read.auto.records).ordered
 
 pub returns : goal.returns
 returns c =
-    let read = c.read-head in
-    let start = c in
-    let run = c.run-1 in
-    let s = start.args.book.now in
-    let l = start.args.run.now in
-    let x = ready (take 6 l) _ read.ensures (length-take-le 6 l start.requires.floors)
-    (λ z. part_room l (count_of v2 s) (rules-room start.requires z)) c.if-refusal-ne0.false in
-    outlines s read.result _ x start.requires _
-    (ordered s read.result _ x start.requires read.new.records read.auto.records) run.given.1 c.lay-listed.ensures
-    c.count_of.ensures start.args.out.now c.list_corners.ensures
+    let x = entered _ c.requires c.in-Ok.ensures c.read.auto.records in
+    outlines c.args.book.now _ _ x.ready c.requires _ (sym x.ordered) c.run-1.given.1 c.lay-listed.ensures
+    c.count_of.ensures c.args.out.now c.list_corners.ensures

@@ -10,7 +10,10 @@ use Rattle.model.specs.Bounds.{SmallRay}
 use Rattle.model.proofs.Bounds.{direction-small, facing-small}
 use Rattle.engine.specs.Entries.{entries}
 use Rattle.engine.proofs.Steps.{faced-tightest}
+use Rattle.engine.specs.Carrying.{Between}
+use Rattle.engine.proofs.Insertions.{given}
 use Rattle.engine.proofs.NewEdges.{between_ends, moved-there}
+use Rattle.exact.proofs.Exact.{direction-exact, facing-exact}
 use Rattle.engine.proofs.between.moved_to.Goals as goal
 
 pub upward-side-requires : goal.upward-side-requires
@@ -19,21 +22,22 @@ upward-side-requires c =
     record {
       objective = s.objective;
       tie = s.restarting.tie;
-      ray = subst SmallRay (sym c.direction.ensures) (direction-small s.restarting.h-small);
+      ray = subst SmallRay (sym (c.direction.ensures ∙ direction-exact c.requires.moving.restarting.h-small))
+          (direction-small s.restarting.h-small);
     }
 
 pub end_point-p-requires : goal.end_point-p-requires
 end_point-p-requires c =
-    between_ends c.requires.moving.restarting.h-small (c.requires.between c.if-cut.true)
+    let a = c.args in
+    between_ends c.requires.moving.restarting.h-small (given (Between a.entries.now a.n a.h) c.in-Some.is c.requires.between)
 
 pub returns-then-p-gt0 : goal.returns-then-p-gt0
 returns-then-p-gt0 c =
     let a = c.args in
     let d = c.end_point-p.result.d in
     let h = c.struct_told-1.given.1.1.0.1 in
-    moved-there (c.requires.between
-    c.if-cut.true) (gain_order a.objective a.tie)
-    c.direction.ensures
+    moved-there (given (Between a.entries.now a.n a.h) c.in-Some.is c.requires.between) (gain_order a.order.now.objective a.order.now.tie)
+    (c.direction.ensures ∙ direction-exact c.requires.moving.restarting.h-small)
     c.upward-side.ensures
     c.end_point-p.ensures (sym (ap (lt_z (pos 0)) (unread {z = d} h)) ∙ c.if-p-gt0.true)
     c.reduce.ensures
@@ -43,22 +47,23 @@ tightest-requires c =
     let s = c.requires.moving.restarting in
     record {
       entries = s.entries;
-      line_small = subst SmallConstraint (sym c.facing.ensures) (facing-small c.upward-side.result s.h-small);
+      line_small = subst SmallConstraint (sym (c.facing.ensures ∙ facing-exact c.requires.moving.restarting.h-small c.upward-side.result))
+          (facing-small c.upward-side.result s.h-small);
     }
 
 pub returns-in-None : goal.returns-in-None
 returns-in-None c =
     let a = c.args in
-    sym (ap found_point (sym (faced-tightest (gain_order a.objective a.tie) (entries a.entries.now 0 a.n) a.h
-    c.direction.ensures c.upward-side.ensures
-    c.facing.ensures c.tightest.ensures) ∙ c.in-None.is))
+    sym (ap found_point (sym (faced-tightest (gain_order a.order.now.objective a.order.now.tie) (entries a.entries.now 0 a.n) a.h
+    (c.direction.ensures ∙ direction-exact c.requires.moving.restarting.h-small) c.upward-side.ensures
+    (c.facing.ensures ∙ facing-exact c.requires.moving.restarting.h-small c.upward-side.result) c.tightest.ensures) ∙ c.in-None.is))
 
-pub returns-in-Some : goal.returns-in-Some
-returns-in-Some c =
+pub returns-in-Some-tightest : goal.returns-in-Some-tightest
+returns-in-Some-tightest c =
     let a = c.args in
-    c.reduce-in-Some.ensures
-    ∙ sym (ap found_point (sym (faced-tightest (gain_order a.objective a.tie) (entries a.entries.now 0 a.n) a.h
-    c.direction.ensures
+    c.reduce-in-Some-tightest.ensures
+    ∙ sym (ap found_point (sym (faced-tightest (gain_order a.order.now.objective a.order.now.tie) (entries a.entries.now 0 a.n) a.h
+    (c.direction.ensures ∙ direction-exact c.requires.moving.restarting.h-small)
     c.upward-side.ensures
-    c.facing.ensures c.tightest.ensures)
-    ∙ c.in-Some.is))
+    (c.facing.ensures ∙ facing-exact c.requires.moving.restarting.h-small c.upward-side.result) c.tightest.ensures)
+    ∙ c.in-Some-tightest.is))

@@ -11,7 +11,10 @@ use Rattle.model.proofs.Bounds.{direction-small, facing-small}
 use Rattle.engine.specs.Entries.{entries}
 use Rattle.engine.proofs.Passes.{along-small}
 use Rattle.engine.proofs.Steps.{restarted}
+use Rattle.engine.specs.Carrying.{Between}
+use Rattle.engine.proofs.Insertions.{given}
 use Rattle.engine.proofs.NewEdges.{between_ends, restarted-there}
+use Rattle.exact.proofs.Exact.{direction-exact, facing-exact}
 use Rattle.engine.proofs.between.start_at.Goals as goal
 
 pub returns-then-kept : goal.returns-then-kept
@@ -30,12 +33,16 @@ returns-then-is_level c =
 pub tie_upward-side-requires : goal.tie_upward-side-requires
 tie_upward-side-requires c =
     let s = c.requires.restarting in
-    record { tie = s.tie; ray = subst SmallRay (sym c.direction.ensures) (direction-small s.h-small) }
+    record {
+      tie = s.tie;
+      ray = subst SmallRay (sym (c.direction.ensures ∙ direction-exact c.requires.restarting.h-small))
+          (direction-small s.h-small);
+    }
 
 pub end_point-p-requires : goal.end_point-p-requires
 end_point-p-requires c =
-    between_ends c.requires.restarting.h-small
-    (c.requires.between c.if-cut.true)
+    let a = c.args in
+    between_ends c.requires.restarting.h-small (given (Between a.entries.now a.n a.h) c.in-Some.is c.requires.between)
 
 pub returns-then-p-gt0 : goal.returns-then-p-gt0
 returns-then-p-gt0 c =
@@ -43,9 +50,8 @@ returns-then-p-gt0 c =
     let d = c.end_point-p.result.d in
     let h = c.struct_told-1.given.1.1.0.1 in
     rw c.if-kept.false
-    (restarted-there (c.requires.between
-    c.if-cut.true) (tie_order a.tie)
-    c.direction.ensures
+    (restarted-there (given (Between a.entries.now a.n a.h) c.in-Some.is c.requires.between) (tie_order a.tie)
+    (c.direction.ensures ∙ direction-exact c.requires.restarting.h-small)
     c.tie_upward-side.ensures
     c.end_point-p.ensures (sym (ap (lt_z (pos 0)) (unread {z = d} h)) ∙ c.if-p-gt0.true)
     c.reduce.ensures a.tie refl)
@@ -55,13 +61,14 @@ tightest-found-requires c =
     let s = c.requires.restarting in
     record {
       entries = s.entries;
-      line_small = subst SmallConstraint (sym c.facing.ensures) (facing-small c.tie_upward-side.result s.h-small);
+      line_small = subst SmallConstraint (sym (c.facing.ensures ∙ facing-exact c.requires.restarting.h-small c.tie_upward-side.result))
+          (facing-small c.tie_upward-side.result s.h-small);
     }
 
 pub resettled-requires : goal.resettled-requires
 resettled-requires c =
     let s = c.requires.restarting in
-    let line = subst SmallConstraint (sym c.facing.ensures)
+    let line = subst SmallConstraint (sym (c.facing.ensures ∙ facing-exact c.requires.restarting.h-small c.tie_upward-side.result))
     (facing-small c.tie_upward-side.result s.h-small) in
     record {
       entries = s.entries;
@@ -76,5 +83,5 @@ returns c =
     (restarted a.tie (entries a.entries.now 0 a.n) a.n a.h
     (sym c.is_level.ensures
     ∙ c.if-is_level.false)
-    c.direction.ensures c.tie_upward-side.ensures
-    c.facing.ensures c.tightest-found.ensures c.resettled.ensures)
+    (c.direction.ensures ∙ direction-exact c.requires.restarting.h-small) c.tie_upward-side.ensures
+    (c.facing.ensures ∙ facing-exact c.requires.restarting.h-small c.tie_upward-side.result) c.tightest-found.ensures c.resettled.ensures)

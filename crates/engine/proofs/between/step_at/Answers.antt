@@ -1,41 +1,27 @@
 -- `engine::between::step_at` meets its contract: what the walk holds after one more constraint h, at index n, which has cut the ring.
-use mathlib.Core.Path.{sym, subst}
+use mathlib.Core.Path.{sym, ◌∙◌, subst}
 use native.Mathlib.Omega.{arith}
 use Rattle.model.specs.Bounds.{SmallCone}
 use Rattle.model.proofs.Bounds.{narrow-small}
 use Rattle.engine.specs.Entries.{entries}
-use Rattle.amounts.proofs.Sizes.{kept-distance}
 use Rattle.engine.proofs.Steps.{state_parts, step-ended, step-moved, step_failed}
+use Rattle.exact.proofs.Exact.{keeps-exact, kept-distance, narrow-exact}
 use Rattle.engine.proofs.between.step_at.Goals as goal
 
 pub returns-in_default : goal.returns-in_default
 returns-in_default c =
     let a = c.args in
-    step-ended a.tie a.objective (entries a.entries.now 0 a.n) a.n a.h a.walk c.in_default.is
+    step-ended a.order.now.tie a.order.now.objective (entries a.entries.now 0 a.n) a.n a.h a.walk c.in_default.is
 
 pub breaks-broken-requires : goal.breaks-broken-requires
 breaks-broken-requires c =
     let h = c.requires.stepping in
     record { h-small = h.moving.restarting.h-small; best = (state_parts h.state_small c.in-Going.is).2 }
 
-pub keeps-kept-requires : goal.keeps-kept-requires
-keeps-kept-requires c =
-    let h = c.requires.stepping in
-    kept-distance h.moving.restarting.h-small (state_parts h.state_small c.in-Going.is).0
-
 pub start_at-requires : goal.start_at-requires
 start_at-requires c =
     let p = c.requires in
     record { restarting = p.stepping.moving.restarting; between = p.between }
-
-pub narrow-wedge-requires : goal.narrow-wedge-requires
-narrow-wedge-requires c =
-    let h = c.requires.stepping in
-    record {
-      constraint = h.moving.restarting.h-small;
-      rays = (state_parts h.state_small
-          c.in-Going.is).1;
-    }
 
 pub improved_at-next-requires : goal.improved_at-next-requires
 improved_at-next-requires c =
@@ -48,7 +34,11 @@ improved_at-next-requires c =
           record {
             moving = h.moving;
             rays =
-                subst SmallCone (sym c.narrow-wedge.ensures)
+                subst SmallCone (sym (c.narrow-wedge.ensures ∙ narrow-exact _ _
+                (record {
+                  constraint = c.requires.stepping.moving.restarting.h-small;
+                  rays = (state_parts c.requires.stepping.state_small c.in-Going.is).1;
+                })))
                 (narrow-small h.moving.restarting.h-small
                 c.in-Going.cone s.1);
             best = s.2;
@@ -59,28 +49,33 @@ improved_at-next-requires c =
 
 pub going-requires : goal.going-requires
 going-requires c =
-    let s = c in
-    record { room = omega (arith, s.requires.stepping.opened-room, s.ranges.n.fits) }
+    record { room = omega (arith, c.requires.stepping.opened-room, c.ranges.n.fits) }
 
 pub returns-in-Ok : goal.returns-in-Ok
 returns-in-Ok c =
     let a = c.args in
-    step-moved a.tie a.objective (entries a.entries.now 0 a.n) a.n a.h a.walk
+    step-moved a.order.now.tie a.order.now.objective (entries a.entries.now 0 a.n) a.n a.h a.walk
     c.in-Going.is
-    c.keeps-kept.ensures
+    (c.keeps-kept.ensures ∙ keeps-exact _ _ (kept-distance c.requires.stepping.moving.restarting.h-small
+    (state_parts c.requires.stepping.state_small c.in-Going.is).0))
     c.start_at.ensures
     c.breaks-broken.ensures
     c.counted-moves.ensures
     c.counted-restarts.ensures
-    c.in-Ok.is c.narrow-wedge.ensures c.improved_at-next.ensures
+    c.in-Ok.is (c.narrow-wedge.ensures ∙ narrow-exact _ _
+    (record {
+      constraint = c.requires.stepping.moving.restarting.h-small;
+      rays = (state_parts c.requires.stepping.state_small c.in-Going.is).1;
+    })) c.improved_at-next.ensures
     c.going.ensures
 
 pub returns-in-Err : goal.returns-in-Err
 returns-in-Err c =
     let a = c.args in
-    step_failed a.tie a.objective (entries a.entries.now 0 a.n) a.n a.h a.walk
+    step_failed a.order.now.tie a.order.now.objective (entries a.entries.now 0 a.n) a.n a.h a.walk
     c.in-Going.is
-    c.keeps-kept.ensures c.start_at.ensures
+    (c.keeps-kept.ensures ∙ keeps-exact _ _ (kept-distance c.requires.stepping.moving.restarting.h-small
+    (state_parts c.requires.stepping.state_small c.in-Going.is).0)) c.start_at.ensures
     c.breaks-broken.ensures
     c.counted-moves.ensures c.counted-restarts.ensures
     c.in-Err.is

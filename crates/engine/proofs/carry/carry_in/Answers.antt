@@ -11,12 +11,12 @@ size-size-requires c = c.requires.carrying.walking.floors-small
 pub overflow_add-end : goal.overflow_add-end
 overflow_add-end c = omega (arith, c.requires.carrying.few)
 
-pub grow-arc-requires : goal.grow-arc-requires
-grow-arc-requires c =
+pub grow-held-requires : goal.grow-held-requires
+grow-held-requires c =
     carry_growing c.requires.carrying c.requires.room c.size-size.ensures
 
 pub loop-k-init : goal.loop-k-init
-loop-k-init c = (λ begun v. v, c.grow-arc.ensures.holding, refl)
+loop-k-init c = (λ begun v. v, c.grow-held.ensures.holding, refl)
 
 pub entry-h-requires : goal.entry-h-requires
 entry-h-requires c =
@@ -34,8 +34,7 @@ advance-next-requires c =
 
 pub loop-k-preserved : goal.loop-k-preserved
 loop-k-preserved c =
-    let test = c in
-    let s = test.requires.carrying in
+    let s = c.requires.carrying in
     let u = c.advance-next.ensures in (
       λ begun v.
           walked_step s.walking
@@ -50,7 +49,7 @@ loop-k-preserved c =
 
 pub shape_of-ring-else-rule_in_range : goal.shape_of-ring-else-rule_in_range
 shape_of-ring-else-rule_in_range c =
-    c.loop-k.invariant.2 ∙ c.grow-arc.ensures.same
+    c.loop-k.invariant.2 ∙ c.grow-held.ensures.same
 
 pub returns-else-rule_in_range : goal.returns-else-rule_in_range
 returns-else-rule_in_range c =
@@ -65,7 +64,7 @@ solution-requires c =
     answering s.walking (c.loop-k.invariant.0 _ (carrying-walked s))
 
 pub shape_of-ring : goal.shape_of-ring
-shape_of-ring c = c.loop-k.invariant.2 ∙ c.grow-arc.ensures.same
+shape_of-ring c = c.loop-k.invariant.2 ∙ c.grow-held.ensures.same
 
 pub returns : goal.returns
 returns c =

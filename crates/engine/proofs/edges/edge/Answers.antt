@@ -1,5 +1,4 @@
 -- `engine::edges::edge` meets its contract: the edge that an index names.
-use Prim.Native.Nat.{◌-◌}
 use lib.ListN.{get_or}
 use Rattle.engine.proofs.Rows.{edge-room, edge-horizon, edge-entry}
 use Rattle.engine.proofs.edges.edge.Goals as goal

@@ -34,17 +34,17 @@ overflow_cast-i c = omega (arith, c.loop-k-test.true, c.requires.few)
 pub entry-requires : goal.entry-requires
 entry-requires c = record { room = omega (arith, c.loop-k-test.true, c.requires.entries.room) }
 
-pub insert-arc-requires : goal.insert-arc-requires
-insert-arc-requires c =
-    holding_inserting c.loop-k.invariant.0
+pub insert-held-requires : goal.insert-held-requires
+insert-held-requires c =
+    holding_inserting c.loop-k.k c.loop-k.invariant.0
     (grow-taken c.requires c.loop-k-test.true)
     (grow-size c.requires) c.entry.ensures
 
 pub loop-k-preserved : goal.loop-k-preserved
 loop-k-preserved c = (
-  holding-next c.loop-k.invariant.0 c.entry.ensures
-      c.insert-arc.ensures,
-  c.insert-arc.ensures.same ∙ c.loop-k.invariant.1,
+  holding-next c.loop-k.k c.loop-k.invariant.0 c.entry.ensures
+      c.insert-held.ensures,
+  c.insert-held.ensures.same ∙ c.loop-k.invariant.1,
   omega (arith, c.loop-k-test.true),
 )
 

@@ -2,8 +2,8 @@
 use mathlib.Core.Path.{◌≡◌}
 use Prim.Native.Nat.{◌≤◌}
 use lib.ListN.{length}
-use Rattle.engine.specs.Rings.{Holding}
+use Rattle.engine.specs.Rings.{Carries}
 use Rattle.engine.proofs.grow.grow.Given as goal
 
 abbrev pub invariant-loop-k : goal.invariant-loop-k
-invariant-loop-k l = Holding l.run l.ring l.size l.k l.arc × (length l.ring ≡ length l.initial.ring) × (l.k ≤ l.m)
+invariant-loop-k l = Carries l.run l.ring l.size l.k l.held × (length l.ring ≡ length l.initial.ring) × (l.k ≤ l.m)

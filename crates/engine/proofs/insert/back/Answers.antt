@@ -1,11 +1,12 @@
 -- `engine::insert::back` meets its contract: the edges at the back are dropped whose earlier corner is broken.
 use mathlib.Core.Path.{sym, ◌∙◌}
 use native.Mathlib.Omega.{arith}
-use Rattle.engine.proofs.Drops.{back_start, back-pair, back-stop, back_step, back_end}
+use Rattle.engine.proofs.Drops.{back-pair}
+use Rattle.engine.proofs.Dropping.{back_start, back-stop, back_step, back_end}
 use Rattle.engine.proofs.insert.back.Goals as goal
 
 pub loop-k-init : goal.loop-k-init
-loop-k-init c = back_start c.requires
+loop-k-init c = back_start c.requires.some
 
 pub overflow_add-at : goal.overflow_add-at
 overflow_add-at c = omega (arith, c.requires.ring.fits, c.loop-k.invariant.inside)
@@ -18,13 +19,13 @@ corner_keeps-requires c = back-pair c.requires c.loop-k.invariant c.loop-k-test.
 
 pub returns-then-corner_keeps : goal.returns-then-corner_keeps
 returns-then-corner_keeps c =
-    back-stop c.requires c.loop-k.invariant
+    back-stop c.loop-k.invariant
     c.loop-k-test.true (sym c.corner_keeps.ensures ∙ c.if-corner_keeps.true)
 
 pub loop-k-preserved : goal.loop-k-preserved
 loop-k-preserved c =
-    back_step c.requires c.loop-k.invariant
+    back_step c.loop-k.invariant
     c.loop-k-test.true (sym c.corner_keeps.ensures ∙ c.if-corner_keeps.false)
 
 pub returns : goal.returns
-returns c = back_end c.requires c.loop-k.invariant c.loop-k-test.false
+returns c = back_end c.loop-k.invariant c.loop-k-test.false

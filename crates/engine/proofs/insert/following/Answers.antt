@@ -12,16 +12,16 @@ overflow_add-k c = omega (arith, c.requires.inside)
 pub overflow_add-result : goal.overflow_add-result
 overflow_add-result c = omega (arith, c.requires.inside)
 
-pub overflow_add-result-then-k-n : goal.overflow_add-result-then-k-n
-overflow_add-result-then-k-n c = omega (arith, c.requires.room, c.requires.inside)
+pub overflow_add-result-then-k-arc : goal.overflow_add-result-then-k-arc
+overflow_add-result-then-k-arc c = omega (arith, c.requires.room, c.requires.inside)
 
-pub returns-then-k-n : goal.returns-then-k-n
-returns-then-k-n c =
+pub returns-then-k-arc : goal.returns-then-k-arc
+returns-then-k-arc c =
     let a = c.args in
-    ap (λ (j : ℕ). a.lo + j) (sym (following-is a.n a.k (lt-ltb (a.k + 1) a.n c.if-k-n.true)))
+    ap (λ (j : ℕ). a.arc.lo + j) (sym (following-is a.arc.n a.k (lt-ltb (a.k + 1) a.arc.n c.if-k-arc.true)))
 
-pub returns-else-k-n : goal.returns-else-k-n
-returns-else-k-n c =
+pub returns-else-k-arc : goal.returns-else-k-arc
+returns-else-k-arc c =
     let a = c.args in
-    let none : a.lo ≡ a.lo + 0 = omega arith in
-    none ∙ ap (λ (j : ℕ). a.lo + j) (sym (following-is a.n a.k (le-ltb (a.k + 1) a.n c.if-k-n.false)))
+    let none : a.arc.lo ≡ a.arc.lo + 0 = omega arith in
+    none ∙ ap (λ (j : ℕ). a.arc.lo + j) (sym (following-is a.arc.n a.k (le-ltb (a.k + 1) a.arc.n c.if-k-arc.false)))

@@ -2,12 +2,14 @@
 use mathlib.Core.Path.{sym, ◌∙◌, subst}
 use Prim.Native.Nat.{ℕ}
 use native.Mathlib.Omega.{arith}
+use Rattle.engine.specs.Row.{named}
 use Rattle.engine.specs.Rings.{Dropped}
-use Rattle.engine.proofs.Drops.{front-start, front-pair, front-stop, front-step, front-end}
+use Rattle.engine.proofs.Drops.{front-pair}
+use Rattle.engine.proofs.Dropping.{front-start, front-stop, front-step, front-end}
 use Rattle.engine.proofs.insert.front.Goals as goal
 
 pub loop-i-init : goal.loop-i-init
-loop-i-init c = front-start c.requires
+loop-i-init c = front-start c.requires.some
 
 pub overflow_sub-last : goal.overflow_sub-last
 overflow_sub-last c = omega (arith, c.requires.some)
@@ -19,20 +21,20 @@ pub overflow_add-at-in-loop-i : goal.overflow_add-at-in-loop-i
 overflow_add-at-in-loop-i c = omega (arith, c.requires.ring.fits)
 
 pub corner_keeps-requires : goal.corner_keeps-requires
-corner_keeps-requires c = front-pair c.requires c.loop-i.invariant (omega arith)
+corner_keeps-requires c = front-pair c.requires c.loop-i.i (omega arith)
 
 pub returns-then-corner_keeps : goal.returns-then-corner_keeps
 returns-then-corner_keeps c =
-    front-stop c.requires c.loop-i.invariant (omega arith)
+    front-stop c.loop-i.invariant (omega arith)
     (sym c.corner_keeps.ensures ∙ c.if-corner_keeps.true)
 
 pub loop-i-preserved : goal.loop-i-preserved
 loop-i-preserved c =
-    front-step c.requires c.loop-i.invariant (omega arith)
+    front-step c.loop-i.invariant (omega arith)
     (sym c.corner_keeps.ensures ∙ c.if-corner_keeps.false)
 
 pub returns : goal.returns
 returns c =
     let a = c.args in
-    subst (λ (i : ℕ). Dropped a.run.now a.ring.now a.lo a.n a.h i) (omega arith)
-    (front-end c.requires c.loop-i.invariant (omega arith))
+    subst (λ (i : ℕ). Dropped (named a.run.now) a.ring.now a.arc.lo a.arc.n a.h i) (omega arith)
+    (front-end c.loop-i.invariant (omega arith))

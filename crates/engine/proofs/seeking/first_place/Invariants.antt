@@ -3,4 +3,4 @@ use Prim.Native.Nat.{◌<◌}
 use Rattle.engine.proofs.seeking.first_place.Given as goal
 
 abbrev pub invariant-loop-k : goal.invariant-loop-k
-invariant-loop-k l = l.k < l.n
+invariant-loop-k l = l.k < l.arc.n

@@ -1,29 +1,15 @@
 -- `engine::seeking::halved` meets its contract: an edge of the ring.
+use mathlib.Core.Path.{◌∙◌}
 use Prim.Native.Nat.{◌+◌, ◌-◌, ◌/◌}
 use native.Mathlib.Omega.{arith}
-use Rattle.engine.proofs.Rows.{at-point, meet-small, read_small, ring-at, ring-small}
+use Rattle.engine.proofs.Rows.{meet-small, read_small, ring-at, ring-small}
+use Rattle.exact.proofs.Exact.{meet-exact}
 use Rattle.engine.proofs.seeking.halved.Goals as goal
 
 pub edge-first-requires : goal.edge-first-requires
 edge-first-requires c =
     let p = c.requires.seeking in
-    ring-at p.ring c.args.lo (omega arith) (omega (arith, p.two))
-
-pub meet-v-requires : goal.meet-v-requires
-meet-v-requires c =
-    let p = c.requires in
-    record {
-      first = p.size_small;
-      second = read_small
-          (ring-small p.seeking.ring c.args.lo (omega arith) (omega (arith, p.seeking.two)))
-          c.edge-first.ensures;
-    }
-
-pub keeps-early-requires : goal.keeps-early-requires
-keeps-early-requires c =
-    let p = c.requires.seeking in
-    let first = ring-small p.ring c.args.lo (omega arith) (omega (arith, p.two)) in
-    at-point (read_small first c.edge-first.ensures) p.w-small
+    ring-at p.ring c.args.arc.lo (omega arith) (omega (arith, p.two))
 
 pub loop-from-init : goal.loop-from-init
 loop-from-init c = (omega (arith, c.requires.seeking.two), omega arith)
@@ -39,30 +25,29 @@ overflow_add-middle c =
     let p = c.requires.seeking in
     omega (arith, c.loop-from.invariant.0, c.loop-from.invariant.1, p.ring.fits)
 
-pub overflow_add-lo : goal.overflow_add-lo
-overflow_add-lo c =
+pub overflow_add-arc : goal.overflow_add-arc
+overflow_add-arc c =
     let p = c.requires.seeking in
     omega (arith, c.loop-from.invariant.0, c.loop-from.invariant.1, p.ring.fits)
 
 pub edge-x-requires : goal.edge-x-requires
 edge-x-requires c =
-    let s = c in
     let l = c.loop-from in
-    ring-at s.requires.seeking.ring (s.args.lo + (l.from + (l.to - l.from) / 2)) (omega arith) (omega (arith, l.invariant.0, l.invariant.1))
+    ring-at c.requires.seeking.ring (c.args.arc.lo + (l.from + (l.to - l.from) / 2)) (omega arith)
+    (omega (arith, l.invariant.0, l.invariant.1))
 
 pub comes_before-requires : goal.comes_before-requires
 comes_before-requires c =
-    let s = c in
-    let p = s.requires.seeking in
+    let p = c.requires.seeking in
     let l = c.loop-from in
-    let first = ring-small p.ring s.args.lo (omega arith) (omega (arith, p.two)) in
+    let first = ring-small p.ring c.args.arc.lo (omega arith) (omega (arith, p.two)) in
     record {
       v-small =
-          meet-small s.requires.size_small (read_small first c.edge-first.ensures)
-          c.meet-v.ensures;
+          meet-small c.requires.size_small (read_small first c.edge-first.ensures)
+          (c.meet-v.ensures ∙ meet-exact (record { first = c.requires.size_small; second = read_small first c.edge-first.ensures }));
       x-small =
           read_small
-          (ring-small p.ring (s.args.lo + (l.from + (l.to - l.from) / 2)) (omega arith) (omega (arith, l.invariant.0, l.invariant.1)))
+          (ring-small p.ring (c.args.arc.lo + (l.from + (l.to - l.from) / 2)) (omega arith) (omega (arith, l.invariant.0, l.invariant.1)))
           c.edge-x.ensures;
       w-small = p.w-small;
     }
@@ -72,8 +57,7 @@ loop-from-smaller-then-comes_before c = omega (arith, c.loop-from-test.true, c.l
 
 pub loop-from-preserved-then-comes_before : goal.loop-from-preserved-then-comes_before
 loop-from-preserved-then-comes_before c =
-    let t = c in
-    (omega (arith, t.loop-from-test.true, t.loop-from.invariant.0), t.loop-from.invariant.1)
+    (omega (arith, c.loop-from-test.true, c.loop-from.invariant.0), c.loop-from.invariant.1)
 
 pub loop-from-smaller : goal.loop-from-smaller
 loop-from-smaller c = omega (arith, c.loop-from-test.true, c.loop-from.invariant.0)

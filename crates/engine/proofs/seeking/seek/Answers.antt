@@ -9,7 +9,7 @@ use Rattle.engine.proofs.seeking.seek.Goals as goal
 pub is_between-requires : goal.is_between-requires
 is_between-requires c =
     let p = c.requires.seeking in
-    let lo = c.args.lo in
+    let lo = c.args.arc.lo in
     ring-place p.ring p.w-small lo (lo + 1) (omega arith) (omega (arith, p.two)) (omega arith) (omega (arith, p.two))
 
 pub returns-then-is_between : goal.returns-then-is_between
@@ -19,16 +19,16 @@ pub is_between-requires-2 : goal.is_between-requires-2
 is_between-requires-2 c =
     let p = c.requires.seeking in
     let a = c.args in
-    ring-place p.ring p.w-small (a.lo + (a.n - 1)) a.lo (omega arith) (omega (arith, p.two)) (omega arith)
+    ring-place p.ring p.w-small (a.arc.lo + (a.arc.n - 1)) a.arc.lo (omega arith) (omega (arith, p.two)) (omega arith)
     (omega (arith, p.two))
 
 pub returns-then-is_between-2 : goal.returns-then-is_between-2
-returns-then-is_between-2 c = sought-last (omega arith) (sym c.is_between-2.ensures ∙ c.if-is_between-2.true)
+returns-then-is_between-2 c = sought-last (omega arith) (omega arith) (sym c.is_between-2.ensures ∙ c.if-is_between-2.true)
 
 pub is_between-requires-then-k-last : goal.is_between-requires-then-k-last
 is_between-requires-then-k-last c =
     let p = c.requires.seeking in
-    let lo = c.args.lo in
+    let lo = c.args.arc.lo in
     let k = c.halved-k.result in
     ring-place p.ring p.w-small (lo + k) (lo + k + 1) (omega arith) (omega (arith, c.if-k-last.true)) (omega arith)
     (omega (arith, c.if-k-last.true))

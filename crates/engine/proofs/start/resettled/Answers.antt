@@ -5,8 +5,7 @@ use Rattle.engine.proofs.start.resettled.Goals as goal
 
 pub first_broken-requires : goal.first_broken-requires
 first_broken-requires c =
-    let s = c in
-    record { entries = s.requires.entries; point = (found-parts s.requires.found-small c.in-Some.is).1 }
+    record { entries = c.requires.entries; point = (found-parts c.requires.found-small c.in-Some.is).1 }
 
 pub conflict-requires : goal.conflict-requires
 conflict-requires c =

@@ -3,7 +3,7 @@ use Rattle.engine.proofs.Turns.{Backed}
 use Rattle.engine.proofs.turning.backwards.Given as goal
 
 abbrev pub invariant-loop-at : goal.invariant-loop-at
-invariant-loop-at l = Backed l.initial.ring l.lo l.n l.k l.at l.ring
+invariant-loop-at l = Backed l.initial.ring l.arc.lo l.arc.n l.k l.at l.ring
 
 abbrev pub decreases-loop-at : goal.decreases-loop-at
 decreases-loop-at l = l.at

@@ -33,5 +33,5 @@ shape_of-ring c = c.loop-at.invariant.turned.same
 pub returns : goal.returns
 returns c =
     let a = c.args in
-    subst (λ (at : ℕ). Faces a.ring.now a.lo a.n a.k at c.loop-at.ring) (omega (arith, c.loop-at.invariant.inside))
+    subst (λ (at : ℕ). Faces a.ring.now a.arc.lo a.arc.n a.k at c.loop-at.ring) (omega (arith, c.loop-at.invariant.inside))
     (forth_end c.requires c.loop-at.invariant c.loop-at-test.false)

@@ -5,8 +5,7 @@ use Rattle.engine.proofs.verdict.solution.Goals as goal
 
 pub said-requires : goal.said-requires
 said-requires c =
-    let s = c in
-    record { functional = s.requires.objective; rays = (state_parts s.requires.state_small c.in-Going.is).1 }
+    record { functional = c.requires.objective; rays = (state_parts c.requires.state_small c.in-Going.is).1 }
 
 pub returns-in-Ended : goal.returns-in-Ended
 returns-in-Ended c = let a = c.args in solution-ended a.objective a.walk c.in-Ended.is

@@ -1,40 +1,24 @@
 -- `engine::walk::step` meets its contract: what the walk holds after one more constraint h, at index n.
-use mathlib.Core.Path.{sym, subst}
+use mathlib.Core.Path.{sym, ◌∙◌, subst}
 use Rattle.model.specs.Bounds.{SmallCone}
 use Rattle.model.proofs.Bounds.{narrow-small}
 use Rattle.engine.specs.Entries.{entries}
-use Rattle.amounts.proofs.Sizes.{kept-distance}
 use Rattle.engine.proofs.Steps.{state_parts, step-ended, step-moved, step_failed}
+use Rattle.exact.proofs.Exact.{keeps-exact, kept-distance, narrow-exact}
 use Rattle.engine.proofs.walk.step.Goals as goal
 
 pub returns-in_default : goal.returns-in_default
 returns-in_default c =
-    step-ended c.args.tie c.args.objective
+    step-ended c.args.order.now.tie c.args.order.now.objective
     (entries c.args.entries.now 0 c.args.n) c.args.n
     c.args.h c.args.walk c.in_default.is
 
 pub breaks-broken-requires : goal.breaks-broken-requires
 breaks-broken-requires c =
-    let s = c in
-    record { h-small = s.requires.moving.restarting.h-small; best = (state_parts s.requires.state_small c.in-Going.is).2 }
-
-pub keeps-kept-requires : goal.keeps-kept-requires
-keeps-kept-requires c =
-    let s = c in
-    kept-distance s.requires.moving.restarting.h-small (state_parts s.requires.state_small c.in-Going.is).0
+    record { h-small = c.requires.moving.restarting.h-small; best = (state_parts c.requires.state_small c.in-Going.is).2 }
 
 pub start-requires : goal.start-requires
 start-requires c = c.requires.moving.restarting
-
-pub narrow-wedge-requires : goal.narrow-wedge-requires
-narrow-wedge-requires c =
-    let s = c in
-    record {
-      constraint = s.requires.moving.restarting.h-small;
-      rays =
-          (state_parts s.requires.state_small
-          c.in-Going.is).1;
-    }
 
 pub improved-next-requires : goal.improved-next-requires
 improved-next-requires c =
@@ -44,7 +28,8 @@ improved-next-requires c =
     record {
       moving = h.moving;
       rays =
-          subst SmallCone (sym c.narrow-wedge.ensures)
+          subst SmallCone (sym (c.narrow-wedge.ensures ∙ narrow-exact _ _
+          (record { constraint = c.requires.moving.restarting.h-small; rays = (state_parts c.requires.state_small c.in-Going.is).1 })))
           (narrow-small h.moving.restarting.h-small
           c.in-Going.cone s.1);
       best = s.2;
@@ -53,22 +38,24 @@ improved-next-requires c =
 
 pub returns-in-Ok : goal.returns-in-Ok
 returns-in-Ok c =
-    let s = c in
-    step-moved s.args.tie s.args.objective (entries s.args.entries.now 0 s.args.n) s.args.n s.args.h
-    s.args.walk c.in-Going.is
-    c.keeps-kept.ensures
+    step-moved c.args.order.now.tie c.args.order.now.objective (entries c.args.entries.now 0 c.args.n) c.args.n c.args.h
+    c.args.walk c.in-Going.is
+    (c.keeps-kept.ensures ∙ keeps-exact _ _ (kept-distance c.requires.moving.restarting.h-small
+    (state_parts c.requires.state_small c.in-Going.is).0))
     c.start.ensures
     c.breaks-broken.ensures
     c.counted-moves.ensures
     c.counted-restarts.ensures c.in-Ok.is
-    c.narrow-wedge.ensures c.improved-next.ensures c.going.ensures
+    (c.narrow-wedge.ensures ∙ narrow-exact _ _
+    (record { constraint = c.requires.moving.restarting.h-small; rays = (state_parts c.requires.state_small c.in-Going.is).1 }))
+    c.improved-next.ensures c.going.ensures
 
 pub returns-in-Err : goal.returns-in-Err
 returns-in-Err c =
-    let s = c in
-    step_failed s.args.tie s.args.objective (entries s.args.entries.now 0 s.args.n) s.args.n s.args.h
-    s.args.walk c.in-Going.is
-    c.keeps-kept.ensures c.start.ensures
+    step_failed c.args.order.now.tie c.args.order.now.objective (entries c.args.entries.now 0 c.args.n) c.args.n c.args.h
+    c.args.walk c.in-Going.is
+    (c.keeps-kept.ensures ∙ keeps-exact _ _ (kept-distance c.requires.moving.restarting.h-small
+    (state_parts c.requires.state_small c.in-Going.is).0)) c.start.ensures
     c.breaks-broken.ensures
     c.counted-moves.ensures c.counted-restarts.ensures
     c.in-Err.is

@@ -32,17 +32,15 @@ overflow_sub-end c = omega (arith, c.loop-i-test.true)
 
 pub carry_on-requires : goal.carry_on-requires
 carry_on-requires c =
-    let t = c in
-    let s = t in
     let spent = c.left_over-budget.result in
-    let rest = s.args.n + 2 - (t.loop-i.i + 1) in
-    let pays = both (ltb spent 1 && ltb 48 rest) (leb s.args.n 8190) (sym c.pays.ensures ∙ c.if-pays.true) in
-    walked-carrying s.requires
-    (walked_step s.requires t.loop-i.invariant
-    t.loop-i-test.true
-    t.entry-h.ensures t.rule_in_range.ensures t.if-rule_in_range.true
-    t.tie.ensures t.step-walk.ensures)
-    t.begin-walk.ensures (leb-true s.args.n 8190 pays.1)
+    let rest = c.args.n + 2 - (c.loop-i.i + 1) in
+    let pays = both (ltb spent 1 && ltb 48 rest) (leb c.args.n 8190) (sym c.pays.ensures ∙ c.if-pays.true) in
+    walked-carrying c.requires
+    (walked_step c.requires c.loop-i.invariant
+    c.loop-i-test.true
+    c.entry-h.ensures c.rule_in_range.ensures c.if-rule_in_range.true
+    c.tie.ensures c.step-walk.ensures)
+    c.begin-walk.ensures (leb-true c.args.n 8190 pays.1)
 
 pub returns-then-pays : goal.returns-then-pays
 returns-then-pays c =
@@ -50,12 +48,10 @@ returns-then-pays c =
 
 pub loop-i-preserved : goal.loop-i-preserved
 loop-i-preserved c =
-    let t = c in
-    let s = t in
-    walked_step s.requires t.loop-i.invariant
-    t.loop-i-test.true t.entry-h.ensures
-    t.rule_in_range.ensures t.if-rule_in_range.true
-    t.tie.ensures t.step-walk.ensures
+    walked_step c.requires c.loop-i.invariant
+    c.loop-i-test.true c.entry-h.ensures
+    c.rule_in_range.ensures c.if-rule_in_range.true
+    c.tie.ensures c.step-walk.ensures
 
 pub returns-else-rule_in_range : goal.returns-else-rule_in_range
 returns-else-rule_in_range c =

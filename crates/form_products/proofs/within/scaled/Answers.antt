@@ -4,15 +4,12 @@ use Rattle.form_products.proofs.within.scaled.Goals as goal
 
 pub returns : goal.returns
 returns c =
-    let third = c in
-    let second = third in
-    let first = second in
-    let pre = first.requires in
+    let pre = c.requires in
     let f = pre.left in
     let g = pre.right in
     limited-form
     (form-is
-    (cross-is f.a g.c f.c g.a first.cross.ensures)
-    (cross-is f.b g.c f.c g.b second.cross-2.ensures)
-    (product_is f.c g.c third.cross-3.ensures))
+    (cross-is f.a g.c f.c g.a c.cross.ensures)
+    (cross-is f.b g.c f.c g.b c.cross-2.ensures)
+    (product_is f.c g.c c.cross-3.ensures))
     c.limited.ensures

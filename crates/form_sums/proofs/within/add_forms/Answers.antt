@@ -4,10 +4,8 @@ use Rattle.form_sums.proofs.within.add_forms.Goals as goal
 
 pub returns : goal.returns
 returns c =
-    let second = c in
-    let first = second in
-    let pre = first.requires in
+    let pre = c.requires in
     form-is
-    (add_is pre.left.a pre.right.a first.add.ensures)
-    (add_is pre.left.b pre.right.b second.add-2.ensures)
+    (add_is pre.left.a pre.right.a c.add.ensures)
+    (add_is pre.left.b pre.right.b c.add-2.ensures)
     (add_is pre.left.c pre.right.c c.add-3.ensures)

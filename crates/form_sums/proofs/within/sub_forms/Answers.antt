@@ -4,10 +4,8 @@ use Rattle.form_sums.proofs.within.sub_forms.Goals as goal
 
 pub returns : goal.returns
 returns c =
-    let second = c in
-    let first = second in
-    let pre = first.requires in
+    let pre = c.requires in
     form-is
-    (sub_is pre.left.a pre.right.a first.sub.ensures)
-    (sub_is pre.left.b pre.right.b second.sub-2.ensures)
+    (sub_is pre.left.a pre.right.a c.sub.ensures)
+    (sub_is pre.left.b pre.right.b c.sub-2.ensures)
     (sub_is pre.left.c pre.right.c c.sub-3.ensures)

@@ -57,6 +57,5 @@ shape_of-entries c = search rules
 -- src/read.rt:13:1
 pub returns : goal.returns
 returns c =
-    let start = c in
-    reads-behind start.args.book.now start.args.n start.args.names.now start.args.entries.now start.requires
+    reads-behind c.args.bytes.now c.args.n c.args.names.now c.args.entries.now c.requires
     c.read.result c.read.new.records _ c.read.ensures

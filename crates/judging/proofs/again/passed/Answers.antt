@@ -2,7 +2,6 @@
 -- those on the way.
 use native.Mathlib.Omega.{arith}
 use mathlib.Core.Path.{◌≡◌, refl, ap, ◌∙◌}
-use Rattle.records.specs.Layout.{layout_of}
 use Rattle.records.specs.declared.fields.Fields.{Fields}
 use Rattle.book.specs.Judging.{record_after, is_passed}
 use Rattle.book.proofs.Leading.{after_more, passed-more}
@@ -17,8 +16,8 @@ loop-preserved c =
     let l = c.loop in
     let a = c.args in
     let link = ap (λ (f : Fields). f.link) c.fields_at-at.ensures in (
-      after_more (layout_of a.version) a.book.now l.counter l.invariant.0 link,
-      passed-more (layout_of a.version) a.book.now l.counter l.invariant.0 link a.index l.invariant.1,
+      after_more a.book.now.layout a.book.now.bytes l.counter l.invariant.0 link,
+      passed-more a.book.now.layout a.book.now.bytes l.counter l.invariant.0 link a.index l.invariant.1,
     )
 
 pub returns : goal.returns
@@ -26,4 +25,4 @@ returns c =
     let a = c.args in
     let l = c.loop in
     let end : l.counter ≡ a.n = omega arith in
-    l.invariant.1 ∙ ap (λ k. is_passed (layout_of a.version) a.book.now k a.index) end
+    l.invariant.1 ∙ ap (λ k. is_passed a.book.now.layout a.book.now.bytes k a.index) end

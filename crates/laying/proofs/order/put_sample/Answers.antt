@@ -1,6 +1,6 @@
 -- `laying::order::put_sample` meets its contract: no more rules are taken than there are.
 use native.Mathlib.Omega.{arith}
-use Prim.Native.Nat.{◌-◌, ◌+◌}
+use Prim.Native.Nat.{◌+◌}
 use mathlib.Core.Path.{refl, ◌∙◌}
 use lib.ListN.{length-set}
 use Rattle.laying.proofs.order.put_sample.Goals as goal

@@ -1,4 +1,3 @@
-use Rattle.std.proofs.Common.{◌-◌}
 use Rattle.numerals.proofs.digits.+put_decimal.Given as goal
 
 -- proposed from what the function passes where it calls itself

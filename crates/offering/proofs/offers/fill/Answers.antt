@@ -1,6 +1,6 @@
 -- `offering::offers::fill` meets its contract: after i turns the first i answers are written (`one_more`).
 use native.Mathlib.Omega.{arith}
-use Prim.Native.Nat.{◌+◌, ◌-◌, ◌*◌, ◌/◌}
+use Prim.Native.Nat.{◌*◌, ◌/◌}
 use mathlib.Core.Path.{◌≡◌, refl, sym, ap, ◌∙◌, subst}
 use mathlib.Core.List.{◌++◌}
 use lib.ListN.{length, drop}
@@ -28,8 +28,8 @@ loop-i-init c =
       c.requires,
     )
 
-pub offered-o-requires : goal.offered-o-requires
-offered-o-requires c =
+pub offered-offer-requires : goal.offered-offer-requires
+offered-offer-requires c =
     let l = c.loop-i in
     let a = c.args in
     let pre = l.invariant.5 in
@@ -52,11 +52,11 @@ pub loop-i-preserved : goal.loop-i-preserved
 loop-i-preserved c =
     let l = c.loop-i in
     let a = c.args in
-    let offered = c.offered-o in
+    let offered = c.offered-offer in
     let objective = c.objective in
     let read = objective.ensures
     ∙ objective-there a.objectives.now l.i c.loop-i-test.true in
-    let put = c.put_answer in
+    let put = c.put_offer in
     let answer = offer_in a.cone (points_from a.corners.now 0 a.count) in
     let pre = l.invariant.5 in (
       omega arith,

@@ -1,6 +1,5 @@
 -- `offering::offers::offer_all` meets its contract: without corners that were listed nothing is written.
 use Rattle.std.specs.Prelude.{Option}
-use borrow.Author.Rules.{rules}
 use native.Mathlib.Omega.{arith}
 use mathlib.Core.Path.{sym, ap, ◌∙◌, subst}
 use mathlib.Core.List.{◌++◌}
@@ -18,19 +17,17 @@ use Rattle.offering.proofs.offers.offer_all.Goals as goal
 
 pub rays-requires : goal.rays-requires
 rays-requires c =
-    let start = c in
-    (start.requires.inside _ c.in-Some.is).ruled
+    (c.requires.inside _ c.in-Some.is).ruled
 
 pub fill-requires : goal.fill-requires
 fill-requires c =
-    let start = c in
-    let listing = start.requires.inside _ c.in-Some.is in
-    let rules = entries start.args.run.now 2 start.args.n in
+    let listing = c.requires.inside _ c.in-Some.is in
+    let rules = entries c.args.run.now 2 c.args.n in
     record {
       rays = subst SmallCone (sym c.rays.ensures) (rays-small rules listing.ruled.rules-small);
       points = listing.points;
-      sound = start.requires.sound;
-      room = start.requires.room;
+      sound = c.requires.sound;
+      room = c.requires.room;
     }
 
 pub overflow_mul-result : goal.overflow_mul-result

@@ -17,32 +17,28 @@ corner-v-requires c = point-room c.requires.points (omega (arith, c.if-count-eq0
 
 pub loop-i-init : goal.loop-i-init
 loop-i-init c =
-    let s = c in
-    picked-start (gain_order s.args.f document.tie) s.requires.points (omega (arith, c.if-count-eq0.false)) c.corner-v.ensures
+    picked-start (gain_order c.args.f document.tie) c.requires.points (omega (arith, c.if-count-eq0.false)) c.corner-v.ensures
 
 pub corner-requires : goal.corner-requires
 corner-requires c = point-room c.requires.points c.loop-i-test.true
 
 pub chosen-v-requires : goal.chosen-v-requires
 chosen-v-requires c =
-    let s = c in
     let l = c.loop-i in
     record {
-      functional = s.requires.functional;
+      functional = c.requires.functional;
       points =
           record {
-            first = subst SmallPoint (sym c.corner.ensures) (s.requires.points.small l.i c.loop-i-test.true);
+            first = subst SmallPoint (sym c.corner.ensures) (c.requires.points.small l.i c.loop-i-test.true);
             second = l.invariant.small;
           };
     }
 
 pub loop-i-preserved : goal.loop-i-preserved
 loop-i-preserved c =
-    let s = c in
-    picked-step (gain_order s.args.f document.tie) c.loop-i.invariant s.requires.points
+    picked-step (gain_order c.args.f document.tie) c.loop-i.invariant c.requires.points
     c.loop-i-test.true c.corner.ensures c.chosen-v.ensures
 
 pub returns : goal.returns
 returns c =
-    let s = c in
-    picked-end (gain_order s.args.f document.tie) c.loop-i.invariant c.loop-i-test.false
+    picked-end (gain_order c.args.f document.tie) c.loop-i.invariant c.loop-i-test.false

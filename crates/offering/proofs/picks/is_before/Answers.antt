@@ -14,8 +14,7 @@ returns-then-earns_more c =
 
 pub earns_more-requires-2 : goal.earns_more-requires-2
 earns_more-requires-2 c =
-    let s = c in
-    record { functional = total-small; points = record { first = s.requires.second; second = s.requires.first } }
+    record { functional = total-small; points = record { first = c.requires.second; second = c.requires.first } }
 
 pub returns-then-earns_more-2 : goal.returns-then-earns_more-2
 returns-then-earns_more-2 c =

@@ -11,8 +11,7 @@ returns-then-earns_more c =
 
 pub earns_more-requires-2 : goal.earns_more-requires-2
 earns_more-requires-2 c =
-    let s = c in
-    record { functional = s.requires.functional; points = record { first = s.requires.points.second; second = s.requires.points.first } }
+    record { functional = c.requires.functional; points = record { first = c.requires.points.second; second = c.requires.points.first } }
 
 pub returns-then-earns_more-2 : goal.returns-then-earns_more-2
 returns-then-earns_more-2 c =

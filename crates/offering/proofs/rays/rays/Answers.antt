@@ -1,6 +1,8 @@
 -- `offering::rays::rays` meets its contract: each rule in turn narrows the quadrant.
+use mathlib.Core.Path.{◌∙◌}
 use native.Mathlib.Omega.{arith}
 use Rattle.offering.proofs.Passes.{narrowed-start, narrowed-room, narrowing, narrowed-step, narrowed-end}
+use Rattle.exact.proofs.Exact.{narrow-exact}
 use Rattle.offering.proofs.rays.rays.Goals as goal
 
 pub overflow_add-end : goal.overflow_add-end
@@ -12,13 +14,10 @@ loop-i-init c = narrowed-start c.requires
 pub entry-requires : goal.entry-requires
 entry-requires c = narrowed-room c.loop-i.invariant c.loop-i-test.true c.requires
 
-pub narrow-cone-requires : goal.narrow-cone-requires
-narrow-cone-requires c = narrowing c.loop-i.invariant c.loop-i-test.true c.entry.ensures
-
 pub loop-i-preserved : goal.loop-i-preserved
 loop-i-preserved c =
     narrowed-step c.loop-i.invariant c.loop-i-test.true c.entry.ensures
-    c.narrow-cone.ensures
+    (c.narrow-cone.ensures ∙ narrow-exact _ _ (narrowing c.loop-i.invariant c.loop-i-test.true c.entry.ensures))
 
 pub returns : goal.returns
 returns c = narrowed-end c.loop-i.invariant c.loop-i-test.false

@@ -1,13 +1,9 @@
 -- `records::layouts::fields_one` meets its contract: each field is read at its offset (`fields_read`).
-use native.Mathlib.Omega.{arith}
 use mathlib.Core.Path.{sym}
 use Rattle.records.specs.Layout.{v1}
 use Rattle.records.proofs.Numbers.{one_byte, number-none}
 use Rattle.records.proofs.Offsets.{fields_read}
 use Rattle.records.proofs.layouts.fields_one.Goals as goal
-
-pub overflow_cast-result : goal.overflow_cast-result
-overflow_cast-result c = omega (arith, c.type_inv.s c.args.at)
 
 pub returns : goal.returns
 returns c =

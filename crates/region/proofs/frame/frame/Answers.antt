@@ -7,8 +7,7 @@ use Rattle.region.proofs.frame.frame.Goals as goal
 
 pub returns : goal.returns
 returns c =
-    let s = c in
-    let f = s.args.floors in
-    framed-by f s.args.run.now s.args.n
+    let f = c.args.floors in
+    framed-by f c.args.run.now c.args.n
     (c.lay_floors.ensures.run
-    ∙ floors-laid f s.args.run.now s.requires.floors-small (omega (arith, s.requires.room))) c.put_entry.ensures
+    ∙ floors-laid f c.args.run.now c.requires.floors-small (omega (arith, c.requires.room))) c.put_entry.ensures

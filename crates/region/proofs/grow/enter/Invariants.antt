@@ -3,4 +3,4 @@ use Rattle.region.proofs.Growth.{Enter}
 use Rattle.region.proofs.grow.enter.Given as goal
 
 abbrev pub invariant-loop-h : goal.invariant-loop-h
-invariant-loop-h l = Enter l.run l.order l.initial.ring l.size l.initial.next l.ring l.next l.h-index
+invariant-loop-h l = Enter l.run l.order l.initial.ring l.size l.fn.arc l.ring l.next l.h-index

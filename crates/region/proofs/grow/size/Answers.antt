@@ -1,5 +1,5 @@
 -- `region::grow::size` meets its contract.
-use Rattle.region.proofs.Meets.{size-c-first, size-c-second, size-read}
+use Rattle.engine.proofs.Rows.{size-c-first, size-c-second, size-read}
 use Rattle.region.proofs.grow.size.Goals as goal
 
 pub overflow_sub-result : goal.overflow_sub-result

@@ -1,9 +1,10 @@
 -- `region::insert::back` meets its contract: the edges at the back are dropped whose earlier corner is broken.
-use Rattle.region.proofs.Loops.{Back}
+use Rattle.engine.specs.Entries.{entry}
+use Rattle.engine.proofs.Dropping.{Back}
 use Rattle.region.proofs.insert.back.Given as goal
 
 abbrev pub invariant-loop-k : goal.invariant-loop-k
-invariant-loop-k l = Back l.run l.ring l.lo l.n l.h l.k
+invariant-loop-k l = Back (entry l.run) l.ring l.arc.lo l.arc.n l.h l.k
 
 abbrev pub decreases-loop-k : goal.decreases-loop-k
 decreases-loop-k l = l.k

@@ -4,15 +4,12 @@ use Rattle.region.proofs.insert.cut.Goals as goal
 
 pub returns-then-n-lt2 : goal.returns-then-n-lt2
 returns-then-n-lt2 c =
-    let s = c in
-    cut-none s.args.h s.requires c.front-dropped.ensures c.if-n-lt2.true
+    cut-none c.args.h c.requires c.front-dropped.ensures c.if-n-lt2.true
 
 pub back-left-requires : goal.back-left-requires
 back-left-requires c =
-    let s = c in
-    cut-cutting s.args.h s.requires c.front-dropped.ensures c.if-n-lt2.false
+    cut-cutting c.args.h c.requires c.front-dropped.ensures c.if-n-lt2.false
 
 pub returns : goal.returns
 returns c =
-    let s = c in
-    cut-put s.args.h s.requires c.front-dropped.ensures c.if-n-lt2.false c.back-left.ensures
+    cut-put c.args.h c.requires c.front-dropped.ensures c.if-n-lt2.false c.back-left.ensures

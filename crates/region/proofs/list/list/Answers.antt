@@ -3,15 +3,12 @@ use mathlib.Core.Path.{◌∙◌}
 use Prim.Native.Nat.{◌+◌}
 use native.Mathlib.Omega.{arith}
 use Rattle.region.proofs.Rows.{ring-at}
-use Rattle.region.proofs.Listings.{list-none, walk_start, walk_at, walk-noting, walk_step, walk-last, walk_first}
+use Rattle.region.proofs.Listings.{walk_start, walk_at, walk-noting, walk_step, walk-last, walk_first}
 use Rattle.region.proofs.Listings.{walk-closing, walk_end}
 use Rattle.region.proofs.list.list.Goals as goal
 
-pub returns-then-n-lt1 : goal.returns-then-n-lt1
-returns-then-n-lt1 c = list-none c.requires c.if-n-lt1.true
-
 pub loop-i-init : goal.loop-i-init
-loop-i-init c = walk_start c.requires c.if-n-lt1.false
+loop-i-init c = walk_start c.requires
 
 pub overflow_add-at : goal.overflow_add-at
 overflow_add-at c = omega (arith, c.requires.ring.fits)
@@ -38,11 +35,11 @@ loop-i-preserved c =
     c.loop-i.invariant c.loop-i-test.true
     c.edge-p.ensures c.edge.ensures c.note-k.ensures
 
-pub overflow_add-lo : goal.overflow_add-lo
-overflow_add-lo c = omega (arith, c.requires.ring.fits)
+pub overflow_add-arc : goal.overflow_add-arc
+overflow_add-arc c = omega (arith, c.requires.ring.fits)
 
-pub overflow_sub-lo : goal.overflow_sub-lo
-overflow_sub-lo c = omega (arith, c.if-n-lt1.false)
+pub overflow_sub-arc : goal.overflow_sub-arc
+overflow_sub-arc c = omega (arith, c.requires.some)
 
 pub edge-p-requires-2 : goal.edge-p-requires-2
 edge-p-requires-2 c = walk-last c.requires c.loop-i.invariant c.loop-i-test.false

@@ -10,25 +10,22 @@ rules_in_range-requires c =
 
 pub returns-then-rules_in_range : goal.returns-then-rules_in_range
 returns-then-rules_in_range c =
-    let t = c in
-    let a = t.args in
-    taken-by a.floors a.run.now a.n a.order.now a.ring a.out t.has_room.ensures t.if-has_room.true
+    let a = c.args in
+    taken-by a.floors a.run.now a.n a.order.now a.ring a.out c.has_room.ensures c.if-has_room.true
     c.floors_in_range.ensures c.if-floors_in_range.true
     c.rules_in_range.ensures c.if-rules_in_range.true c.names_rules.ensures
 
 pub returns-else-rules_in_range : goal.returns-else-rules_in_range
 returns-else-rules_in_range c =
-    let t = c in
-    let a = t.args in
-    taken_no_rules a.floors a.run.now a.n a.order.now a.ring a.out t.has_room.ensures t.if-has_room.true
+    let a = c.args in
+    taken_no_rules a.floors a.run.now a.n a.order.now a.ring a.out c.has_room.ensures c.if-has_room.true
     c.floors_in_range.ensures c.if-floors_in_range.true c.rules_in_range.ensures
     c.if-rules_in_range.false
 
 pub returns-else-floors_in_range : goal.returns-else-floors_in_range
 returns-else-floors_in_range c =
-    let t = c in
-    let a = t.args in
-    taken_no_floors a.floors a.run.now a.n a.order.now a.ring a.out t.has_room.ensures t.if-has_room.true
+    let a = c.args in
+    taken_no_floors a.floors a.run.now a.n a.order.now a.ring a.out c.has_room.ensures c.if-has_room.true
     c.floors_in_range.ensures c.if-floors_in_range.false
 
 pub returns-else-has_room : goal.returns-else-has_room

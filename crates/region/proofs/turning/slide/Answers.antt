@@ -4,13 +4,13 @@ use Rattle.region.proofs.Loops.{slide-start, slide-read, slide_write, slide-step
 use Rattle.region.proofs.turning.slide.Goals as goal
 
 pub loop-i-init : goal.loop-i-init
-loop-i-init c = slide-start c.args.ring.now c.args.lo c.args.n
+loop-i-init c = slide-start c.args.ring.now c.args.arc.lo c.args.arc.n
 
 pub overflow_add-k : goal.overflow_add-k
 overflow_add-k c = omega (arith, c.requires.small)
 
-pub bounds-ring-lo : goal.bounds-ring-lo
-bounds-ring-lo c = slide-read c.requires c.loop-i.invariant c.loop-i-test.true
+pub bounds-ring-arc : goal.bounds-ring-arc
+bounds-ring-arc c = slide-read c.requires c.loop-i.invariant c.loop-i-test.true
 
 pub bounds-ring-i : goal.bounds-ring-i
 bounds-ring-i c = slide_write c.requires c.loop-i.invariant c.loop-i-test.true

@@ -3,4 +3,4 @@ use Rattle.region.proofs.Loops.{Slide}
 use Rattle.region.proofs.turning.slide.Given as goal
 
 abbrev pub invariant-loop-i : goal.invariant-loop-i
-invariant-loop-i l = Slide l.initial.ring l.lo l.n l.ring l.i
+invariant-loop-i l = Slide l.initial.ring l.arc.lo l.arc.n l.ring l.i

@@ -1,82 +1,78 @@
 -- `slips::pass::placed` meets its contract: a tight entry, by its side of the objective.
+use mathlib.Core.Path.{◌∙◌}
 use Rattle.slips.proofs.Sizes.{lt_z-read, lt_z-read-below}
 use Rattle.slips.specs.Pass.{placed_of}
+use Rattle.exact.proofs.Exact.{det-exact, dot-exact}
 use Rattle.slips.proofs.pass.placed.Goals as goal
-
-pub det-requires : goal.det-requires
-det-requires c = record {
-  first = c.requires.objective;
-  second = c.requires.entry;
-}
-
-pub det-requires-then-det-gt0 : goal.det-requires-then-det-gt0
-det-requires-then-det-gt0 c = record {
-  first = c.requires.entry;
-  second = c.requires.held.left;
-}
 
 pub returns-then-det-gt0-2 : goal.returns-then-det-gt0-2
 returns-then-det-gt0-2 c =
-    let a = lt_z-read c.det.type_inv c.det.ensures c.if-det-gt0.true in
-    let b = lt_z-read c.det-then-det-gt0.type_inv c.det-then-det-gt0.ensures c.if-det-gt0-2.true in
+    let a = lt_z-read c.det.type_inv
+    (c.det.ensures ∙ det-exact (record { first = c.requires.objective; second = c.requires.entry }))
+    c.if-det-gt0.true in
+    let b = lt_z-read c.det-then-det-gt0.type_inv
+    (c.det-then-det-gt0.ensures ∙ det-exact (record { first = c.requires.entry; second = c.requires.held.left }))
+    c.if-det-gt0-2.true in
     rw (a, b, placed_of)
 
 pub returns-then-det-gt0 : goal.returns-then-det-gt0
 returns-then-det-gt0 c =
-    let a = lt_z-read c.det.type_inv c.det.ensures c.if-det-gt0.true in
-    let b = lt_z-read c.det-then-det-gt0.type_inv c.det-then-det-gt0.ensures c.if-det-gt0-2.false in
+    let a = lt_z-read c.det.type_inv
+    (c.det.ensures ∙ det-exact (record { first = c.requires.objective; second = c.requires.entry }))
+    c.if-det-gt0.true in
+    let b = lt_z-read c.det-then-det-gt0.type_inv
+    (c.det-then-det-gt0.ensures ∙ det-exact (record { first = c.requires.entry; second = c.requires.held.left }))
+    c.if-det-gt0-2.false in
     rw (a, b, placed_of)
-
-pub det-requires-2 : goal.det-requires-2
-det-requires-2 c = record {
-  first = c.requires.objective;
-  second = c.requires.entry;
-}
-
-pub det-requires-then-det-lt0 : goal.det-requires-then-det-lt0
-det-requires-then-det-lt0 c = record {
-  first = c.requires.held.right;
-  second = c.requires.entry;
-}
 
 pub returns-then-det-gt0-3 : goal.returns-then-det-gt0-3
 returns-then-det-gt0-3 c =
-    let a = lt_z-read c.det.type_inv c.det.ensures
+    let a = lt_z-read c.det.type_inv
+    (c.det.ensures ∙ det-exact (record { first = c.requires.objective; second = c.requires.entry }))
     c.if-det-gt0.false in
-    let b = lt_z-read-below c.det-2.type_inv c.det-2.ensures
+    let b = lt_z-read-below c.det-2.type_inv
+    (c.det-2.ensures ∙ det-exact (record { first = c.requires.objective; second = c.requires.entry }))
     c.if-det-lt0.true in
-    let k = lt_z-read c.det-then-det-lt0.type_inv c.det-then-det-lt0.ensures c.if-det-gt0-3.true in
+    let k = lt_z-read c.det-then-det-lt0.type_inv
+    (c.det-then-det-lt0.ensures ∙ det-exact (record { first = c.requires.held.right; second = c.requires.entry }))
+    c.if-det-gt0-3.true in
     rw (a, b, k, placed_of)
 
 pub returns-then-det-lt0 : goal.returns-then-det-lt0
 returns-then-det-lt0 c =
-    let a = lt_z-read c.det.type_inv c.det.ensures
+    let a = lt_z-read c.det.type_inv
+    (c.det.ensures ∙ det-exact (record { first = c.requires.objective; second = c.requires.entry }))
     c.if-det-gt0.false in
-    let b = lt_z-read-below c.det-2.type_inv c.det-2.ensures
+    let b = lt_z-read-below c.det-2.type_inv
+    (c.det-2.ensures ∙ det-exact (record { first = c.requires.objective; second = c.requires.entry }))
     c.if-det-lt0.true in
-    let k = lt_z-read c.det-then-det-lt0.type_inv c.det-then-det-lt0.ensures c.if-det-gt0-3.false in
+    let k = lt_z-read c.det-then-det-lt0.type_inv
+    (c.det-then-det-lt0.ensures ∙ det-exact (record { first = c.requires.held.right; second = c.requires.entry }))
+    c.if-det-gt0-3.false in
     rw (a, b, k, placed_of)
-
-pub dot-requires : goal.dot-requires
-dot-requires c = record {
-  first = c.requires.objective;
-  second = c.requires.entry;
-}
 
 pub returns-then-dot-gt0 : goal.returns-then-dot-gt0
 returns-then-dot-gt0 c =
-    let a = lt_z-read c.det.type_inv c.det.ensures
+    let a = lt_z-read c.det.type_inv
+    (c.det.ensures ∙ det-exact (record { first = c.requires.objective; second = c.requires.entry }))
     c.if-det-gt0.false in
-    let b = lt_z-read-below c.det-2.type_inv c.det-2.ensures
+    let b = lt_z-read-below c.det-2.type_inv
+    (c.det-2.ensures ∙ det-exact (record { first = c.requires.objective; second = c.requires.entry }))
     c.if-det-lt0.false in
-    let k = lt_z-read c.dot.type_inv c.dot.ensures c.if-dot-gt0.true in
+    let k = lt_z-read c.dot.type_inv
+    (c.dot.ensures ∙ dot-exact (record { first = c.requires.objective; second = c.requires.entry }))
+    c.if-dot-gt0.true in
     rw (a, b, k, placed_of)
 
 pub returns : goal.returns
 returns c =
-    let a = lt_z-read c.det.type_inv c.det.ensures
+    let a = lt_z-read c.det.type_inv
+    (c.det.ensures ∙ det-exact (record { first = c.requires.objective; second = c.requires.entry }))
     c.if-det-gt0.false in
-    let b = lt_z-read-below c.det-2.type_inv c.det-2.ensures
+    let b = lt_z-read-below c.det-2.type_inv
+    (c.det-2.ensures ∙ det-exact (record { first = c.requires.objective; second = c.requires.entry }))
     c.if-det-lt0.false in
-    let k = lt_z-read c.dot.type_inv c.dot.ensures c.if-dot-gt0.false in
+    let k = lt_z-read c.dot.type_inv
+    (c.dot.ensures ∙ dot-exact (record { first = c.requires.objective; second = c.requires.entry }))
+    c.if-dot-gt0.false in
     rw (a, b, k, placed_of)

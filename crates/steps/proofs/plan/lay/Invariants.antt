@@ -5,4 +5,4 @@ use Rattle.sessions.specs.Laying.{laid_from}
 use Rattle.steps.proofs.plan.lay.Given as goal
 
 abbrev pub invariant-loop-i : goal.invariant-loop-i
-invariant-loop-i l = (length l.run ≡ 198) × (l.run ≡ laid_from l.initial.run l.rules l.i)
+invariant-loop-i l = (length l.run ≡ 198) × (l.run ≡ laid_from l.initial.run l.fn.session.rules l.i)

@@ -4,4 +4,4 @@ use Rattle.sessions.specs.Laying.{named_to}
 use Rattle.steps.proofs.plan.places.Given as goal
 
 abbrev pub invariant-loop-i : goal.invariant-loop-i
-invariant-loop-i l = l.names ≡ named_to l.i
+invariant-loop-i l = l.name-items ≡ named_to l.i

@@ -1,41 +1,20 @@
 -- `steps::state::begun` meets its contract: the numbers widened, and 64 blank places.
+use native.Mathlib.Omega.{arith}
+use mathlib.Core.Path.{◌≡◌}
+use mir.Syntax.{w64}
+use mir.Val.{to_z, of_z}
 use lib.ListN.{replicate}
-use borrow.Author.Rules.{rules}
-use Rattle.sessions.proofs.Starts.{wide, widened-read}
+use Rattle.std.proofs.lemmas.Int.{ints}
 use Rattle.steps.proofs.state.begun.Goals as goal
-
-pub overflow_cast-objective : goal.overflow_cast-objective
-overflow_cast-objective c =
-    wide c.args.p c.ranges.p
-
-pub overflow_cast-objective-2 : goal.overflow_cast-objective-2
-overflow_cast-objective-2 c =
-    wide c.args.q c.ranges.q
-
-pub overflow_cast-floors : goal.overflow_cast-floors
-overflow_cast-floors c =
-    wide c.args.lx c.ranges.lx
-
-pub overflow_cast-floors-2 : goal.overflow_cast-floors-2
-overflow_cast-floors-2 c =
-    wide c.args.ly c.ranges.ly
 
 pub returns : goal.returns
 returns c =
+    let p : to_z w64 (of_z w64 c.from.result) ≡ c.args.p = omega (arith, ints) in
+    let q : to_z w64 (of_z w64 c.from-2.result) ≡ c.args.q = omega (arith, ints) in
+    let lx : to_z w64 (of_z w64 c.from-3.result) ≡ c.args.lx = omega (arith, ints) in
+    let ly : to_z w64 (of_z w64 c.from-4.result) ≡ c.args.ly = omega (arith, ints) in
     λ i. record {
       rules = replicate 64 (c.no_rule-rules.ensures i);
       n = 0;
-      terms =
-          record {
-            objective =
-                record {
-                  p = widened-read c.args.p c.ranges.p i;
-                  q = widened-read c.args.q c.ranges.q i;
-                };
-            floors =
-                record {
-                  lx = widened-read c.args.lx c.ranges.lx i;
-                  ly = widened-read c.args.ly c.ranges.ly i;
-                };
-          };
+      terms = record { objective = record { p = p i; q = q i }; floors = record { lx = lx i; ly = ly i } };
     }

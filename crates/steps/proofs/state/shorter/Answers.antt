@@ -1,7 +1,6 @@
 -- `steps::state::shorter` meets its contract: the latest rule's place is blank.
 use lib.ListN.{set}
 use Prim.Native.Nat.{◌-◌}
-use borrow.Author.Rules.{rules}
 use Rattle.steps.proofs.state.shorter.Goals as goal
 
 pub returns : goal.returns

@@ -1,0 +1,2 @@
+-- Examples of what this crate defines.
+pub mod Examples

@@ -1,2 +1,0 @@
--- Laws that the proof of `lay_floors` cites: the ways of laying the floors (Laid).
-pub mod Laid
