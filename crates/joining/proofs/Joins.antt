@@ -1,6 +1,6 @@
 -- From what reading both books left in the runs to the answer: a refused site, a refused tenant, or the plan of the single list, which is
 -- always made, since the numbers of accepted books are all in range and the runs have room.
-use Rattle.std.specs.Prelude.{None, Some, Ok}
+use Rattle.std.specs.Prelude.{Option, Some, is_some, IsSome, Ok}
 use mathlib.Core.Path.{◌≡◌, refl, sym, ◌∙◌, ap, subst}
 use mathlib.Core.List.{List, [], ◌∷◌, ◌++◌, map}
 use Prim.Native.Nat.{ℕ, zero, suc, ◌+◌, ◌-◌, ◌≤◌, ◌<◌}
@@ -153,11 +153,11 @@ module _ (s u : List ℕ) (r : Heads) (names : List ℕ) (l : List ℤ) (read : 
   pub renames : Renaming names r.site.n r.tenant.n
   renames = either renaming
 
-  pub never-outside :
-      None ≡ solved_of (joined_terms r.site.terms r.tenant.terms) l (r.site.n + r.tenant.n) →
-      ⊥
-  never-outside w =
-      either (λ t t' es fs e q same laid. let clash = w ∙ planned t t' es fs e q same laid in let z : ◌≡◌ {A = ℕ} 0 1 = cc in let b : ⊥ = omega arith in b)
+  -- the engine plans them
+  pub always_planned : {x : Option Solution} →
+      x ≡ solved_of (joined_terms r.site.terms r.tenant.terms) l (r.site.n + r.tenant.n) →
+      IsSome x
+  always_planned e = either (λ t t' es fs e' q same laid. ap is_some (e ∙ planned t t' es fs e' q same laid))
 
   pub joined-planned : (names' : List ℕ) →
       Renamed names r.site.n r.tenant.n names' →

@@ -4,10 +4,10 @@ ghost use Rattle.joining.specs.Running.{Roomy};
 
 use crate::JointRefusal;
 use crate::read::{read_both, rename};
-use answers::{Cause, Plan, Refusal};
+use answers::Plan;
 use joint_terms::joined_terms;
 
-// Accepted books' numbers are all in range, so that the engine plans their rules, and the refusal beside its plan never comes.
+// Accepted books' numbers are all in range, so that the engine plans their rules.
 pub fn join_in(
     site: &[u8],
     tenant: &[u8],
@@ -21,12 +21,7 @@ pub fn join_in(
     let first = heads.site;
     let second = heads.tenant;
     rename(&mut *names, first.n, second.n);
-    match engine::solve(
-        joined_terms(first.terms, second.terms),
-        &mut *entries,
-        first.n + second.n,
-    ) {
-        None => Err(JointRefusal::Tenant(Refusal::of(Cause::Bound, 0))),
-        Some(solution) => Ok(plans::plan_of(solution, &*names)),
-    }
+    let terms = joined_terms(first.terms, second.terms);
+    let solution = engine::solve(terms, &mut *entries, first.n + second.n).unwrap();
+    Ok(plans::plan_of(solution, &*names))
 }

@@ -4,7 +4,7 @@ use Prim.Native.Nat.{◌+◌}
 use Rattle.lp.specs.declared.Terms.{Terms}
 use Rattle.engine.specs.Solving.{solved_of}
 use Rattle.joining.specs.Running.{ReadsBoth}
-use Rattle.joining.proofs.Joins.{renames, never-outside, joined-planned}
+use Rattle.joining.proofs.Joins.{renames, always_planned, joined-planned}
 use Rattle.joining.proofs.run.join_in.Goals as goal
 
 pub rename-requires : goal.rename-requires
@@ -15,29 +15,23 @@ rename-requires c =
     renames s u c.in_ok-heads.heads read.new.names read.new.entries
     (subst (λ x. ReadsBoth s u x read.new.names read.new.entries) c.in_ok-heads.was read.ensures)
 
-pub returns-in-None : goal.returns-in-None
-returns-in-None c =
-    let s = c.args.site.now in
-    let u = c.args.tenant.now in
-    let read = c.read_both in
+pub unwrap-solution-requires : goal.unwrap-solution-requires
+unwrap-solution-requires c =
     let r = c.in_ok-heads.heads in
-    absurd
-    (never-outside s u r read.new.names read.new.entries
-    (subst (λ x. ReadsBoth s u x read.new.names read.new.entries) c.in_ok-heads.was read.ensures)
-    (sym c.in-None.is
-    ∙ c.solve.ensures.answer
-    ∙ ap (λ (t : Terms). solved_of t read.new.entries (r.site.n + r.tenant.n)) c.joined_terms.ensures))
+    let read = c.read_both in
+    always_planned c.args.site.now c.args.tenant.now r read.new.names read.new.entries
+    (subst (λ x. ReadsBoth c.args.site.now c.args.tenant.now x read.new.names read.new.entries) c.in_ok-heads.was read.ensures)
+    (c.solve.ensures.answer
+    ∙ ap (λ (t : Terms). solved_of t read.new.entries (r.site.n + r.tenant.n)) c.joined_terms-terms.ensures)
 
-pub returns-in-Some : goal.returns-in-Some
-returns-in-Some c =
-    let s = c.args.site.now in
-    let u = c.args.tenant.now in
-    let read = c.read_both in
+pub returns : goal.returns
+returns c =
     let r = c.in_ok-heads.heads in
-    joined-planned s u r read.new.names read.new.entries
-    (subst (λ x. ReadsBoth s u x read.new.names read.new.entries) c.in_ok-heads.was read.ensures)
+    let read = c.read_both in
+    joined-planned c.args.site.now c.args.tenant.now r read.new.names read.new.entries
+    (subst (λ x. ReadsBoth c.args.site.now c.args.tenant.now x read.new.names read.new.entries) c.in_ok-heads.was read.ensures)
     c.rename.new.names c.rename.ensures
-    (sym c.in-Some.is
+    (sym c.unwrap-solution.ensures
     ∙ c.solve.ensures.answer
-    ∙ ap (λ (t : Terms). solved_of t read.new.entries (r.site.n + r.tenant.n)) c.joined_terms.ensures)
+    ∙ ap (λ (t : Terms). solved_of t read.new.entries (r.site.n + r.tenant.n)) c.joined_terms-terms.ensures)
     c.plan_of.ensures
