@@ -10,6 +10,7 @@ ghost use Rattle.amounts.specs.Tests.{point_in_range};
 ghost use Rattle.amounts.specs.Amounts.{amount_of};
 
 use crate::range::up_to;
+use exact::lines::Seen;
 use ints::magnitude;
 use lp::{Amount, Constraint, Point};
 
@@ -27,7 +28,7 @@ pub fn amount(r: Constraint, v: Point) -> Amount
     ensures { result ≡ amount_of r v }
 {
     if range::rule_in_range(r) & point_in_range(v) {
-        fraction::lowest(exact::slack(r, v), v.d)
+        fraction::lowest(exact::slack(Seen { r, v }), v.d)
     } else {
         Amount {
             numerator: 0,

@@ -22,13 +22,17 @@ use Rattle.records.specs.declared.Sound.{Sound}
 use Rattle.book.specs.Reading.{label_at, memb, refused, end_of}
 use Rattle.book.specs.Causes.{Walked, header, visit}
 use Rattle.book.specs.Tables.{is_noted}
-use Rattle.book.specs.Judging.{record_after, is_passed, again, judged_as, judged, SmallLabel}
+use Rattle.book.specs.Judging.{record_after, is_passed, again, judged_as, judged, labels_after, SmallLabel}
 use Rattle.records.proofs.Checks.{sound-holds}
 use Rattle.book.proofs.Results.{ok-err, same_Ok}
 use Rattle.book.proofs.Members.{memb_snoc, memb-map}
 use Rattle.book.proofs.TableLaws.{Noted}
 use Rattle.book.proofs.Links.{walk-over, walk-again, walk-fault, walk_repeat}
 use Rattle.book.proofs.Causes.{rule-clear, walked_next}
+
+-- what turns a link back leaves the table of labels as it is
+pub again_kept : (r : Refusal) (labels : List ℕ) → labels ≡ labels_after (Err r) labels
+again_kept r labels = refl
 
 -- ---- the documents' tests, one by one
 

@@ -14,6 +14,7 @@ use Rattle.answers.specs.Refusal.{refusal}
 use Rattle.lp.specs.declared.Terms.{Terms}
 use Rattle.records.specs.declared.Rule.{Rule}
 use Rattle.records.specs.declared.Heading.{Heading}
+use Rattle.records.specs.declared.BadHeading.{BadHeading}
 use Rattle.records.specs.declared.Sound.{Sound}
 use Rattle.records.specs.Layout.{Layout}
 use Rattle.records.specs.Record.{record_at, link_of}
@@ -47,12 +48,12 @@ pub record Underway
 
 -- a header that is not refused has fault 0, and one that is has its cause's number
 headed-ok : (o : Option Cause) (g h : Heading) → headed o g ≡ Ok h → (numbered o ≡ 0) × (g ≡ h)
-headed-ok (Some cause) g h e = absurd (ok-err h cause (sym e))
+headed-ok (Some cause) g h e = absurd (ok-err h (record { cause = cause; heading = g }) (sym e))
 headed-ok None g h e = (refl, same_Ok g h e)
 
-headed-err : (o : Option Cause) (g : Heading) (cause : Cause) → headed o g ≡ Err cause → numbered o ≡ number_of_cause cause
-headed-err (Some c) g cause e = ap number_of_cause (same_Err c cause e)
-headed-err None g cause e = absurd (ok-err g cause e)
+headed-err : (o : Option Cause) (g : Heading) (bad : BadHeading) → headed o g ≡ Err bad → numbered o ≡ number_of_cause bad.cause
+headed-err (Some c) g bad e = ap (λ (b : BadHeading). number_of_cause b.cause) (same_Err (record { cause = c; heading = g }) bad e)
+headed-err None g bad e = absurd (ok-err g bad e)
 
 abbrev heading_with : Terms → ℕ → ℕ → Heading
 heading_with terms count link = record { terms = terms; count = count; link = link }
@@ -79,14 +80,14 @@ starts {L} {s} {h} first blank w =
     }
 
 -- a header that is refused leaves the runs as they were
-pub refused-at-once : (L : Layout) (s first : List ℕ) (blank : List ℤ) {cause : Cause} {r : Refusal} →
-    heading_of L s ≡ Err cause →
-    r ≡ refusal (number_of_cause cause) 0 →
+pub refused-at-once : (L : Layout) (s first : List ℕ) (blank : List ℤ) {bad : BadHeading} {r : Refusal} →
+    heading_of L s ≡ Err bad →
+    r ≡ refusal (number_of_cause bad.cause) 0 →
     ReadInto L s first blank (Err r) first blank
 unfolding header_fault put_records put_rules
-refused-at-once L s first blank {cause} e q =
-    let f = headed-err (header_cause L s) _ cause e in
-    let z = ends_faulty L s (λ z. some-number cause (sym f ∙ z)) in
+refused-at-once L s first blank {bad} e q =
+    let f = headed-err (header_cause L s) _ bad e in
+    let z = ends_faulty L s (λ z. some-number bad.cause (sym f ∙ z)) in
     record {
       answer = ap Err q ∙ ap (λ k. head_of (refused k 0)) (sym f) ∙ ap (λ (x : Ending). head_of x.reading) (sym z);
       recorded = ap (λ (x : Ending). put_records first 0 (map (entry_at L s) x.passed)) (sym z);

@@ -1,21 +1,12 @@
--- What crate exact hands back is exact within document 02's ranges: of a pair, a direction and a rule of the chain.
-use mathlib.Core.Path.{◌≡◌}
-use lib.IntN.{pos}
-use lib.Signed.{le_z, lt_z}
-use mir.Syntax.{w64}
-use Rattle.std.specs.Int.{int_wrap}
+-- What crate exact asks of its numbers follows from document 02's ranges: of a pair, of a direction, and of a rule of the chain.
 use Rattle.lp.specs.declared.Constraint.{Constraint}
 use Rattle.lp.specs.declared.Functional.{Functional}
 use Rattle.lp.specs.declared.Point.{Point}
 use Rattle.lp.specs.declared.Ray.{Ray}
-use Rattle.lp.specs.Program.{slack, rise, along}
-use Rattle.lp.specs.Outcome.{keeps}
-use Rattle.lp.specs.Certificate.{is_zero}
-use Rattle.exact.specs.Sizes.{Distance}
-use Rattle.exact.proofs.Exact.{keeps-exact, tight-exact, stays-exact, gains-exact}
-use Rattle.slip.specs.Runs.{Placed, Risen, Gained}
+use Rattle.exact.specs.Sizes.{Distance, Risen, Gained}
+use Rattle.slip.specs.Runs.{Placed, Risen as RisenThere, Gained as GainedThere}
 
-placed : {r : Constraint} {v : Point} → Placed r v → Distance r.a v.x r.b v.y r.c v.d
+pub placed : {r : Constraint} {v : Point} → Placed r v → Distance r.a v.x r.b v.y r.c v.d
 placed h =
     record {
       a_small = h.rule.a_small;
@@ -26,14 +17,8 @@ placed h =
       d_small = h.pair.d_small;
     }
 
-pub kept-there : {r : Constraint} {v : Point} → Placed r v → le_z (pos 0) (int_wrap w64 (slack r v)) ≡ keeps r v
-kept-there {r} {v} h = keeps-exact r v (placed h)
+pub risen : {r : Constraint} {d : Ray} → RisenThere r d → Risen r d
+risen h = record { constraint = h.rule; ray = record { dx-small = h.ray.dx-small; dy-small = h.ray.dy-small } }
 
-pub tight-there : {r : Constraint} {v : Point} → Placed r v → is_zero (int_wrap w64 (slack r v)) ≡ is_zero (slack r v)
-tight-there {r} {v} h = tight-exact r v (placed h)
-
-pub stayed-along : {r : Constraint} {d : Ray} → Risen r d → le_z (int_wrap w64 (rise r d)) (pos 0) ≡ le_z (rise r d) (pos 0)
-stayed-along h = stays-exact (record { constraint = h.rule; ray = record { dx-small = h.ray.dx-small; dy-small = h.ray.dy-small } })
-
-pub gained-along : {f : Functional} {d : Ray} → Gained f d → lt_z (pos 0) (int_wrap w64 (along f d)) ≡ lt_z (pos 0) (along f d)
-gained-along h = gains-exact (record { functional = h.objective; ray = record { dx-small = h.ray.dx-small; dy-small = h.ray.dy-small } })
+pub gained : {f : Functional} {d : Ray} → GainedThere f d → Gained f d
+gained h = record { functional = h.objective; ray = record { dx-small = h.ray.dx-small; dy-small = h.ray.dy-small } }

@@ -6,7 +6,7 @@ ghost use Rattle.lp.specs.Outcome.{every, keeps as keeps_of};
 ghost use Rattle.slip.specs.Facts.{rule_in};
 ghost use Rattle.slip.specs.Runs.{entry as entry_of, entries as entries_of, indices, Room, Finding, Checking, Rising};
 
-use exact::{keeps, stays};
+use exact::{keeps, lines, stays};
 use lp::{Constraint, Point, Ray};
 
 fn entry(run: &[i64], k: usize) -> Constraint
@@ -36,7 +36,8 @@ pub fn keeps_all(rules: &[i64], n: usize, v: Point) -> bool
     ensures { result ≡ every (λ r. keeps_of r v) (entries_of rules.now 0 n) }
 {
     for i in 0..n {
-        if !keeps(entry(rules, i), v) {
+        let r = entry(rules, i);
+        if !keeps(lines::Seen { r, v }) {
             return false;
         }
     }
@@ -49,7 +50,8 @@ pub fn stays_all(rules: &[i64], n: usize, d: Ray) -> bool
     ensures { result ≡ every (λ r. le_z (rise r d) (pos 0)) (entries_of rules.now 0 n) }
 {
     for i in 0..n {
-        if !stays(entry(rules, i), d) {
+        let r = entry(rules, i);
+        if !stays(lines::Rising { r, d }) {
             return false;
         }
     }

@@ -12,6 +12,7 @@ use crate::entries::{keeps_all, stays_all};
 use crate::named::{floor_x, floor_y, looked_up, sound, total};
 use crate::sums::{pair_in_range, ray_in_range, same, scaled};
 use answers::{Cause, Refusal};
+use exact::lines::{Gaining, Seen};
 use exact::{gains, keeps, tight};
 use lp::{Constraint, Floors, Functional, Outcome, Point, Ray, Terms};
 use slip::named::Slots;
@@ -22,8 +23,10 @@ fn allowed(floors: Floors, rules: &[i64], n: usize, v: Point) -> bool
     requires { Allowing floors rules.now n v }
     ensures { result ≡ allowed_of (system floors (entries rules.now 0 n)) v }
 {
-    if keeps(floor_x(floors), v) {
-        if keeps(floor_y(floors), v) {
+    let x = floor_x(floors);
+    if keeps(Seen { r: x, v }) {
+        let y = floor_y(floors);
+        if keeps(Seen { r: y, v }) {
             return keeps_all(rules, n, v);
         }
     }
@@ -35,7 +38,12 @@ fn all_tight(s: Slots, v: Point) -> bool
     requires { Tight s v }
     ensures { result ≡ tight_of s v }
 {
-    tight(s.first.rule, v) & tight(s.second.rule, v) & tight(s.third.rule, v)
+    tight(Seen { r: s.first.rule, v })
+        & tight(Seen {
+            r: s.second.rule,
+            v,
+        })
+        & tight(Seen { r: s.third.rule, v })
 }
 
 // The weighted sums of a and b are scale times p and q.
@@ -98,7 +106,8 @@ fn unlimited(
 {
     if pair_in_range(v) & ray_in_range(d) {
         let kept = allowed(t.floors, rules, n, v);
-        said(kept & stays_all(rules, n, d) & gains(t.objective, d))
+        let gaining = Gaining { f: t.objective, d };
+        said(kept & stays_all(rules, n, d) & gains(gaining))
     } else {
         refused()
     }

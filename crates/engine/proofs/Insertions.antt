@@ -21,8 +21,6 @@ use Rattle.boundary.proofs.Faced.{stays_at, cut_encloses}
 use Rattle.boundary.specs.declared.Arc.{Arc}
 use Rattle.engine.specs.declared.insert.Held.{Held}
 use Rattle.engine.specs.declared.insert.Held.TheVariants as state
-use Rattle.exact.specs.Wrapped.{wrapped_point}
-use Rattle.exact.proofs.Exact.{meet-exact}
 use Rattle.engine.specs.Row.{named, edge, edges, Named, following, is_between, front_row, ring_of, row_by}
 use Rattle.engine.specs.Rings.{When, Pair, Faces, Turns, Halving, Sought, Putting, Put, Cut, Standing, Inserting, Inserted}
 use Rattle.engine.proofs.Rows.{meet-small, ring-pair}
@@ -98,18 +96,14 @@ module _ {e : List ℤ} {run : List ℕ} {D : Constraint} {i : ℕ} {h : Constra
   pub stood : Standing e run a
   stood = given (Standing e run) held s.standing
 
-  -- where its line meets that of the size, as it was worked out
-  met : {w : Point} → w ≡ wrapped_point (meet h D) → w ≡ meet h D
-  met em = em ∙ meet-exact (record { first = s.h-small; second = s.size_small })
-
-  pub insert-seeking : {w : Point} → w ≡ wrapped_point (meet h D) → Halving e run D w a.lo a.n
+  pub insert-seeking : {w : Point} → w ≡ meet h D → Halving e run D w a.lo a.n
   insert-seeking em =
       record {
-        seeking = record { ring = stood.ring; two = stood.two; w-small = meet-small s.h-small s.size_small (met em) };
+        seeking = record { ring = stood.ring; two = stood.two; w-small = meet-small s.h-small s.size_small em };
         size_small = s.size_small;
       }
 
-  module _ {w : Point} (em : w ≡ wrapped_point (meet h D)) {p : Option ℕ} (f : When (Sought e run w a.lo a.n) p) {k : ℕ}
+  module _ {w : Point} (em : w ≡ meet h D) {p : Option ℕ} (f : When (Sought e run w a.lo a.n) p) {k : ℕ}
       (ek : p ≡ Some k) where
     pub found : Sought e run w a.lo a.n k
     found = given (Sought e run w a.lo a.n) ek f
@@ -117,7 +111,7 @@ module _ {e : List ℤ} {run : List ℕ} {D : Constraint} {i : ℕ} {h : Constra
     placed : at_place D h (edge e run (a.lo + k)) (edge e run (a.lo + following a.n k)) ≡ true
     placed =
         place_is D h (edge e run (a.lo + k)) (edge e run (a.lo + following a.n k))
-        ∙ ap (λ (w : Point). is_between w (edge e run (a.lo + k)) (edge e run (a.lo + following a.n k))) (sym (met em))
+        ∙ ap (λ (w : Point). is_between w (edge e run (a.lo + k)) (edge e run (a.lo + following a.n k))) (sym em)
         ∙ found.between
 
     follows : following a.n k < a.n

@@ -14,7 +14,9 @@ use crate::order::{Order, tie_upward, upward};
 use crate::scan::tightest;
 use crate::start::{alone, is_level, resettled};
 use crate::walk::{counted, going};
-use exact::{direction, facing, gaining, keeps, meet, narrow};
+use exact::cone::{Climbing, Narrowing, gaining, narrow};
+use exact::lines::{Crossing, Line, Seen};
+use exact::{direction, facing, keeps, meet};
 use fraction::reduce;
 use lp::{Certificate, Constraint, Point, Ray, Tie};
 use model::{State, Walk};
@@ -32,9 +34,15 @@ fn end_point(up: bool, h: Constraint, gap: Gap) -> Point
     ensures { result ≡ end_point up h gap }
 {
     if up {
-        meet(gap.before, h)
+        meet(Crossing {
+            r: gap.before,
+            s: h,
+        })
     } else {
-        meet(h, gap.behind)
+        meet(Crossing {
+            r: h,
+            s: gap.behind,
+        })
     }
 }
 
@@ -56,14 +64,14 @@ fn start_at(
     if is_level(h) {
         return Err(alone(n));
     }
-    let side = tie_upward(tie, direction(h));
+    let side = tie_upward(tie, direction(Line { h }));
     if let Some(gap) = gap {
         let p = end_point(side, h, gap);
         if 0 < p.d {
             return Ok(reduce(p));
         }
     }
-    let found = tightest(entries, n, facing(side, h));
+    let found = tightest(entries, n, facing(side, Line { h }));
     resettled(entries, side, n, h, found)
 }
 
@@ -71,14 +79,14 @@ fn moved_to(order: &Order, entries: &[i64], n: usize, h: Constraint, gap: Option
     requires { MovingAt order.now.objective order.now.tie entries.now n h gap }
     ensures { result ≡ tightest_point (gain_order order.now.objective order.now.tie) (entries_of entries.now 0 n) h }
 {
-    let side = upward(order, direction(h));
+    let side = upward(order, direction(Line { h }));
     if let Some(gap) = gap {
         let p = end_point(side, h, gap);
         if 0 < p.d {
             return reduce(p);
         }
     }
-    match tightest(entries, n, facing(side, h)) {
+    match tightest(entries, n, facing(side, Line { h })) {
         None => Point { x: 0, y: 0, d: 1 },
         Some(met) => reduce(met.point),
     }
@@ -100,7 +108,10 @@ fn improved_at(
         (entries_of entries.now 0 n) h cone best }
 {
     match best {
-        None => match gaining(order.objective, cone) {
+        None => match gaining(Climbing {
+            f: order.objective,
+            cone,
+        }) {
             Some(_) => None,
             None => Some(moved_to(order, entries, n, h, gap)),
         },
@@ -133,12 +144,12 @@ pub fn step_at(
     let broken = breaks(h, best);
     let moves = counted(walk.moves, broken);
     let opened = walk.opened;
-    let kept = keeps(h, s);
+    let kept = keeps(Seen { r: h, v: s });
     let restarts = counted(walk.restarts, !kept);
     let place = n - 1;
     match start_at(order.tie, entries, n, h, s, kept, gap) {
         Ok(p) => {
-            let wedge = narrow(h, cone);
+            let wedge = narrow(Narrowing { h, cone });
             let next = improved_at(order, entries, n, h, wedge, best, broken, gap);
             going(p, wedge, next, moves, opened, restarts)
         }

@@ -7,6 +7,7 @@ ghost use Rattle.engine.specs.Row.{edge as edge_of, is_between};
 ghost use Rattle.engine.specs.Rings.{At, Pair, Place};
 
 use crate::entries::entry;
+use exact::lines::{Corner, Seen};
 use exact::{keeps, keeps_at, reaches};
 use lp::{Constraint, Point};
 
@@ -28,7 +29,9 @@ pub fn corner_keeps(run: &[i64], ring: &[u16], h: Constraint, i: usize, j: usize
     ensures { result ≡ keeps_at h (edge_of run.now ring.now i)
         (edge_of run.now ring.now j) }
 {
-    keeps_at(h, edge(run, ring, i), edge(run, ring, j))
+    let p = edge(run, ring, i);
+    let q = edge(run, ring, j);
+    keeps_at(Corner { h, p, q })
 }
 
 // Whether a constraint belongs between the edges at places i and j. The turns from the one to it and from it to the other are asked of the
@@ -38,8 +41,10 @@ pub fn is_between(run: &[i64], ring: &[u16], w: Point, i: usize, j: usize) -> bo
     ensures { result ≡ is_between w (edge_of run.now ring.now i)
         (edge_of run.now ring.now j) }
 {
-    if keeps(edge(run, ring, i), w) {
-        reaches(edge(run, ring, j), w)
+    let p = edge(run, ring, i);
+    if keeps(Seen { r: p, v: w }) {
+        let q = edge(run, ring, j);
+        reaches(Seen { r: q, v: w })
     } else {
         false
     }

@@ -8,6 +8,7 @@ use crate::edges::corner_keeps;
 use crate::seeking::seek;
 use crate::turning::turn_to;
 use boundary::Arc;
+use exact::lines::Crossing;
 use exact::meet;
 use lp::Constraint;
 
@@ -111,7 +112,8 @@ pub fn insert(
     let Some(arc) = ring_of(held) else {
         return Held::Nothing;
     };
-    let Some(k) = seek(size, run, &*ring, meet(h, size), arc) else {
+    let w = meet(Crossing { r: h, s: size });
+    let Some(k) = seek(size, run, &*ring, w, arc) else {
         return Held::Nothing;
     };
     if corner_keeps(run, &*ring, h, arc.lo + k, following(arc, k)) {

@@ -8,7 +8,9 @@ ghost use Rattle.engine.specs.Sizes.{Moving, Improving, Breaking};
 
 use crate::order::{Order, upward};
 use crate::scan::tightest;
-use exact::{direction, facing, gaining, keeps};
+use exact::cone::{Climbing, gaining};
+use exact::lines::{Line, Seen};
+use exact::{direction, facing, keeps};
 use fraction::reduce;
 use lp::{Constraint, Point, Ray};
 
@@ -16,8 +18,8 @@ fn moved(order: &Order, entries: &[i64], n: usize, h: Constraint) -> Point
     requires { Moving order.now.objective order.now.tie entries.now n h }
     ensures { result ≡ tightest_point (gain_order order.now.objective order.now.tie) (entries_of entries.now 0 n) h }
 {
-    let side = upward(order, direction(h));
-    match tightest(entries, n, facing(side, h)) {
+    let side = upward(order, direction(Line { h }));
+    match tightest(entries, n, facing(side, Line { h })) {
         None => Point { x: 0, y: 0, d: 1 },
         Some(met) => reduce(met.point),
     }
@@ -39,7 +41,10 @@ pub fn improved(
         (entries_of entries.now 0 n) h cone best }
 {
     match best {
-        None => match gaining(order.objective, cone) {
+        None => match gaining(Climbing {
+            f: order.objective,
+            cone,
+        }) {
             Some(_) => None,
             None => Some(moved(order, entries, n, h)),
         },
@@ -64,6 +69,6 @@ pub fn breaks(h: Constraint, best: Option<Point>) -> bool
 {
     match best {
         None => false,
-        Some(v) => !keeps(h, v),
+        Some(v) => !keeps(Seen { r: h, v }),
     }
 }

@@ -3,6 +3,7 @@ ghost use Rattle.std.specs.Prelude.{◌≡◌};
 ghost use Rattle.lp.specs.Outcome.{above, tie_order, gain_order};
 ghost use Rattle.engine.specs.Sizes.{TieAlong, OrderAlong};
 
+use exact::lines::Gaining;
 use exact::{gains, loses};
 use lp::{Functional, Ray, Tie};
 
@@ -20,13 +21,13 @@ pub fn tie_upward(tie: Tie, d: Ray) -> bool
 {
     let first = tie.first;
     let second = tie.second;
-    if gains(first, d) {
+    if gains(Gaining { f: first, d }) {
         return true;
     }
-    if loses(first, d) {
+    if loses(Gaining { f: first, d }) {
         return false;
     }
-    gains(second, d)
+    gains(Gaining { f: second, d })
 }
 
 // Upward by the objective, then by the tie.
@@ -34,10 +35,11 @@ pub fn upward(order: &Order, d: Ray) -> bool
     requires { OrderAlong order.now.objective order.now.tie d }
     ensures { result ≡ above (gain_order order.now.objective order.now.tie) d }
 {
-    if gains(order.objective, d) {
+    let f = order.objective;
+    if gains(Gaining { f, d }) {
         return true;
     }
-    if loses(order.objective, d) {
+    if loses(Gaining { f, d }) {
         return false;
     }
     tie_upward(order.tie, d)

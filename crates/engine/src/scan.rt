@@ -8,6 +8,7 @@ ghost use Rattle.engine.specs.Held.{farthest, tightened, found_of};
 ghost use Rattle.engine.specs.Sizes.{Tightening, Along, Checking};
 
 use crate::entries::entry;
+use exact::lines::{Crossing, Line, Seen};
 use exact::{det, direction, keeps, meet};
 use lp::{Constraint, Point};
 use model::Met;
@@ -18,7 +19,7 @@ fn at_infinity(line: Constraint) -> Met
     requires { SmallConstraint line }
     ensures { result ≡ farthest line }
 {
-    let along = direction(line);
+    let along = direction(Line { h: line });
     Met {
         index: 0,
         entry: line,
@@ -37,14 +38,14 @@ fn tighter(line: Constraint, i: usize, m: Constraint, held: Met) -> Met
     ensures { result ≡ tightened line i m held }
 {
     let p = held.point;
-    if 0 < det(m, line) {
-        if keeps(m, p) {
+    if 0 < det(Crossing { r: m, s: line }) {
+        if keeps(Seen { r: m, v: p }) {
             held
         } else {
             Met {
                 index: i,
                 entry: m,
-                point: meet(m, line),
+                point: meet(Crossing { r: m, s: line }),
             }
         }
     } else {
@@ -78,7 +79,7 @@ pub fn first_broken(entries: &[i64], n: usize, v: Point) -> Option<(usize, Const
 {
     for i in 0..n {
         let m = entry(entries, i);
-        if !keeps(m, v) {
+        if !keeps(Seen { r: m, v }) {
             return Some((i, m));
         }
     }

@@ -6,6 +6,7 @@ ghost use Rattle.engine.specs.Rings.{Ordering, Seeking, Halving, Sought, When};
 
 use crate::edges::{edge, is_between};
 use boundary::Arc;
+use exact::lines::{Crossing, Seen};
 use exact::{keeps, meet};
 use lp::{Constraint, Point};
 
@@ -14,16 +15,16 @@ use lp::{Constraint, Point};
 fn comes_before(v: Point, early: bool, x: Constraint, w: Point) -> bool
     requires { Ordering v x w }
 {
-    if keeps(x, v) {
+    if keeps(Seen { r: x, v }) {
         if early {
-            return keeps(x, w);
+            return keeps(Seen { r: x, v: w });
         }
         true
     } else {
         if early {
             return false;
         }
-        keeps(x, w)
+        keeps(Seen { r: x, v: w })
     }
 }
 
@@ -33,8 +34,8 @@ fn halved(size: Constraint, run: &[i64], ring: &[u16], w: Point, arc: Arc) -> us
     ensures { result < arc.n }
 {
     let first = edge(run, ring, arc.lo);
-    let v = meet(size, first);
-    let early = keeps(first, w);
+    let v = meet(Crossing { r: size, s: first });
+    let early = keeps(Seen { r: first, v: w });
     let mut from = 0;
     let mut to = arc.n;
     while from + 1 < to {

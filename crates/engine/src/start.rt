@@ -10,6 +10,7 @@ ghost use Rattle.engine.specs.Start.{kept_or_restarted};
 
 use crate::order::tie_upward;
 use crate::scan::{first_broken, tightest};
+use exact::lines::{Crossing, Line};
 use exact::{det, direction, facing};
 use fraction::reduce;
 use lp::{Certificate, Constraint, Point, Tie};
@@ -42,7 +43,11 @@ fn line_weight(side: bool, k: Constraint, m: Constraint) -> i64
     requires { Lines k m }
     ensures { result ≡ line_weight side k m }
 {
-    if side { det(m, k) } else { det(k, m) }
+    if side {
+        det(Crossing { r: m, s: k })
+    } else {
+        det(Crossing { r: k, s: m })
+    }
 }
 
 // h at index n, k at j, which meets its line first, and m at i, which that point breaks.
@@ -58,14 +63,14 @@ fn conflict(
     requires { Conflicting h k m }
     ensures { result ≡ conflict_of side n h j k i m }
 {
-    let line = facing(side, h);
+    let line = facing(side, Line { h });
     Certificate {
         first: n,
         first_weight: line_weight(side, k, m),
         second: j,
-        second_weight: det(line, m),
+        second_weight: det(Crossing { r: line, s: m }),
         third: i,
-        third_weight: det(k, line),
+        third_weight: det(Crossing { r: k, s: line }),
     }
 }
 
@@ -96,8 +101,8 @@ fn restart(tie: Tie, entries: &[i64], n: usize, h: Constraint) -> Result<Point, 
     if is_level(h) {
         return Err(alone(n));
     }
-    let side = tie_upward(tie, direction(h));
-    let found = tightest(entries, n, facing(side, h));
+    let side = tie_upward(tie, direction(Line { h }));
+    let found = tightest(entries, n, facing(side, Line { h }));
     resettled(entries, side, n, h, found)
 }
 

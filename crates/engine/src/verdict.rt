@@ -6,7 +6,7 @@ ghost use Rattle.engine.specs.Solving.{solution_of};
 ghost use Rattle.engine.specs.Sizes.{Gaining, Answering};
 
 use crate::Solution;
-use exact::gaining;
+use exact::cone::{Climbing, gaining};
 use fraction::reduce_ray;
 use lp::{Certificate, Functional, Outcome, Point, Ray};
 use model::{State, Walk};
@@ -17,7 +17,7 @@ fn said(objective: Functional, s: Point, cone: Option<(Ray, Ray)>, best: Option<
     ensures { result ≡ said_of objective (State.Going s cone best) }
 {
     match best {
-        None => match gaining(objective, cone) {
+        None => match gaining(Climbing { f: objective, cone }) {
             Some(d) => Outcome::Unbounded(s, reduce_ray(d)),
             None => Outcome::Optimal(s),
         },

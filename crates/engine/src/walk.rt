@@ -19,7 +19,9 @@ use crate::order::Order;
 use crate::start::start;
 use crate::verdict::solution;
 use amounts::range::rule_in_range;
-use exact::{gaining, keeps, narrow};
+use exact::cone::{Climbing, Narrowing, gaining, narrow};
+use exact::keeps;
+use exact::lines::Seen;
 use lp::{Constraint, Floors, Functional, Point, Ray, Tie};
 use model::{State, Walk};
 
@@ -66,12 +68,12 @@ pub fn step(order: &Order, entries: &[i64], n: usize, h: Constraint, walk: Walk)
     let broken = breaks(h, best);
     let moves = counted(walk.moves, broken);
     let opened = walk.opened;
-    let kept = keeps(h, s);
+    let kept = keeps(Seen { r: h, v: s });
     let restarts = counted(walk.restarts, !kept);
     let place = n - 1;
     match start(order.tie, entries, n, h, s, kept) {
         Ok(p) => {
-            let wedge = narrow(h, cone);
+            let wedge = narrow(Narrowing { h, cone });
             let next = improved(order, entries, n, h, wedge, best, broken);
             going(p, wedge, next, moves, opened, restarts)
         }
@@ -95,7 +97,10 @@ fn begin(objective: Functional, floors: Floors) -> Walk
         d: 1,
     };
     let axes = Some((Ray { dx: 1, dy: 0 }, Ray { dx: 0, dy: 1 }));
-    match gaining(objective, axes) {
+    match gaining(Climbing {
+        f: objective,
+        cone: axes,
+    }) {
         Some(_) => going(corner, axes, None, 0, 0, 0),
         None => going(corner, axes, Some(corner), 0, 0, 0),
     }

@@ -1,2 +1,2 @@
--- Laws that the proofs of this crate's functions cite, and those of the crates that call them (Exact).
-pub mod Exact
+-- Numbers within document 01's bounds, and what is made of them on the way (Sizes).
+pub mod Sizes

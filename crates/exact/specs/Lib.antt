@@ -1,3 +1,5 @@
--- What is left of a point's, a ray's and a constraint's numbers in 64 bits (Wrapped), and the numbers of which nothing is lost (Sizes).
-pub mod Wrapped
+-- A constraint turned round (Turned) and the cone of rays (Cone), of which the walk's model makes use; and document 01's bounds on what is
+-- reckoned with, within which nothing leaves 64 bits (Sizes).
+pub mod Turned
+pub mod Cone
 pub mod Sizes

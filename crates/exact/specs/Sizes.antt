@@ -1,12 +1,28 @@
--- Numbers of which nothing leaves 64 bits on the way: within document 01's bounds. Of these the crate's functions hand back the exact
--- numbers (proofs/Exact.antt).
-use Rattle.std.specs.Prelude.{ℤ, Option}
+-- Document 01's bounds on what is reckoned with: of numbers within them no product and no sum leaves 64 bits. The types of this crate say
+-- them of themselves.
+use Rattle.std.specs.Prelude.{ℤ, pos, Option, None, Some}
+use Rattle.ints.specs.Order.{◌<ᶻ◌}
 use Rattle.ints.specs.Within.{Within}
 use Rattle.lp.specs.declared.Constraint.{Constraint}
 use Rattle.lp.specs.declared.Functional.{Functional}
+use Rattle.lp.specs.declared.Point.{Point}
 use Rattle.lp.specs.declared.Ray.{Ray}
 use Rattle.lp.specs.Range.{SmallConstraint, SmallFunctional}
-use Rattle.model.specs.Bounds.{SmallRay, SmallCone}
+
+-- a corner of lawful rules, in lowest terms or not
+pub record SmallPoint (v : Point) : Type 0 where
+  pub x-small : Within 65534000000000 v.x
+  pub y-small : Within 65534000000000 v.y
+  pub d_small : Within 2147352578 v.d
+  pub d-proper : pos 0 <ᶻ v.d
+
+pub record SmallRay (d : Ray) : Type 0 where
+  pub dx-small : Within 32767 d.dx
+  pub dy-small : Within 32767 d.dy
+
+abbrev pub SmallCone : Option (Ray × Ray) → Type 0
+SmallCone None = Unit {0}
+SmallCone (Some (lo, hi)) = SmallRay lo × SmallRay hi
 
 -- of two products
 pub record Factors (p q s t : ℤ) : Type 0 where
@@ -41,6 +57,13 @@ pub record Risen (r : Constraint) (d : Ray) : Type 0 where
 pub record Gained (f : Functional) (d : Ray) : Type 0 where
   pub functional : SmallFunctional f
   pub ray : SmallRay d
+
+-- a functional and a point, whose gain is p·x + q·y
+pub record Earned (f : Functional) (v : Point) : Type 0 where
+  pub p-small : Within 32767 f.p
+  pub x-small : Within 65534000000000 v.x
+  pub q-small : Within 32767 f.q
+  pub y-small : Within 65534000000000 v.y
 
 -- of a constraint, or a functional, and the rays of a cone
 pub record Narrowing (h : Constraint) (cone : Option (Ray × Ray)) : Type 0 where

@@ -1,55 +1,45 @@
 // Arithmetic on constraints, points and rays: the sign of a determinant decides on which side of a line a point lies, so that nothing is
-// divided and nothing is rounded. Every function is total: what leaves 64 bits is wrapped, as the library's `wrapping_mul` leaves it. Of
-// numbers within document 01's bounds nothing does, and what is handed back is then the exact number (proofs/Exact.antt).
+// divided and nothing is rounded. A function takes numbers within document 01's bounds, as their type says of itself, and whoever puts such
+// a value together shows it: so no product and no sum leaves 64 bits.
 
 #![tactic(auto)]
 
-mod cone;
+pub mod cone;
+pub mod lines;
+mod products;
 
-ghost use Rattle.std.specs.Prelude.{◌≡◌, pos, ◌+ℤ◌, ◌-ℤ◌, ◌*ℤ◌, neg_ℤ};
-ghost use Rattle.std.specs.Int.{int_wrap, w64};
+ghost use Rattle.std.specs.Prelude.{◌≡◌, pos, ◌+ℤ◌, ◌*ℤ◌, neg_ℤ};
 ghost use Rattle.std.specs.Int.Signed.{le_z, lt_z};
 ghost use Rattle.lp.specs.Program.{ray, rise, along, gain, slack as slack_of};
-ghost use Rattle.lp.specs.Outcome.{det as det_of, meet as meet_of};
+ghost use Rattle.lp.specs.Outcome.{det as det_of, meet as meet_of, keeps as keeps_of};
 ghost use Rattle.lp.specs.Certificate.{is_zero};
-ghost use Rattle.model.specs.Scan.{facing as facing_of, direction as direction_of};
-ghost use Rattle.exact.specs.Wrapped.{keeps_corner, wrapped_point, wrapped_ray, wrapped_constraint};
+ghost use Rattle.exact.specs.Turned.{facing as facing_of, direction as direction_of};
 
-pub use cone::{gaining, narrow};
-use lp::{Constraint, Functional, Point, Ray};
-
-// p·q + s·t
-fn sum(p: i64, q: i64, s: i64, t: i64) -> i64
-    ensures { result ≡ int_wrap w64 (p *ℤ q +ℤ s *ℤ t) }
-{
-    p.wrapping_mul(q).wrapping_add(s.wrapping_mul(t))
-}
-
-// p·q − s·t
-fn difference(p: i64, q: i64, s: i64, t: i64) -> i64
-    ensures { result ≡ int_wrap w64 (p *ℤ q -ℤ s *ℤ t) }
-{
-    p.wrapping_mul(q).wrapping_sub(s.wrapping_mul(t))
-}
+use lines::{Corner, Crossing, Earning, Gaining, Line, Rising, Seen};
+use lp::{Constraint, Point, Ray};
+use products::{difference, distance, sum};
 
 // Above 0 where r is left as the line of s is walked.
-pub fn det(r: Constraint, s: Constraint) -> i64
-    ensures { result ≡ int_wrap w64 (det_of r s) }
+pub fn det(x: Crossing) -> i64
+    ensures { result ≡ det_of x.r x.s }
 {
+    let Crossing { r, s } = x;
     difference(r.a, s.b, s.a, r.b)
 }
 
 // Above 0 where the normals of r and s are less than a quarter turn apart.
-pub fn dot(r: Constraint, s: Constraint) -> i64
-    ensures { result ≡ int_wrap w64 (r.a *ℤ s.a +ℤ r.b *ℤ s.b) }
+pub fn dot(x: Crossing) -> i64
+    ensures { result ≡ x.r.a *ℤ x.s.a +ℤ x.r.b *ℤ x.s.b }
 {
+    let Crossing { r, s } = x;
     sum(r.a, s.a, r.b, s.b)
 }
 
 // Where two lines meet.
-pub fn meet(r: Constraint, s: Constraint) -> Point
-    ensures { result ≡ wrapped_point (meet_of r s) }
+pub fn meet(x: Crossing) -> Point
+    ensures { result ≡ meet_of x.r x.s }
 {
+    let Crossing { r, s } = x;
     Point {
         x: difference(r.c, s.b, s.c, r.b),
         y: difference(r.a, s.c, s.a, r.c),
@@ -58,98 +48,102 @@ pub fn meet(r: Constraint, s: Constraint) -> Point
 }
 
 // How far a point is from a constraint's line, times d. Its sign decides; only what is shown is reduced.
-pub fn slack(r: Constraint, v: Point) -> i64
-    ensures { result ≡ int_wrap w64 (slack_of r v) }
+pub fn slack(x: Seen) -> i64
+    ensures { result ≡ slack_of x.r x.v }
 {
-    r.c.wrapping_mul(v.d).wrapping_sub(sum(r.a, v.x, r.b, v.y))
+    let Seen { r, v } = x;
+    distance(r.a, v.x, r.b, v.y, r.c, v.d)
 }
 
 // A point on the allowed side of a constraint's line, or on the line.
-pub fn keeps(r: Constraint, v: Point) -> bool
-    ensures { result ≡ le_z (pos 0) (int_wrap w64 (slack_of r v)) }
+pub fn keeps(x: Seen) -> bool
+    ensures { result ≡ keeps_of x.r x.v }
 {
-    0 <= slack(r, v)
+    0 <= slack(x)
 }
 
 // Whether the corner of p and q keeps h. Asked of the size of a point, this says that the way from p to q is a turn to the left.
-pub fn keeps_at(h: Constraint, p: Constraint, q: Constraint) -> bool
-    ensures { result ≡ keeps_corner h p q }
+pub fn keeps_at(x: Corner) -> bool
+    ensures { result ≡ keeps_of x.h (meet_of x.p x.q) }
 {
-    keeps(h, meet(p, q))
+    let Corner { h, p, q } = x;
+    let v = meet(Crossing { r: p, s: q });
+    keeps(Seen { r: h, v })
 }
 
 // A constraint that holds with equality at a point.
-pub fn tight(r: Constraint, v: Point) -> bool
-    ensures { result ≡ is_zero (int_wrap w64 (slack_of r v)) }
+pub fn tight(x: Seen) -> bool
+    ensures { result ≡ is_zero (slack_of x.r x.v) }
 {
-    slack(r, v) == 0
+    slack(x) == 0
 }
 
 // A constraint that is never left along a ray.
-pub fn stays(r: Constraint, d: Ray) -> bool
-    ensures { result ≡ le_z (int_wrap w64 (rise r d)) (pos 0) }
+pub fn stays(x: Rising) -> bool
+    ensures { result ≡ le_z (rise x.r x.d) (pos 0) }
 {
+    let Rising { r, d } = x;
     sum(r.a, d.dx, r.b, d.dy) <= 0
 }
 
 // A point on a constraint's line or beyond it.
-pub fn reaches(r: Constraint, v: Point) -> bool
-    ensures { result ≡ le_z (int_wrap w64 (slack_of r v)) (pos 0) }
+pub fn reaches(x: Seen) -> bool
+    ensures { result ≡ le_z (slack_of x.r x.v) (pos 0) }
 {
-    slack(r, v) <= 0
+    slack(x) <= 0
 }
 
 // An objective that rises along a ray.
-pub fn gains(f: Functional, d: Ray) -> bool
-    ensures { result ≡ lt_z (pos 0) (int_wrap w64 (along f d)) }
+pub fn gains(x: Gaining) -> bool
+    ensures { result ≡ lt_z (pos 0) (along x.f x.d) }
 {
+    let Gaining { f, d } = x;
     0 < sum(f.p, d.dx, f.q, d.dy)
 }
 
 // An objective that falls along a ray.
-pub fn loses(f: Functional, d: Ray) -> bool
-    ensures { result ≡ lt_z (int_wrap w64 (along f d)) (pos 0) }
+pub fn loses(x: Gaining) -> bool
+    ensures { result ≡ lt_z (along x.f x.d) (pos 0) }
 {
+    let Gaining { f, d } = x;
     sum(f.p, d.dx, f.q, d.dy) < 0
 }
 
 // What a functional earns at a point, times its denominator.
-pub fn earns(f: Functional, v: Point) -> i64
-    ensures { result ≡ int_wrap w64 (gain f v) }
+pub fn earns(x: Earning) -> i64
+    ensures { result ≡ gain x.f x.v }
 {
-    sum(f.p, v.x, f.q, v.y)
+    let Earning { f, v } = x;
+    f.p * v.x + f.q * v.y
 }
 
 // The direction in which a constraint's line is walked.
-pub fn direction(line: Constraint) -> Ray
-    ensures { result ≡ wrapped_ray (direction_of line) }
+pub fn direction(x: Line) -> Ray
+    ensures { result ≡ direction_of x.h }
 {
-    Ray {
-        dx: line.b,
-        dy: line.a.wrapping_neg(),
-    }
+    let Line { h } = x;
+    Ray { dx: h.b, dy: -h.a }
 }
 
 // The same line the other way.
-pub fn backward(line: Constraint) -> Ray
-    ensures { result ≡ wrapped_ray (ray (neg_ℤ line.b) line.a) }
+pub fn backward(x: Line) -> Ray
+    ensures { result ≡ ray (neg_ℤ x.h.b) x.h.a }
 {
-    Ray {
-        dx: line.b.wrapping_neg(),
-        dy: line.a,
-    }
+    let Line { h } = x;
+    Ray { dx: -h.b, dy: h.a }
 }
 
 // A constraint as it stands, or the same line with the other side allowed.
-pub fn facing(side: bool, h: Constraint) -> Constraint
-    ensures { result ≡ wrapped_constraint (facing_of side h) }
+pub fn facing(side: bool, x: Line) -> Constraint
+    ensures { result ≡ facing_of side x.h }
 {
+    let Line { h } = x;
     if side {
         return h;
     }
     Constraint {
-        a: h.a.wrapping_neg(),
-        b: h.b.wrapping_neg(),
-        c: h.c.wrapping_neg(),
+        a: -h.a,
+        b: -h.b,
+        c: -h.c,
     }
 }

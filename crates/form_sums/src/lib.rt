@@ -9,7 +9,7 @@ ghost use Rattle.forms.specs.Value.{conclude as conclude_of};
 ghost use Rattle.forms.specs.Small.{Valued};
 
 use forms::operands::{held, limited, paired};
-use forms::{Form, Sense, Typed, Value};
+use forms::{Flaw, Form, Value, Written};
 use within::{add_forms, finished, sub_forms};
 
 mod within;
@@ -35,8 +35,8 @@ pub fn difference(v: Value, w: Value) -> Value
     limited(sub_forms(f, g))
 }
 
-// The rule of two sides, or the flaw of the left one, the right one, or the last.
-pub fn conclude(sense: Sense, v: Value, w: Value) -> Typed
+// The rule of two sides, or the flaw of the left one, the right one, or the last. What is given as its relation is handed on as it is.
+pub fn conclude<K: Copy>(sense: K, v: Value, w: Value) -> Result<Written<K>, Flaw>
     ensures { result ≡ conclude_of sense (held_of v) (held_of w) }
 {
     let (f, g) = paired(v, w)?;

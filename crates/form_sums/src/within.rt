@@ -4,7 +4,7 @@ ghost use Rattle.forms.specs.Value.{add_forms, sub_forms, final, written};
 ghost use Rattle.forms.specs.Small.{SmallForms, SmallPair};
 
 use forms::operands::bounded;
-use forms::{Flaw, Form, Sense, Typed, Written};
+use forms::{Flaw, Form, Written};
 
 fn add(y: i64, z: i64) -> i64
     requires { SmallPair y z }
@@ -43,7 +43,7 @@ pub fn sub_forms(f: Form, g: Form) -> Form
 }
 
 // The rule of two sides: the final a, b and c are within their limits, else the flaw of their size.
-pub fn finished(sense: Sense, f: Form, g: Form) -> Typed
+pub fn finished<K: Copy>(sense: K, f: Form, g: Form) -> Result<Written<K>, Flaw>
     requires { SmallForms f g }
     ensures { result ≡ final (written sense f g) }
 {

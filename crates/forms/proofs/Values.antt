@@ -13,12 +13,11 @@ use Rattle.ints.specs.Within.{Within}
 use Rattle.ints.proofs.Machine.{within-fits, within-add, within-sub, within-mul, within_neg, within_nat, within-numeral}
 use Rattle.ints.proofs.Bits.{read}
 use Rattle.forms.specs.declared.Form.{Form}
-use Rattle.std.specs.Prelude.{Ok, Err}
+use Rattle.std.specs.Prelude.{Result, Ok, Err}
 use Rattle.forms.specs.declared.Flaw.{Flaw}
 use Rattle.forms.specs.declared.Flaw.TheVariants.{Size}
-use Rattle.forms.specs.declared.Sense.{Sense}
 use Rattle.forms.specs.declared.Written.{Written}
-use Rattle.forms.specs.Value.{Value, Typed, inside, bounded, limit, form, limited, numeral, neg_form, constant, combine, written, final, conclude, no_rule}
+use Rattle.forms.specs.Value.{Value, inside, bounded, limit, form, limited, numeral, neg_form, constant, combine, written, final, conclude, no_rule}
 use Rattle.forms.specs.Small.{SmallForm, SmallForms, Small, Pair, pair_of, SmallIn, Paired, Valued}
 
 -- ---- numbers
@@ -166,7 +165,7 @@ combine-pair op (Ok f) (Ok g) = refl
 combine-pair op (Ok f) (Err e) = refl
 combine-pair op (Err e) w = refl
 
-conclude-pair : (k : Sense) (v w : Value) → conclude k v w ≡ joined (λ f g. final (written k f g)) no_rule (pair_of v w)
+conclude-pair : {K : Type 0} (k : K) (v w : Value) → conclude k v w ≡ joined (λ f g. final (written k f g)) no_rule (pair_of v w)
 unfolding conclude
 conclude-pair k (Ok f) (Ok g) = refl
 conclude-pair k (Ok f) (Err e) = refl
@@ -182,7 +181,7 @@ module _ {v w : Value} {p : Pair} (x : Paired v w p) where
       Valued (combine op v w) r
   combined op e h = same-value (sym (combine-pair op v w ∙ ap (joined op Err) (sym x.same ∙ e))) h
 
-  pub concluded : (k : Sense) {q : Pair} {r : Typed} →
+  pub concluded : {K : Type 0} (k : K) {q : Pair} {r : Result (Written K) Flaw} →
       p ≡ q →
       r ≡ joined (λ f g. final (written k f g)) no_rule q →
       r ≡ conclude k v w
@@ -195,25 +194,25 @@ pub negated-small : {f g : Form} → SmallForm f → g ≡ neg_form f → SmallF
 negated-small {f} h e =
     subst SmallForm (sym e) (record { a = within-opposite h.a; b = within-opposite h.b; c = within-opposite h.c })
 
-abbrev writing : Sense → ℤ → ℤ → ℤ → Written
+abbrev writing : {K : Type 0} → K → ℤ → ℤ → ℤ → Written K
 writing k a b c = record { sense = k; a = a; b = b; c = c }
 
-pub written_is : (k : Sense) {a a' b b' c c' : ℤ} →
+pub written_is : {K : Type 0} (k : K) {a a' b b' c c' : ℤ} →
     a ≡ a' →
     b ≡ b' →
     c ≡ c' →
-    ◌≡◌ {A = Written} (record { sense = k; a = a; b = b; c = c }) (record { sense = k; a = a'; b = b'; c = c' })
-written_is k {a} {a'} {b} {b'} {c} {c'} p q r =
+    ◌≡◌ {A = Written K} (record { sense = k; a = a; b = b; c = c }) (record { sense = k; a = a'; b = b'; c = c' })
+written_is {K} k {a} {a'} {b} {b'} {c} {c'} p q r =
     ap (λ (x : ℤ). writing k x b c) p ∙ ap (λ (x : ℤ). writing k a' x c) q ∙ ap (λ (x : ℤ). writing k a' b' x) r
 
 -- ---- the final numbers
 
-module _ {w w' : Written} {t : Bool} (p : w ≡ w') (e : t ≡ bounded 32767 limit (form w.a w.b w.c)) where
+module _ {K : Type 0} {w w' : Written K} {t : Bool} (p : w ≡ w') (e : t ≡ bounded 32767 limit (form w.a w.b w.c)) where
   pub final-yes : t ≡ true → Ok w ≡ final w'
   unfolding final
   final-yes q =
-      subst (λ (x : Written). Ok w ≡ final x) p (sym (ap (λ (u : Bool). cond u (Ok w) (no_rule Size)) (sym e ∙ q)))
+      subst (λ (x : Written K). Ok w ≡ final x) p (sym (ap (λ (u : Bool). cond u (Ok w) (no_rule Size)) (sym e ∙ q)))
 
   pub final_no : t ≡ false → no_rule Size ≡ final w'
   unfolding final
-  final_no q = subst (λ (x : Written). no_rule Size ≡ final x) p (sym (ap (λ (u : Bool). cond u (Ok w) (no_rule Size)) (sym e ∙ q)))
+  final_no q = subst (λ (x : Written K). no_rule Size ≡ final x) p (sym (ap (λ (u : Bool). cond u (Ok w) (no_rule Size)) (sym e ∙ q)))

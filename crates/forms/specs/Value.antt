@@ -6,7 +6,7 @@ use Rattle.answers.specs.declared.Refusal.{Refusal}
 use Rattle.answers.specs.Refusal.{refusal}
 use Rattle.forms.specs.declared.Form.{Form}
 use Rattle.forms.specs.declared.Flaw.{Flaw}
-use Rattle.forms.specs.declared.Flaw.TheVariants.{Text, Product, Size}
+use Rattle.forms.specs.declared.Flaw.TheVariants.{Text, Product, Size, Other}
 use Rattle.forms.specs.declared.Sense.{Sense}
 use Rattle.forms.specs.declared.Sense.TheVariants.{AtMost, AtLeast}
 use Rattle.forms.specs.declared.Written.{Written}
@@ -16,13 +16,14 @@ abbrev pub Value : Type 0
 Value = Result Form Flaw
 
 abbrev pub Typed : Type 0
-Typed = Result Written Flaw
+Typed = Result (Written Sense) Flaw
 
--- the number of a flaw's refusal
+-- the number of a flaw's refusal: another flaw's is the one that its maker gave it
 abbrev pub number_of : Flaw → ℕ
 number_of Text = 13
 number_of Product = 14
 number_of Size = 15
+number_of (Other n) = n
 
 -- the refusal of a text for its flaw; it names no record
 abbrev pub refusal_of : Flaw → Refusal
@@ -105,21 +106,21 @@ abbrev pub kind_of : Sense → ℕ
 kind_of AtMost = 1
 kind_of AtLeast = 2
 
--- no rule, for that flaw
-abbrev pub no_rule : Flaw → Typed
+-- no rule, for that flaw; K is the type of what is given as the relation, which is `Sense` where a text is read
+abbrev pub no_rule : {K : Type 0} → Flaw → Result (Written K) Flaw
 no_rule e = Err e
 
 -- a and b are the left coefficients less the right, c the right constant less the left
-abbrev pub written : Sense → Form → Form → Written
+abbrev pub written : {K : Type 0} → K → Form → Form → Written K
 written k f g = record { sense = k; a = f.a -ℤ g.a; b = f.b -ℤ g.b; c = g.c -ℤ f.c }
 
 -- a and b at most 32,767 and c at most 1,000,000,000 either way, else the flaw of their size
-unfoldable pub final : Written → Typed
+unfoldable pub final : {K : Type 0} → Written K → Result (Written K) Flaw
 final w = cond (bounded 32767 limit (form w.a w.b w.c)) (Ok w) (no_rule Size)
 
-abbrev pub then : (Form → Typed) → Value → Typed
+abbrev pub then : {K : Type 0} → (Form → Result (Written K) Flaw) → Value → Result (Written K) Flaw
 then op (Ok f) = op f
 then op (Err e) = no_rule e
 
-unfoldable pub conclude : Sense → Value → Value → Typed
+unfoldable pub conclude : {K : Type 0} → K → Value → Value → Result (Written K) Flaw
 conclude k l r = then (λ f. then (λ g. final (written k f g)) r) l

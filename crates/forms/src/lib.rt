@@ -21,11 +21,14 @@ pub struct Form {
 }
 
 // What is wrong with a text: it is none of the language, a product's operands both have a coefficient, or a number is beyond its limit.
+// Or it is another flaw, of whatever number its maker gives it: no reader of texts here makes one, and the operations on values hand on
+// any flaw as it is.
 #[derive(Clone, Copy)]
 pub enum Flaw {
     Text,
     Product,
     Size,
+    Other(u8),
 }
 
 impl Flaw {
@@ -33,12 +36,13 @@ impl Flaw {
     pub fn refusal(self) -> Refusal
         ensures { result ≡ refusal_of self }
     {
-        let cause = match self {
-            Flaw::Text => Cause::Text,
-            Flaw::Product => Cause::Product,
-            Flaw::Size => Cause::Size,
+        let number = match self {
+            Flaw::Text => Cause::Text.number(),
+            Flaw::Product => Cause::Product.number(),
+            Flaw::Size => Cause::Size.number(),
+            Flaw::Other(n) => n,
         };
-        Refusal::of(cause, 0)
+        Refusal { number, at: 0 }
     }
 }
 
@@ -64,17 +68,17 @@ impl Sense {
     }
 }
 
-// A rule as written, one with at-least not turned round.
+// A rule as written, one with at-least not turned round. Its relation is a `Sense`, or whatever its maker has in the place of one.
 #[derive(Clone, Copy)]
-pub struct Written {
-    pub sense: Sense,
+pub struct Written<K> {
+    pub sense: K,
     pub a: i64,
     pub b: i64,
     pub c: i64,
 }
 
 // What a text reads as: the rule, or its flaw.
-pub type Typed = Result<Written, Flaw>;
+pub type Typed = Result<Written<Sense>, Flaw>;
 
 // The value of a number.
 pub fn numeral(n: usize) -> Value

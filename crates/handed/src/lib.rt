@@ -22,11 +22,13 @@ pub fn told(answer: Result<usize, Refusal>) -> usize
     }
 }
 
-// What the checker says, as one number: 1 is yes, 0 is no, and a refusal is 65,536 times its number plus its record.
+// What the checker says, as one number: 1 is yes, 0 is no, and a refusal is 65,536 times its number plus its record. A refusal with number
+// 0, which no cause has, is 0 whatever record it names.
 pub fn verdict_told(verdict: Verdict) -> usize
     ensures { result ≡ verdict_told verdict }
 {
     match verdict {
+        Verdict::Refused(refusal) if refusal.number == 0 => 0,
         Verdict::Refused(refusal) => told(Err(refusal)),
         Verdict::Yes => 1,
         Verdict::No => 0,

@@ -2,7 +2,7 @@
 use Prim.Native.Nat.{ℕ}
 use mathlib.Core.Path.{◌≡◌, refl, sym, ap, ◌∙◌}
 use mathlib.Core.List.{List}
-use Rattle.std.specs.Prelude.{Option, Some, None, Ok, Err}
+use Rattle.std.specs.Prelude.{Option}
 use Rattle.std.specs.Int.{w16}
 use Rattle.std.proofs.Common.{to_z}
 use Rattle.answers.specs.declared.Cause.{Cause}
@@ -38,11 +38,8 @@ module _ (L : Layout) (s : List ℕ) where
     cause-read : header_cause L s ≡ r
     cause-read = sym (q ∙ ap (cause_in L s) e ∙ cause-own)
 
-    pub turned-back : (cause : Cause) → r ≡ Some cause → Err cause ≡ heading_of L s
-    turned-back cause is = rw (cause-read, is)
-
-    pub says : (h : Heading) → Bytes s → r ≡ None → h ≡ heading_in L f → Ok h ≡ heading_of L s
-    says h b is m =
-        ap (λ (k : Heading). Ok k) (m ∙ ap (heading_in L) e)
+    pub says : (o : Option Cause) (h : Heading) → Bytes s → r ≡ o → h ≡ heading_in L f → headed o h ≡ heading_of L s
+    says o h b is m =
+        ap (headed o) (m ∙ ap (heading_in L) e)
         ∙ ap (λ (o : Option Cause). headed o (heading_in L own)) (sym (cause-read ∙ is))
         ∙ heading-own b

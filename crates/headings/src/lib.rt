@@ -1,4 +1,5 @@
-// What a book's header says: the terms that its chain is planned under, the count and the first link, or the first of the causes 1 to 5.
+// What a book's header says: the terms that its chain is planned under, the count and the first link; and the first of the causes 1 to 5, if
+// one applies.
 
 #![tactic(auto)]
 
@@ -9,11 +10,10 @@ ghost use Rattle.records.specs.Layout.{layout_of};
 ghost use Rattle.records.specs.Header.{heading_of};
 ghost use Rattle.headings.specs.Tests.{heading_in};
 
-use answers::Cause;
 use header::{cause_in, floors_in};
 use lp::{Functional, Terms};
 use records::fields::Fields;
-use records::{Book, Heading, Version};
+use records::{BadHeading, Book, Heading, Version};
 use signed::signed16;
 
 // What a header of these fields says.
@@ -32,13 +32,14 @@ fn said(version: Version, f: Fields) -> Heading
     }
 }
 
-// What a book's header says, or the first cause that turns it back.
-pub fn heading_of(book: &Book) -> Result<Heading, Cause>
+// What a book's header says; of one that is turned back too, beside the first cause that does so.
+pub fn heading_of(book: &Book) -> Result<Heading, BadHeading>
     ensures { result ≡ heading_of book.now.layout book.now.bytes }
 {
     let f = book.fields_at(0);
+    let heading = said(book.version, f);
     match cause_in(book, f) {
-        Some(cause) => Err(cause),
-        None => Ok(said(book.version, f)),
+        Some(cause) => Err(BadHeading { cause, heading }),
+        None => Ok(heading),
     }
 }

@@ -11,6 +11,7 @@ use lib.IntN.{pos, nat_abs}
 use borrow.Author.Tests.{leb-true}
 use Rattle.forms.specs.declared.Form.{Form}
 use Rattle.std.specs.Prelude.{Ok, Err}
+use Rattle.forms.specs.declared.Flaw.{Flaw}
 use Rattle.forms.specs.declared.Flaw.TheVariants.{Text, Product, Size}
 use Rattle.forms.specs.declared.Sense.{Sense}
 use Rattle.forms.specs.declared.Sense.TheVariants.{AtMost, AtLeast}
@@ -18,17 +19,18 @@ use Rattle.forms.specs.declared.Written.{Written}
 use Rattle.language.specs.Grammar as G
 use Rattle.language.specs.Grammar.{number, rate_x, rate_y, minus, group, factor, times, term, plus, less}
 use Rattle.text.specs.Number.{value_from}
-use Rattle.forms.specs.Value.{Value, Typed, kind_of, number_of, refusal_of, inside, limit, form, limited, numeral, constant, multiplied, mul_forms, add_forms, sub_forms, negated, sum, difference, product, combine, no_rule, written, final, conclude}
+use Rattle.forms.specs.Value.{Value, Typed, kind_of, refusal_of, inside, limit, form, limited, numeral, constant, multiplied, mul_forms, add_forms, sub_forms, negated, sum, difference, product, combine, no_rule, written, final, conclude}
 use Rattle.language.specs.Value.{value_factor, value_term, value_side, sense_of, value_rule}
 use Rattle.language.specs.Parser.{answer}
 use Rattle.language.proofs.Language.{answered, Reads, Refuses, language}
 
-abbrev pub Fault : ℕ → Type 0
-Fault n = (n ≡ 14) ⊎ (n ≡ 15)
+-- a product's flaw, refused 14, or a size's, refused 15
+abbrev pub Fault : Flaw → Type 0
+Fault e = ((e ≡ Product) × ((refusal_of e).number ≡ 14)) ⊎ ((e ≡ Size) × ((refusal_of e).number ≡ 15))
 
 abbrev pub Plain : Value → Type 0
 Plain (Ok f) = Unit {0}
-Plain (Err e) = Fault (number_of e)
+Plain (Err e) = Fault e
 
 limited-plain : (f : Form) → Plain (limited f)
 unfolding limited
@@ -36,7 +38,7 @@ limited-plain f = go (inside limit f.a && (inside limit f.b && inside limit f.c)
   where
     go : (t : Bool) → Plain (cond t (Ok f) (Err Size))
     go true = tt
-    go false = inr refl
+    go false = inr (refl, refl)
 
 numeral-plain : (n : ℕ) → Plain (numeral n)
 unfolding numeral
@@ -44,7 +46,7 @@ numeral-plain n = go (leb n limit)
   where
     go : (t : Bool) → Plain (cond t (Ok (form (pos 0) (pos 0) (pos n))) (Err Size))
     go true = tt
-    go false = inr refl
+    go false = inr (refl, refl)
 
 multiplied-plain : (f g : Form) → Plain (multiplied f g)
 unfolding multiplied
@@ -53,7 +55,7 @@ multiplied-plain f g = go (constant f) (constant g)
     go : (t u : Bool) → Plain (cond t (limited (mul_forms f g)) (cond u (limited (mul_forms f g)) (Err Product)))
     go true u = limited-plain (mul_forms f g)
     go false true = limited-plain (mul_forms f g)
-    go false false = inl refl
+    go false false = inl (refl, refl)
 
 combine-plain : (op : Form → Form → Value) →
     ((f g : Form) → Plain (op f g)) →
@@ -110,7 +112,7 @@ kind-of AtMost = inl refl
 kind-of AtLeast = inr refl
 
 -- an accepted rule: kind 1 or 2, a and b at most 32,767 and c at most 1,000,000,000 either way
-pub record InRange (w : Written) : Type 0 where
+pub record InRange (w : Written Sense) : Type 0 where
   pub kind : Kind (kind_of w.sense)
   pub a : nat_abs w.a ≤ 32767
   pub b : nat_abs w.b ≤ 32767
@@ -118,9 +120,9 @@ pub record InRange (w : Written) : Type 0 where
 
 abbrev pub Sound : Typed → Type 0
 Sound (Ok w) = InRange w
-Sound (Err e) = Fault (refusal_of e).number × ((refusal_of e).at ≡ 0)
+Sound (Err e) = Fault e × ((refusal_of e).at ≡ 0)
 
-final-sound : (w : Written) → Sound (final w)
+final-sound : (w : Written Sense) → Sound (final w)
 unfolding final
 final-sound w = go (inside 32767 w.a) refl (inside 32767 w.b) refl (inside limit w.c) refl
   where
@@ -139,9 +141,9 @@ final-sound w = go (inside 32767 w.a) refl (inside 32767 w.b) refl (inside limit
           c = leb-true (nat_abs w.c)
               limit g;
         }
-    go true e true f false g = (inr refl, refl)
-    go true e false f u g = (inr refl, refl)
-    go false e t f u g = (inr refl, refl)
+    go true e true f false g = (inr (refl, refl), refl)
+    go true e false f u g = (inr (refl, refl), refl)
+    go false e t f u g = (inr (refl, refl), refl)
 
 conclude-sound : (k : Sense) (v w : Value) → Plain v → Plain w → Sound (conclude k v w)
 unfolding conclude
@@ -157,15 +159,15 @@ value-sound r =
     conclude-sound (sense_of r.relation) (value_side r.left) (value_side r.right) (side-plain r.left)
     (side-plain r.right)
 
-not_thirteen : Fault 13 → ⊥
-not_thirteen (inl h) = omega arith
-not_thirteen (inr h) = omega arith
+not_thirteen : Fault Text → ⊥
+not_thirteen (inl h) = omega (arith, h.1)
+not_thirteen (inr h) = omega (arith, h.1)
 
 thirteen : (t : Typed) → Sound t → t ≡ no_rule Text → ⊥
 thirteen (Ok w) h e = cc
 thirteen (Err x) h e =
     let same : x ≡ Text = cc in
-    not_thirteen (subst (λ y. Fault (number_of y)) same h.0)
+    not_thirteen (subst Fault same h.0)
 
 -- ---- the language, in both directions
 

@@ -7,10 +7,9 @@ use Rattle.lp.specs.declared.Point.{Point}
 use Rattle.lp.specs.Program.{slack}
 use Rattle.lp.specs.Outcome.{meet}
 use Rattle.lp.specs.Range.{SmallConstraint}
-use Rattle.model.proofs.Bounds.{det-small}
-use Rattle.boundary.proofs.Bounds.{meet-x-small, meet-y-small}
 use Rattle.amounts.specs.Tests.{rule_in_range}
-use Rattle.exact.specs.Sizes.{Distance, Lines}
+use Rattle.exact.specs.Sizes.{Distance}
+use Rattle.exact.proofs.Sizes.{at_corner}
 use Rattle.amounts.proofs.Tests.{both, rule-small, rule-passes}
 use Rattle.lines.specs.Sides.{side_of, Three}
 
@@ -34,21 +33,16 @@ module _ (m p q : Constraint) {r s t : Bool} (er : r ≡ rule_in_range m) (es : 
   pub side-out : (r && s && t) ≡ false → pos 0 ≡ side_of m p q
   side-out e = ap (λ b. cond b (slack m (meet p q)) (pos 0)) (tested e)
 
-pub lines_of : {m p q : Constraint} → Three m p q → Lines p q
-lines_of h = record { first = h.p-small; second = h.q-small }
-
-pub distance_of : {m p q : Constraint} {v : Point} → v ≡ meet p q → Three m p q →
+-- the corner of two of them, at a third
+pub distance_of :
+    {m p q : Constraint} {v : Point} →
+    SmallConstraint m →
+    SmallConstraint p →
+    SmallConstraint q →
+    v ≡ meet p q →
     Distance m.a v.x m.b v.y m.c v.d
-distance_of {m} {p} {q} {v} e h =
-    subst (λ w. Distance m.a w.x m.b w.y m.c w.d) (sym e)
-    (record {
-      a_small = h.m-small.a_small;
-      x-small = meet-x-small h.p-small h.q-small;
-      b-small = h.m-small.b-small;
-      y-small = meet-y-small h.p-small h.q-small;
-      c-small = h.m-small.c-small;
-      d_small = det-small h.p-small h.q-small;
-    })
+distance_of {m} h k l e =
+    subst (λ w. Distance m.a w.x m.b w.y m.c w.d) (sym e) (at_corner (record { h-small = h; p-small = k; q-small = l }))
 
 -- lawful constraints: the tests are the definitions'
 pub side-lawful : (m p q : Constraint) → SmallConstraint m → SmallConstraint p → SmallConstraint q → side_of m p q ≡ slack m (meet p q)

@@ -7,6 +7,7 @@ ghost use Rattle.std.specs.Prelude.{◌≡◌};
 ghost use Rattle.lines.specs.Sides.{side_of};
 
 use amounts::range::rule_in_range;
+use exact::lines::{Crossing, Seen};
 use exact::{meet, slack};
 use lp::Constraint;
 
@@ -15,7 +16,8 @@ pub fn side(m: Constraint, p: Constraint, q: Constraint) -> i64
     ensures { result ≡ side_of m p q }
 {
     if rule_in_range(m) & rule_in_range(p) & rule_in_range(q) {
-        slack(m, meet(p, q))
+        let v = meet(Crossing { r: p, s: q });
+        slack(Seen { r: m, v })
     } else {
         0
     }

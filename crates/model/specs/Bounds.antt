@@ -1,8 +1,7 @@
 -- Document 01's bounds on what the walk holds: corners, directions and weights (those of what a book gives are lp's Range). The planner's
 -- code asks for them, since they keep every product and sum within 64 bits; that the walk's numbers have them is proved in
 -- proofs/Bounds.antt.
-use Rattle.std.specs.Prelude.{ℕ, suc, ◌≤◌, pos, Option, None, Some, Result, Ok, Err}
-use Rattle.ints.specs.Order.{◌<ᶻ◌}
+use Rattle.std.specs.Prelude.{ℕ, suc, ◌≤◌, Option, None, Some, Result, Ok, Err}
 use Rattle.ints.specs.Within.{Within}
 use Rattle.lp.specs.Range.{SmallConstraint}
 use Rattle.lp.specs.declared.Constraint.{Constraint}
@@ -11,23 +10,13 @@ use Rattle.lp.specs.declared.Ray.{Ray}
 use Rattle.lp.specs.declared.Certificate.{Certificate}
 use Rattle.lp.specs.declared.Outcome.{Outcome}
 use Rattle.lp.specs.declared.Outcome.TheVariants as outcome
+pub use Rattle.exact.specs.Sizes.{SmallPoint, SmallRay, SmallCone}
 use Rattle.model.specs.declared.Met.{Met}
 use Rattle.model.specs.declared.State.{State}
 use Rattle.model.specs.declared.State.TheVariants.{Ended, Going}
 use Rattle.model.specs.declared.Walk.{Walk}
 
 -- ---- what the walk makes of it
-
--- a corner of lawful rules, in lowest terms or not
-pub record SmallPoint (v : Point) : Type 0 where
-  pub x-small : Within 65534000000000 v.x
-  pub y-small : Within 65534000000000 v.y
-  pub d_small : Within 2147352578 v.d
-  pub d-proper : pos 0 <ᶻ v.d
-
-pub record SmallRay (d : Ray) : Type 0 where
-  pub dx-small : Within 32767 d.dx
-  pub dy-small : Within 32767 d.dy
 
 pub record SmallCertificate (k : Certificate) : Type 0 where
   pub first_small : Within 2147352578 k.first_weight
@@ -45,10 +34,6 @@ SmallBroken (Some (i, m)) = SmallConstraint m
 abbrev pub SmallRestart : Result Point Certificate → Type 0
 SmallRestart (Ok v) = SmallPoint v
 SmallRestart (Err k) = SmallCertificate k
-
-abbrev pub SmallCone : Option (Ray × Ray) → Type 0
-SmallCone None = Unit {0}
-SmallCone (Some (lo, hi)) = SmallRay lo × SmallRay hi
 
 abbrev pub SmallGain : Option Ray → Type 0
 SmallGain None = Unit {0}

@@ -1,25 +1,11 @@
 -- The passes over the entries of a system: the tightest point on a line, and the first entry that a point breaks.
-use Rattle.std.specs.Prelude.{List, [], ◌∷◌, Bool, true, false, ℕ, suc, pos, neg_ℤ, Option, None, Some}
+use Rattle.std.specs.Prelude.{List, [], ◌∷◌, Bool, true, false, ℕ, suc, pos, Option, None, Some}
 use Rattle.std.specs.Int.Signed.{lt_z}
 use Rattle.lp.specs.declared.Constraint.{Constraint}
 use Rattle.lp.specs.declared.Point.{Point}
-use Rattle.lp.specs.declared.Ray.{Ray}
-use Rattle.lp.specs.Program.{constraint, ray}
 use Rattle.lp.specs.Outcome.{det, meet, keeps}
+pub use Rattle.exact.specs.Turned.{reversed, facing, direction}
 use Rattle.model.specs.declared.Met.{Met}
-
--- the same line, with the other side allowed
-abbrev pub reversed : Constraint → Constraint
-reversed h = constraint (neg_ℤ h.a) (neg_ℤ h.b) (neg_ℤ h.c)
-
--- h as it stands, or turned round
-abbrev pub facing : Bool → Constraint → Constraint
-facing true h = h
-facing false h = reversed h
-
--- the direction in which the line of l is walked
-abbrev pub direction : Constraint → Ray
-direction l = ray l.b (neg_ℤ l.a)
 
 abbrev pub met : ℕ → Constraint → Point → Met
 met i m p = record { index = i; entry = m; point = p }

@@ -1,8 +1,7 @@
 -- The step: what the walk holds after one more constraint h. S is the system so far, n its length, and so h's index. At most three passes
 -- over S are made, none where nothing is broken, and one where gains come to have a top.
 use Rattle.std.specs.Prelude.{List, [], ◌∷◌, ◌++◌, Option, None, Some, Result, Ok, Err}
-use Rattle.std.specs.Prelude.{Bool, true, false, not, ◌&&◌, ℕ, suc, ◌+◌, ◌-◌, ℤ, pos, neg_ℤ}
-use Rattle.std.specs.Int.Signed.{le_z, lt_z}
+use Rattle.std.specs.Prelude.{Bool, true, false, not, ◌&&◌, ℕ, suc, ◌+◌, ◌-◌, ℤ, pos}
 use Rattle.lp.specs.declared.Constraint.{Constraint}
 use Rattle.lp.specs.declared.Functional.{Functional}
 use Rattle.lp.specs.declared.Floors.{Floors}
@@ -12,11 +11,12 @@ use Rattle.lp.specs.declared.Ray.{Ray}
 use Rattle.lp.specs.declared.Certificate.{Certificate}
 use Rattle.lp.specs.declared.Outcome.{Outcome}
 use Rattle.lp.specs.declared.Outcome.TheVariants.{Infeasible, Unbounded, Optimal}
-use Rattle.lp.specs.Program.{point, ray, along, rise, system}
+use Rattle.lp.specs.Program.{point, ray, system}
 use Rattle.lp.specs.Outcome.{above, det, keeps, reduce, reduce_ray, tie_order, gain_order}
 use Rattle.lp.specs.Certificate.{certificate, is_zero}
 use Rattle.lp.specs.Prefixes.{one_if}
 use Rattle.lp.specs.Start.{Start, none, at}
+pub use Rattle.exact.specs.Cone.{narrowed, narrow, gaining}
 use Rattle.model.specs.declared.Met.{Met}
 use Rattle.model.specs.declared.State.{State}
 use Rattle.model.specs.declared.State.TheVariants.{Ended, Going}
@@ -54,26 +54,6 @@ restart t S n h =
     elim (is_zero h.a && is_zero h.b) [
       | true ↦ Err (alone n)
       | false ↦ let side = above (tie_order t) (direction h) in resettled S side n h (tightest (facing side h) 0 S None)
-    ]
-
--- ---- the cone of rays
-
-abbrev pub narrowed : Constraint → Ray → Ray → Bool → Bool → Option (Ray × Ray)
-narrowed h lo hi true true = Some (lo, hi)
-narrowed h lo hi true false = Some (lo, ray h.b (neg_ℤ h.a))
-narrowed h lo hi false true = Some (ray (neg_ℤ h.b) h.a, hi)
-narrowed h lo hi false false = None
-
-abbrev pub narrow : Constraint → Option (Ray × Ray) → Option (Ray × Ray)
-narrow h None = None
-narrow h (Some (lo, hi)) = narrowed h lo hi (le_z (rise h lo) (pos 0)) (le_z (rise h hi) (pos 0))
-
-abbrev pub gaining : Functional → Option (Ray × Ray) → Option Ray
-gaining f None = None
-gaining f (Some (lo, hi)) =
-    elim (lt_z (pos 0) (along f lo)) [
-      | true ↦ Some lo
-      | false ↦ elim (lt_z (pos 0) (along f hi)) [ true ↦ Some hi | false ↦ None ]
     ]
 
 -- ---- the optimum

@@ -10,7 +10,7 @@ use crate::Unanswered;
 use crate::picks::best;
 use crate::rays::rays;
 use cells::put_answer;
-use exact::gaining;
+use exact::cone::{Climbing, gaining};
 use lp::{Functional, Point, Ray};
 use objectives::objective;
 
@@ -47,7 +47,7 @@ fn offered(
     if count == 0 {
         return Offer::Impossible;
     }
-    match gaining(f, cone) {
+    match gaining(Climbing { f, cone }) {
         Some(_) => Offer::Unlimited(start),
         None => Offer::Best(best(f, corners, count)),
     }

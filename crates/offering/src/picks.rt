@@ -11,6 +11,7 @@ ghost use Rattle.offering.specs.Asked.{Tying, Weighing, Picking};
 
 use compare::less;
 use exact::earns;
+use exact::lines::Earning;
 use lp::{Functional, Point};
 
 // The corner at a place of the list.
@@ -31,7 +32,12 @@ fn earns_more(f: Functional, w: Point, v: Point) -> bool
     requires { Weighing f w v }
     ensures { result ≡ less_of (gain f v) v.d (gain f w) w.d }
 {
-    less(earns(f, v), v.d, earns(f, w), w.d)
+    less(
+        earns(Earning { f, v }),
+        v.d,
+        earns(Earning { f, v: w }),
+        w.d,
+    )
 }
 
 // w goes before v by the tie alone.

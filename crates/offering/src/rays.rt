@@ -5,7 +5,7 @@ ghost use Rattle.engine.specs.Sizes.{Room};
 ghost use Rattle.batch_theory.specs.Rays.{rays_of};
 ghost use Rattle.offering.specs.Asked.{Ruled};
 
-use exact::narrow;
+use exact::cone::{Narrowing, narrow};
 use lp::{Constraint, Ray};
 
 // The rule at an index.
@@ -29,7 +29,8 @@ pub fn rays(run: &[i64], n: usize) -> Option<(Ray, Ray)>
     let end = n + 2;
     let mut cone = Some((Ray { dx: 1, dy: 0 }, Ray { dx: 0, dy: 1 }));
     for i in 2..end {
-        cone = narrow(entry(run, i), cone);
+        let h = entry(run, i);
+        cone = narrow(Narrowing { h, cone });
     }
     cone
 }

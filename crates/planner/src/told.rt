@@ -98,7 +98,9 @@ pub fn tell_few(book: &Book, prefix: usize, out: &mut [u8]) -> Told
 }
 
 // What is told of any bytes. It has the long runs in its frame, and takes as long to lay that out as a short book takes to be planned: so
-// who knows that a book is short goes to `tell_few`.
+// who knows that a book is short goes to `tell_few`. Each of its three callers has it in its own body: out of line it would copy what is told
+// by the C library's memcpy, and an archive for C needs nothing of that but memset.
+#[inline(always)]
 pub fn tell(book: &Book, prefix: usize, out: &mut [u8]) -> Told
     ensures { Tells book.now.layout book.now.bytes prefix out.old result out.new }
 {

@@ -21,6 +21,6 @@ pub fn read(book: &Book, records: &mut [u16], rules: &mut [i64]) -> Result<Head,
 {
     match heading_of(book) {
         Ok(heading) => walk::walk(book, heading, records, rules),
-        Err(cause) => Err(Refusal::of(cause, 0)),
+        Err(bad) => Err(Refusal::of(bad.cause, 0)),
     }
 }

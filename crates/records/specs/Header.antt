@@ -11,6 +11,7 @@ use Rattle.answers.specs.declared.Cause.{Cause}
 use Rattle.answers.specs.declared.Cause.TheVariants.{Length, Version, Count, Objective, Tail}
 use Rattle.answers.specs.Cause.{numbered}
 use Rattle.records.specs.declared.Heading.{Heading}
+use Rattle.records.specs.declared.BadHeading.{BadHeading}
 use Rattle.records.specs.Layout.{Layout, width, at_c}
 use Rattle.records.specs.Number.{number}
 use Rattle.records.specs.Record.{record_at, link_of, kind_of, pad_of, a_of, b_of, label_of, c_of, is_least}
@@ -27,9 +28,9 @@ module _ (L : Layout) (tail : ℕ) where
   abbrev pub tail_set : Bool
   tail_set = not L.floors && not (eqb tail 0)
 
--- what a header says, unless a cause applies
-abbrev pub headed : Option Cause → Heading → Result Heading Cause
-headed (Some cause) heading = Err cause
+-- what a header says, beside the cause that turns it back, if one does
+abbrev pub headed : Option Cause → Heading → Result Heading BadHeading
+headed (Some cause) heading = Err (record { cause = cause; heading = heading })
 headed None heading = Ok heading
 
 module _ (L : Layout) (s : List ℕ) where
@@ -83,6 +84,6 @@ module _ (L : Layout) (s : List ℕ) where
   unfoldable pub header_fault : ℕ
   header_fault = numbered header_cause
 
-  -- what the header says, or the first of them that applies
-  abbrev pub heading_of : Result Heading Cause
+  -- what the header says, and the first of them that applies, if one does
+  abbrev pub heading_of : Result Heading BadHeading
   heading_of = headed header_cause (record { terms = terms_of; count = count_of; link = link_of L (record_at L s 0) })

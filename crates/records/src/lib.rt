@@ -11,6 +11,7 @@ mod layouts;
 ghost use Rattle.records.specs.Encoded.{Encoded, encoded};
 ghost use Rattle.records.specs.Number.{Bytes};
 
+use answers::Cause;
 use lp::Terms;
 use std::marker::Model;
 
@@ -60,4 +61,11 @@ pub struct Heading {
     pub terms: Terms,
     pub count: u16,
     pub link: u16,
+}
+
+// What turns a header back, the first of the causes 1 to 5 that applies, and what its fields say all the same.
+#[derive(Clone, Copy)]
+pub struct BadHeading {
+    pub cause: Cause,
+    pub heading: Heading,
 }

@@ -7,6 +7,7 @@ ghost use Rattle.region.specs.Row.{edge as edge_of};
 ghost use Rattle.region.specs.Asked.{At, Pair, Place};
 
 use exact::keeps_at;
+use exact::lines::Corner;
 use lp::Constraint;
 
 pub fn entry(run: &[i64], k: usize) -> Constraint
@@ -35,7 +36,9 @@ pub fn corner_keeps(run: &[i64], ring: &[u16], h: Constraint, i: usize, j: usize
     ensures { result ≡ keeps_at h (edge_of run.now ring.now i)
         (edge_of run.now ring.now j) }
 {
-    keeps_at(h, edge(run, ring, i), edge(run, ring, j))
+    let p = edge(run, ring, i);
+    let q = edge(run, ring, j);
+    keeps_at(Corner { h, p, q })
 }
 
 // Whether h belongs between the edges at places i and j.
@@ -52,9 +55,17 @@ pub fn at_place(
         (edge_of run.now ring.now j) }
 {
     let k = edge(run, ring, i);
-    if keeps_at(size, k, h) {
+    if keeps_at(Corner {
+        h: size,
+        p: k,
+        q: h,
+    }) {
         let e = edge(run, ring, j);
-        keeps_at(size, h, e)
+        keeps_at(Corner {
+            h: size,
+            p: h,
+            q: e,
+        })
     } else {
         false
     }

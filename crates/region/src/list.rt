@@ -5,6 +5,7 @@ ghost use Rattle.region.specs.Asked.{PointRoom, Noting, Noted, Listing, CornersP
 
 use crate::edges::edge;
 use boundary::Arc;
+use exact::lines::Crossing;
 use exact::meet;
 use fraction::reduce;
 use lp::{Constraint, Point};
@@ -27,7 +28,7 @@ fn note(p: Constraint, q: Constraint, out: &mut [i64], k: usize) -> usize
     requires { Noting out.old p q k }
     ensures { Noted out.old p q k result out.new }
 {
-    let v = meet(p, q);
+    let v = meet(Crossing { r: p, s: q });
     if 0 < v.d {
         put_point(out, k, reduce(v));
         return k + 1;

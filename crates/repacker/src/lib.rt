@@ -15,7 +15,9 @@ use packing::header_bytes;
 use reading::read;
 use records::Book;
 
-// The repacked form of a book, into the output, with a run for its records lent: how many bytes it has, or the refusal.
+// The repacked form of a book, into the output, with a run for its records lent: how many bytes it has, or the refusal. Each caller has it in
+// its own body, where the book's version is known: out of line it would look at the version anew for each record, twice.
+#[inline(always)]
 fn repack_in(book: &Book, out: &mut [u8], indices: &mut [u16]) -> Result<usize, Refusal>
     requires few { Few book.now.layout book.now.bytes (length indices.old) }
     requires most { length indices.old ≤ 4095 }
@@ -34,6 +36,7 @@ fn repack_in(book: &Book, out: &mut [u8], indices: &mut [u16]) -> Result<usize, 
 
 // Of a book with at most RULES rules. Each size is an instance of its own: clearing the longest run takes several times what a short
 // book takes.
+#[inline(always)]
 fn repack_sized<const RULES: usize>(book: &Book, out: &mut [u8]) -> Result<usize, Refusal>
     requires few { Few book.now.layout book.now.bytes RULES }
     requires most { RULES ≤ 4095 }
@@ -46,6 +49,7 @@ fn repack_sized<const RULES: usize>(book: &Book, out: &mut [u8]) -> Result<usize
 // The repacked form of a book of either version, always version 2, into the output, and how many bytes it has. A book that is turned back,
 // or an output without room, leaves the output as it was. No book of 3,584 bytes, 256 records of 14, has more than 255 rules, whichever its
 // version.
+#[inline(always)]
 pub fn repack(book: &Book, out: &mut [u8]) -> Result<usize, Refusal>
     ensures { Repacks book.now.layout book.now.bytes out.old result out.new }
 {

@@ -14,6 +14,7 @@ use Rattle.std.specs.Prelude.{Option, Some, None, Ok, Err}
 use Rattle.answers.specs.declared.Refusal.{Refusal}
 use Rattle.forms.specs.declared.Flaw.{Flaw}
 use Rattle.forms.specs.declared.Flaw.TheVariants.{Text}
+use Rattle.forms.specs.declared.Sense.{Sense}
 use Rattle.forms.specs.declared.Written.{Written}
 use Rattle.forms.specs.Value.{Typed, refusal_of, no_rule}
 use Rattle.language.specs.Grammar as grammar
@@ -270,10 +271,10 @@ answer-ranged l = go (leb (length l) 120)
     go true = sound (parse l)
     go false = tt
 
-pub ranged : (l : List ℕ) {t : Typed} {w : Written} → answer l ≡ t → t ≡ Ok w → InRange w
+pub ranged : (l : List ℕ) {t : Typed} {w : Written Sense} → answer l ≡ t → t ≡ Ok w → InRange w
 ranged l e f = subst Ranged (e ∙ f) (answer-ranged l)
 
-pub read-rule : (label : ℕ) (l : List ℕ) {t : Typed} {w : Written} {r : Rule} →
+pub read-rule : (label : ℕ) (l : List ℕ) {t : Typed} {w : Written Sense} {r : Rule} →
     t ≡ answer l →
     t ≡ Ok w →
     r ≡ written_of label w →

@@ -4,6 +4,7 @@
 use Rattle.std.specs.Prelude.{Bool, true, cond, ◌&&◌, List, [], ◌∷◌, ℕ, eqb, length, drop, Option, Some, None, Ok, Err}
 use Rattle.text.specs.Text.{text}
 use Rattle.records.specs.declared.Rule.{Rule}
+use Rattle.forms.specs.declared.Sense.{Sense}
 use Rattle.forms.specs.declared.Written.{Written}
 use Rattle.forms.specs.Value.{Typed, kind_of, refusal_of}
 use Rattle.scanning.specs.Bytes.{first, tail}
@@ -56,7 +57,7 @@ rule_in l =
 
 -- ---- `add`
 
-abbrev pub written_of : ℕ → Written → Rule
+abbrev pub written_of : ℕ → Written Sense → Rule
 written_of label w = record { kind = kind_of w.sense; a = w.a; b = w.b; c = w.c; label = label }
 
 abbrev pub read_as : ℕ → Typed → Asked

@@ -5,7 +5,7 @@ ghost use Rattle.session_lines.specs.Lines.{begun_of, start_in, rule_of, rule_in
 
 use crate::numbers::{Number, field, sixteen, thirty_two, unsigned_eight, unsigned_sixteen};
 use crate::{Asked, Beginning};
-use forms::Written;
+use forms::{Sense, Written};
 use records::Rule;
 use scanning::byte_at;
 
@@ -81,7 +81,7 @@ pub fn added(text: &[u8]) -> Option<Asked>
 }
 
 // A rule read from its text, under a label.
-fn named(label: u16, w: Written) -> Rule
+fn named(label: u16, w: Written<Sense>) -> Rule
     requires { InRange w }
     ensures { result ≡ written_of label w }
 {

@@ -5,6 +5,7 @@ ghost use Rattle.slip.specs.Runs.{entry, Room as RuleRoom};
 ghost use Rattle.slips.specs.Pass.{normal_of, nothing_held, placed_of, turned_of, floors_held, held_of};
 ghost use Rattle.slips.specs.Runs.{side_at, entries, indices, Room, Placing, Turning, Flooring, Passing};
 
+use exact::lines::{Crossing, Seen};
 use exact::{det, dot, tight};
 use lp::{Constraint, Floors, Functional, Point};
 
@@ -51,8 +52,8 @@ fn placed(f: Constraint, s: Side, h: Held) -> Held
     let left = h.left;
     let right = h.right;
     let level = h.level;
-    if 0 < det(f, n) {
-        if 0 < det(n, left.rule) {
+    if 0 < det(Crossing { r: f, s: n }) {
+        if 0 < det(Crossing { r: n, s: left.rule }) {
             return Held {
                 left: s,
                 right,
@@ -61,8 +62,11 @@ fn placed(f: Constraint, s: Side, h: Held) -> Held
         }
         return h;
     }
-    if det(f, n) < 0 {
-        if 0 < det(right.rule, n) {
+    if det(Crossing { r: f, s: n }) < 0 {
+        if 0 < det(Crossing {
+            r: right.rule,
+            s: n,
+        }) {
             return Held {
                 left,
                 right: s,
@@ -71,7 +75,7 @@ fn placed(f: Constraint, s: Side, h: Held) -> Held
         }
         return h;
     }
-    if 0 < dot(f, n) {
+    if 0 < dot(Crossing { r: f, s: n }) {
         return Held {
             left,
             right,
@@ -85,7 +89,11 @@ fn turned(f: Constraint, v: Point, s: Side, h: Held) -> Held
     requires { Turning f v s h }
     ensures { result ≡ turned_of f v s h }
 {
-    if tight(s.rule, v) { placed(f, s, h) } else { h }
+    if tight(Seen { r: s.rule, v }) {
+        placed(f, s, h)
+    } else {
+        h
+    }
 }
 
 // The floors come first.

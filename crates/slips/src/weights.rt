@@ -4,6 +4,7 @@ ghost use Rattle.slips.specs.Weights.{one_weight, two_weights, weights_of, used_
 ghost use Rattle.slips.specs.Weights.{SmallCodes, Enclosing, Along, Weighing};
 
 use crate::pass::{Held, Side};
+use exact::lines::Crossing;
 use exact::{det, dot};
 use lp::{Certificate, Constraint};
 use slip::Weights;
@@ -16,10 +17,10 @@ fn one_entry(f: Constraint, s: Side) -> Weights
 {
     let n = s.rule;
     Weights {
-        scale: dot(n, n),
+        scale: dot(Crossing { r: n, s: n }),
         count: 1,
         first: s.code,
-        first_weight: dot(f, n),
+        first_weight: dot(Crossing { r: f, s: n }),
         second: 0,
         second_weight: 0,
         third: 0,
@@ -32,9 +33,12 @@ fn two_entries(f: Constraint, r: Side, l: Side) -> Weights
     requires { Enclosing f r l }
     ensures { result ≡ two_weights f r l }
 {
-    let scale = det(r.rule, l.rule);
-    let of_right = det(f, l.rule);
-    let of_left = det(r.rule, f);
+    let scale = det(Crossing {
+        r: r.rule,
+        s: l.rule,
+    });
+    let of_right = det(Crossing { r: f, s: l.rule });
+    let of_left = det(Crossing { r: r.rule, s: f });
     if r.code < l.code {
         Weights {
             scale,
@@ -67,10 +71,16 @@ pub fn optimum_weights(f: Constraint, h: Held) -> Weights
     let level = h.level;
     let right = h.right;
     let left = h.left;
-    if 0 < dot(f, level.rule) {
+    if 0 < dot(Crossing {
+        r: f,
+        s: level.rule,
+    }) {
         return one_entry(f, level);
     }
-    if 0 < det(right.rule, left.rule) {
+    if 0 < det(Crossing {
+        r: right.rule,
+        s: left.rule,
+    }) {
         return two_entries(f, right, left);
     }
     // An objective of (0, 0) needs no entry.

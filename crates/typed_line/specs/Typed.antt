@@ -4,10 +4,11 @@ use Rattle.std.specs.Prelude.{List, ◌++◌, ℕ, Ok, Err}
 use Rattle.text.specs.Text.{text}
 use Rattle.text.specs.Number.{number, integer, refused}
 use Rattle.text.specs.Append.{Fills}
+use Rattle.forms.specs.declared.Sense.{Sense}
 use Rattle.forms.specs.declared.Written.{Written}
 use Rattle.forms.specs.Value.{Typed, kind_of, refusal_of}
 
-unfoldable pub rule_fields : Written → List ℕ
+unfoldable pub rule_fields : Written Sense → List ℕ
 rule_fields w = text "rule" ++ (number (kind_of w.sense) ++ (integer w.a ++ (integer w.b ++ integer w.c)))
 
 unfoldable pub typed_fields : Typed → List ℕ

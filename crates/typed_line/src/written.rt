@@ -2,13 +2,13 @@
 ghost use Rattle.text.specs.Line.{RoomIn, Added};
 ghost use Rattle.typed_line.specs.Typed.{rule_fields, typed_fields, TypedWritten};
 
-use forms::{Typed, Written};
+use forms::{Sense, Typed, Written};
 use numerals::{append_integer, append_number};
 use refusal_text::append_refused;
 use text::{Line, append_word};
 
 // The line of a rule, but for its line feed.
-fn append_rule(w: Written, line: &mut Line)
+fn append_rule(w: Written<Sense>, line: &mut Line)
     requires { RoomIn line.old 88 }
     ensures { Added line.old (rule_fields w) 88 line.new }
 {

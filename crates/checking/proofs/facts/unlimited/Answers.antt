@@ -1,9 +1,10 @@
 -- `checking::facts::unlimited` meets its contract: what is said of a slip of an unlimited book.
 use mathlib.Core.Path.{sym, ◌∙◌}
+use borrow.Author.Rules.{rules}
 use Rattle.slip.proofs.Shares.{both}
 use Rattle.slip.specs.Runs.{indices, entries}
 use Rattle.slip.proofs.Judging.{pair_small, ray-small, unlimited-said, unlimited-refused}
-use Rattle.checking.proofs.Exact.{gained-along}
+use Rattle.checking.proofs.Exact.{gained}
 use Rattle.checking.proofs.facts.unlimited.Goals as goal
 
 pub allowed-kept-requires : goal.allowed-kept-requires
@@ -18,11 +19,20 @@ allowed-kept-requires c =
     }
 
 pub stays_all-requires : goal.stays_all-requires
-stays_all-requires c = record {
-  entries = c.requires.entries;
-  ray = (let r = both c.pair_in_range.result c.ray_in_range.result c.if-pair_in_range-ray_in_range.true
-      in ray-small c.args.d (sym c.ray_in_range.ensures ∙ r.1));
-}
+stays_all-requires c =
+    let r = both c.pair_in_range.result c.ray_in_range.result c.if-pair_in_range-ray_in_range.true in
+    record { entries = c.requires.entries; ray = ray-small c.args.d (sym c.ray_in_range.ensures ∙ r.1) }
+
+pub invariant_of-gaining : goal.invariant_of-gaining
+invariant_of-gaining c =
+    let r = both c.pair_in_range.result c.ray_in_range.result c.if-pair_in_range-ray_in_range.true in
+    record {
+      small =
+          gained (record {
+            objective = c.requires.terms.objective-small;
+            ray = ray-small c.args.d (sym c.ray_in_range.ensures ∙ r.1);
+          });
+    }
 
 pub returns-then-pair_in_range-ray_in_range : goal.returns-then-pair_in_range-ray_in_range
 returns-then-pair_in_range-ray_in_range c =
@@ -33,12 +43,7 @@ returns-then-pair_in_range-ray_in_range c =
     c.if-pair_in_range-ray_in_range.true
     c.allowed-kept.ensures
     c.stays_all.ensures
-    (c.gains.ensures
-    ∙ gained-along (record {
-      objective = c.requires.terms.objective-small;
-      ray = (let r = both c.pair_in_range.result c.ray_in_range.result c.if-pair_in_range-ray_in_range.true
-          in ray-small c.args.d (sym c.ray_in_range.ensures ∙ r.1));
-    }))
+    (search rules)
     c.said.ensures
 
 pub returns-else-pair_in_range-ray_in_range : goal.returns-else-pair_in_range-ray_in_range

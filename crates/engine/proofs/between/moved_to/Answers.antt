@@ -13,7 +13,6 @@ use Rattle.engine.proofs.Steps.{faced-tightest}
 use Rattle.engine.specs.Carrying.{Between}
 use Rattle.engine.proofs.Insertions.{given}
 use Rattle.engine.proofs.NewEdges.{between_ends, moved-there}
-use Rattle.exact.proofs.Exact.{direction-exact, facing-exact}
 use Rattle.engine.proofs.between.moved_to.Goals as goal
 
 pub upward-side-requires : goal.upward-side-requires
@@ -22,7 +21,7 @@ upward-side-requires c =
     record {
       objective = s.objective;
       tie = s.restarting.tie;
-      ray = subst SmallRay (sym (c.direction.ensures ∙ direction-exact c.requires.moving.restarting.h-small))
+      ray = subst SmallRay (sym c.direction.ensures)
           (direction-small s.restarting.h-small);
     }
 
@@ -37,7 +36,7 @@ returns-then-p-gt0 c =
     let d = c.end_point-p.result.d in
     let h = c.struct_told-1.given.1.1.0.1 in
     moved-there (given (Between a.entries.now a.n a.h) c.in-Some.is c.requires.between) (gain_order a.order.now.objective a.order.now.tie)
-    (c.direction.ensures ∙ direction-exact c.requires.moving.restarting.h-small)
+    c.direction.ensures
     c.upward-side.ensures
     c.end_point-p.ensures (sym (ap (lt_z (pos 0)) (unread {z = d} h)) ∙ c.if-p-gt0.true)
     c.reduce.ensures
@@ -47,7 +46,7 @@ tightest-requires c =
     let s = c.requires.moving.restarting in
     record {
       entries = s.entries;
-      line_small = subst SmallConstraint (sym (c.facing.ensures ∙ facing-exact c.requires.moving.restarting.h-small c.upward-side.result))
+      line_small = subst SmallConstraint (sym c.facing.ensures)
           (facing-small c.upward-side.result s.h-small);
     }
 
@@ -55,15 +54,15 @@ pub returns-in-None : goal.returns-in-None
 returns-in-None c =
     let a = c.args in
     sym (ap found_point (sym (faced-tightest (gain_order a.order.now.objective a.order.now.tie) (entries a.entries.now 0 a.n) a.h
-    (c.direction.ensures ∙ direction-exact c.requires.moving.restarting.h-small) c.upward-side.ensures
-    (c.facing.ensures ∙ facing-exact c.requires.moving.restarting.h-small c.upward-side.result) c.tightest.ensures) ∙ c.in-None.is))
+    c.direction.ensures c.upward-side.ensures
+    c.facing.ensures c.tightest.ensures) ∙ c.in-None.is))
 
 pub returns-in-Some-tightest : goal.returns-in-Some-tightest
 returns-in-Some-tightest c =
     let a = c.args in
     c.reduce-in-Some-tightest.ensures
     ∙ sym (ap found_point (sym (faced-tightest (gain_order a.order.now.objective a.order.now.tie) (entries a.entries.now 0 a.n) a.h
-    (c.direction.ensures ∙ direction-exact c.requires.moving.restarting.h-small)
+    c.direction.ensures
     c.upward-side.ensures
-    (c.facing.ensures ∙ facing-exact c.requires.moving.restarting.h-small c.upward-side.result) c.tightest.ensures)
+    c.facing.ensures c.tightest.ensures)
     ∙ c.in-Some-tightest.is))

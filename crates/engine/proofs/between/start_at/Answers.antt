@@ -14,7 +14,6 @@ use Rattle.engine.proofs.Steps.{restarted}
 use Rattle.engine.specs.Carrying.{Between}
 use Rattle.engine.proofs.Insertions.{given}
 use Rattle.engine.proofs.NewEdges.{between_ends, restarted-there}
-use Rattle.exact.proofs.Exact.{direction-exact, facing-exact}
 use Rattle.engine.proofs.between.start_at.Goals as goal
 
 pub returns-then-kept : goal.returns-then-kept
@@ -35,7 +34,7 @@ tie_upward-side-requires c =
     let s = c.requires.restarting in
     record {
       tie = s.tie;
-      ray = subst SmallRay (sym (c.direction.ensures ∙ direction-exact c.requires.restarting.h-small))
+      ray = subst SmallRay (sym c.direction.ensures)
           (direction-small s.h-small);
     }
 
@@ -51,7 +50,7 @@ returns-then-p-gt0 c =
     let h = c.struct_told-1.given.1.1.0.1 in
     rw c.if-kept.false
     (restarted-there (given (Between a.entries.now a.n a.h) c.in-Some.is c.requires.between) (tie_order a.tie)
-    (c.direction.ensures ∙ direction-exact c.requires.restarting.h-small)
+    c.direction.ensures
     c.tie_upward-side.ensures
     c.end_point-p.ensures (sym (ap (lt_z (pos 0)) (unread {z = d} h)) ∙ c.if-p-gt0.true)
     c.reduce.ensures a.tie refl)
@@ -61,14 +60,14 @@ tightest-found-requires c =
     let s = c.requires.restarting in
     record {
       entries = s.entries;
-      line_small = subst SmallConstraint (sym (c.facing.ensures ∙ facing-exact c.requires.restarting.h-small c.tie_upward-side.result))
+      line_small = subst SmallConstraint (sym c.facing.ensures)
           (facing-small c.tie_upward-side.result s.h-small);
     }
 
 pub resettled-requires : goal.resettled-requires
 resettled-requires c =
     let s = c.requires.restarting in
-    let line = subst SmallConstraint (sym (c.facing.ensures ∙ facing-exact c.requires.restarting.h-small c.tie_upward-side.result))
+    let line = subst SmallConstraint (sym c.facing.ensures)
     (facing-small c.tie_upward-side.result s.h-small) in
     record {
       entries = s.entries;
@@ -83,5 +82,5 @@ returns c =
     (restarted a.tie (entries a.entries.now 0 a.n) a.n a.h
     (sym c.is_level.ensures
     ∙ c.if-is_level.false)
-    (c.direction.ensures ∙ direction-exact c.requires.restarting.h-small) c.tie_upward-side.ensures
-    (c.facing.ensures ∙ facing-exact c.requires.restarting.h-small c.tie_upward-side.result) c.tightest-found.ensures c.resettled.ensures)
+    c.direction.ensures c.tie_upward-side.ensures
+    c.facing.ensures c.tightest-found.ensures c.resettled.ensures)

@@ -1,11 +1,10 @@
 -- `engine::between::step_at` meets its contract: what the walk holds after one more constraint h, at index n, which has cut the ring.
-use mathlib.Core.Path.{sym, ◌∙◌, subst}
+use mathlib.Core.Path.{sym, subst}
 use native.Mathlib.Omega.{arith}
 use Rattle.model.specs.Bounds.{SmallCone}
 use Rattle.model.proofs.Bounds.{narrow-small}
 use Rattle.engine.specs.Entries.{entries}
 use Rattle.engine.proofs.Steps.{state_parts, step-ended, step-moved, step_failed}
-use Rattle.exact.proofs.Exact.{keeps-exact, kept-distance, narrow-exact}
 use Rattle.engine.proofs.between.step_at.Goals as goal
 
 pub returns-in_default : goal.returns-in_default
@@ -34,11 +33,7 @@ improved_at-next-requires c =
           record {
             moving = h.moving;
             rays =
-                subst SmallCone (sym (c.narrow-wedge.ensures ∙ narrow-exact _ _
-                (record {
-                  constraint = c.requires.stepping.moving.restarting.h-small;
-                  rays = (state_parts c.requires.stepping.state_small c.in-Going.is).1;
-                })))
+                subst SmallCone (sym c.narrow-wedge.ensures)
                 (narrow-small h.moving.restarting.h-small
                 c.in-Going.cone s.1);
             best = s.2;
@@ -56,17 +51,12 @@ returns-in-Ok c =
     let a = c.args in
     step-moved a.order.now.tie a.order.now.objective (entries a.entries.now 0 a.n) a.n a.h a.walk
     c.in-Going.is
-    (c.keeps-kept.ensures ∙ keeps-exact _ _ (kept-distance c.requires.stepping.moving.restarting.h-small
-    (state_parts c.requires.stepping.state_small c.in-Going.is).0))
+    c.keeps-kept.ensures
     c.start_at.ensures
     c.breaks-broken.ensures
     c.counted-moves.ensures
     c.counted-restarts.ensures
-    c.in-Ok.is (c.narrow-wedge.ensures ∙ narrow-exact _ _
-    (record {
-      constraint = c.requires.stepping.moving.restarting.h-small;
-      rays = (state_parts c.requires.stepping.state_small c.in-Going.is).1;
-    })) c.improved_at-next.ensures
+    c.in-Ok.is c.narrow-wedge.ensures c.improved_at-next.ensures
     c.going.ensures
 
 pub returns-in-Err : goal.returns-in-Err
@@ -74,8 +64,7 @@ returns-in-Err c =
     let a = c.args in
     step_failed a.order.now.tie a.order.now.objective (entries a.entries.now 0 a.n) a.n a.h a.walk
     c.in-Going.is
-    (c.keeps-kept.ensures ∙ keeps-exact _ _ (kept-distance c.requires.stepping.moving.restarting.h-small
-    (state_parts c.requires.stepping.state_small c.in-Going.is).0)) c.start_at.ensures
+    c.keeps-kept.ensures c.start_at.ensures
     c.breaks-broken.ensures
     c.counted-moves.ensures c.counted-restarts.ensures
     c.in-Err.is

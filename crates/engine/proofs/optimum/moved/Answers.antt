@@ -7,7 +7,6 @@ use Rattle.model.specs.Bounds.{SmallRay}
 use Rattle.model.proofs.Bounds.{direction-small, facing-small}
 use Rattle.engine.specs.Entries.{entries}
 use Rattle.engine.proofs.Steps.{faced-tightest}
-use Rattle.exact.proofs.Exact.{direction-exact, facing-exact}
 use Rattle.engine.proofs.optimum.moved.Goals as goal
 
 pub upward-side-requires : goal.upward-side-requires
@@ -16,7 +15,7 @@ upward-side-requires c =
     record {
       objective = h.objective;
       tie = h.restarting.tie;
-      ray = subst SmallRay (sym (c.direction.ensures ∙ direction-exact c.requires.restarting.h-small))
+      ray = subst SmallRay (sym c.direction.ensures)
           (direction-small h.restarting.h-small);
     }
 
@@ -25,7 +24,7 @@ tightest-requires c =
     let h = c.requires.restarting in
     record {
       entries = h.entries;
-      line_small = subst SmallConstraint (sym (c.facing.ensures ∙ facing-exact c.requires.restarting.h-small c.upward-side.result))
+      line_small = subst SmallConstraint (sym c.facing.ensures)
           (facing-small c.upward-side.result h.h-small);
     }
 
@@ -33,8 +32,8 @@ pub returns-in-None : goal.returns-in-None
 returns-in-None c =
     let a = c.args in
     sym (ap found_point (sym (faced-tightest (gain_order a.order.now.objective a.order.now.tie) (entries a.entries.now 0 a.n) a.h
-    (c.direction.ensures ∙ direction-exact c.requires.restarting.h-small) c.upward-side.ensures
-    (c.facing.ensures ∙ facing-exact c.requires.restarting.h-small c.upward-side.result) c.tightest.ensures) ∙ c.in-None.is))
+    c.direction.ensures c.upward-side.ensures
+    c.facing.ensures c.tightest.ensures) ∙ c.in-None.is))
 
 pub returns-in-Some : goal.returns-in-Some
 returns-in-Some c =
@@ -42,7 +41,7 @@ returns-in-Some c =
     c.reduce.ensures
     ∙ sym (ap found_point (sym
     (faced-tightest (gain_order a.order.now.objective a.order.now.tie) (entries a.entries.now 0 a.n) a.h
-    (c.direction.ensures ∙ direction-exact c.requires.restarting.h-small)
+    c.direction.ensures
     c.upward-side.ensures
-    (c.facing.ensures ∙ facing-exact c.requires.restarting.h-small c.upward-side.result) c.tightest.ensures)
+    c.facing.ensures c.tightest.ensures)
     ∙ c.in-Some.is))

@@ -1,9 +1,7 @@
 -- `engine::seeking::halved` meets its contract: an edge of the ring.
-use mathlib.Core.Path.{◌∙◌}
 use Prim.Native.Nat.{◌+◌, ◌-◌, ◌/◌}
 use native.Mathlib.Omega.{arith}
 use Rattle.engine.proofs.Rows.{meet-small, read_small, ring-at, ring-small}
-use Rattle.exact.proofs.Exact.{meet-exact}
 use Rattle.engine.proofs.seeking.halved.Goals as goal
 
 pub edge-first-requires : goal.edge-first-requires
@@ -44,7 +42,7 @@ comes_before-requires c =
     record {
       v-small =
           meet-small c.requires.size_small (read_small first c.edge-first.ensures)
-          (c.meet-v.ensures ∙ meet-exact (record { first = c.requires.size_small; second = read_small first c.edge-first.ensures }));
+          c.meet-v.ensures;
       x-small =
           read_small
           (ring-small p.ring (c.args.arc.lo + (l.from + (l.to - l.from) / 2)) (omega arith) (omega (arith, l.invariant.0, l.invariant.1)))

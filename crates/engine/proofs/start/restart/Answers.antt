@@ -7,7 +7,6 @@ use Rattle.model.proofs.Bounds.{direction-small, facing-small}
 use Rattle.engine.specs.Entries.{entries}
 use Rattle.engine.proofs.Passes.{along-small}
 use Rattle.engine.proofs.Steps.{restarted}
-use Rattle.exact.proofs.Exact.{direction-exact, facing-exact}
 use Rattle.engine.proofs.start.restart.Goals as goal
 
 pub returns-then-is_level : goal.returns-then-is_level
@@ -17,7 +16,7 @@ pub tie_upward-side-requires : goal.tie_upward-side-requires
 tie_upward-side-requires c =
     record {
       tie = c.requires.tie;
-      ray = subst SmallRay (sym (c.direction.ensures ∙ direction-exact c.requires.h-small))
+      ray = subst SmallRay (sym c.direction.ensures)
           (direction-small c.requires.h-small);
     }
 
@@ -25,14 +24,14 @@ pub tightest-found-requires : goal.tightest-found-requires
 tightest-found-requires c =
     record {
       entries = c.requires.entries;
-      line_small = subst SmallConstraint (sym (c.facing.ensures ∙ facing-exact c.requires.h-small c.tie_upward-side.result))
+      line_small = subst SmallConstraint (sym c.facing.ensures)
           (facing-small c.tie_upward-side.result c.requires.h-small);
     }
 
 pub resettled-requires : goal.resettled-requires
 resettled-requires c =
     let h = c.requires in
-    let line = subst SmallConstraint (sym (c.facing.ensures ∙ facing-exact c.requires.h-small c.tie_upward-side.result))
+    let line = subst SmallConstraint (sym c.facing.ensures)
     (facing-small c.tie_upward-side.result h.h-small) in
     record {
       entries = h.entries;
@@ -45,5 +44,5 @@ returns c =
     let a = c.args in
     restarted a.tie (entries a.entries.now 0 a.n) a.n a.h
     (sym c.is_level.ensures ∙ c.if-is_level.false)
-    (c.direction.ensures ∙ direction-exact c.requires.h-small) c.tie_upward-side.ensures
-    (c.facing.ensures ∙ facing-exact c.requires.h-small c.tie_upward-side.result) c.tightest-found.ensures c.resettled.ensures
+    c.direction.ensures c.tie_upward-side.ensures
+    c.facing.ensures c.tightest-found.ensures c.resettled.ensures

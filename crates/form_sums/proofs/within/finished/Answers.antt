@@ -5,7 +5,7 @@ use Rattle.forms.proofs.Values.{less-is, written_is, final-yes, final_no}
 use Rattle.form_sums.proofs.within.finished.Goals as goal
 
 pub returns-then-bounded : goal.returns-then-bounded
-returns-then-bounded c =
+returns-then-bounded k c =
     let f = c.requires.left in
     let g = c.requires.right in
     final-yes
@@ -17,7 +17,7 @@ returns-then-bounded c =
     c.if-bounded.true
 
 pub returns-else-bounded : goal.returns-else-bounded
-returns-else-bounded c =
+returns-else-bounded k c =
     let f = c.requires.left in
     let g = c.requires.right in
     final_no

@@ -1,8 +1,6 @@
 -- `offering::offers::offered` meets its contract: no corner, a ray that gains, or the best corner.
-use mathlib.Core.Path.{◌∙◌}
 use native.Mathlib.Omega.{arith}
 use Rattle.offering.proofs.Planned.{offer-none, offer-unlimited, offer-best}
-use Rattle.exact.proofs.Exact.{gaining-exact}
 use Rattle.offering.proofs.offers.offered.Goals as goal
 
 pub returns-then-count-eq0 : goal.returns-then-count-eq0
@@ -13,13 +11,9 @@ returns-then-count-eq0 c =
 pub returns-in-Some : goal.returns-in-Some
 returns-in-Some c =
     offer-unlimited c.args.cone c.args.corners.now c.args.f c.args.count
-    (omega (arith, c.if-count-eq0.false))
-    (c.gaining.ensures ∙ gaining-exact _ _ (record { functional = c.requires.functional; rays = c.requires.rays }))
-    c.in-Some.is c.requires.first
+    (omega (arith, c.if-count-eq0.false)) c.gaining.ensures c.in-Some.is c.requires.first
 
 pub returns-in-None : goal.returns-in-None
 returns-in-None c =
     offer-best c.args.cone c.args.corners.now c.args.f c.args.count
-    (omega (arith, c.if-count-eq0.false))
-    (c.gaining.ensures ∙ gaining-exact _ _ (record { functional = c.requires.functional; rays = c.requires.rays }))
-    c.in-None.is c.best.ensures
+    (omega (arith, c.if-count-eq0.false)) c.gaining.ensures c.in-None.is c.best.ensures

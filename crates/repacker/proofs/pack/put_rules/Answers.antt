@@ -5,7 +5,6 @@ use Prim.Native.Nat.{◌+◌, ◌*◌, ◌≤◌}
 use mathlib.Core.Path.{◌≡◌, sym, ap, ◌∙◌}
 use lib.ListN.{length, take}
 use lib.Seq.{paste, paste-zero}
-use Rattle.std.proofs.lemmas.Slice.{put_mid-paste}
 use Rattle.records.specs.Layout.{v2}
 use Rattle.repacker.specs.Repacking.{chain_bytes, rules_at}
 use Rattle.repacker.proofs.Packed.{length-record_bytes, paste-next, rule-copied, length-chain_bytes, length-rules}
@@ -36,8 +35,7 @@ loop-k-preserved c =
     rule-copied L a.book.now.bytes a.indices.now bytes a.n l.k c.next_of.result
     c.loop-k-test.true all
     c.next_of.ensures c.rule_bytes-bytes.ensures in
-    put_mid-paste (14 * (l.k + 1)) _ l.out c.copy_from_slice.new.self bytes 14 c.copy_from_slice.ensures.after (omega arith)
-    (sym (ap length c.rule_bytes-bytes.ensures ∙ length-record_bytes v2 _ _ _ _ _ _))
+    c.store.ensures
     ∙ (λ j. paste (l.invariant j) (here j) bytes 14)
     ∙ paste-next a.out.now T bytes 14 (14 * l.k) 14 (omega arith) long copied
     ∙ ap (paste a.out.now 14 T) next

@@ -3,15 +3,12 @@ use mathlib.Core.Path.{◌∙◌}
 use lib.IntN.{pos}
 use Rattle.slip.proofs.Sizes.{unread}
 use Rattle.slips.specs.Weights.{weights_with}
-use Rattle.exact.proofs.Exact.{dot-exact}
 use Rattle.slips.proofs.weights.one_entry.Goals as goal
 
 pub returns : goal.returns
 returns c =
     let s = c.args.s in
-    let scale = unread c.dot.type_inv ∙
-    (c.dot.ensures ∙ dot-exact (record { first = c.requires.entry; second = c.requires.entry })) in
-    let weight = unread c.dot-2.type_inv ∙
-    (c.dot-2.ensures ∙ dot-exact (record { first = c.requires.objective; second = c.requires.entry })) in
+    let scale = unread c.dot.type_inv ∙ c.dot.ensures in
+    let weight = unread c.dot-2.type_inv ∙ c.dot-2.ensures in
     let code = unread {z = s.code} c.struct_told-1.given.0.1 in
     λ i. weights_with (scale i) (pos 1) (code i) (weight i) (pos 0) (pos 0) (pos 0) (pos 0)

@@ -2,7 +2,6 @@
 use mathlib.Core.Path.{◌∙◌}
 use Rattle.slips.proofs.Sizes.{lt_z-read}
 use Rattle.slips.proofs.Chosen.{chosen-level, chosen-two, chosen_none}
-use Rattle.exact.proofs.Exact.{det-exact, dot-exact}
 use Rattle.slips.proofs.weights.optimum_weights.Goals as goal
 
 pub one_entry-requires : goal.one_entry-requires
@@ -14,9 +13,7 @@ one_entry-requires c = record {
 pub returns-then-dot-gt0 : goal.returns-then-dot-gt0
 returns-then-dot-gt0 c =
     let a = c.args in
-    c.one_entry.ensures ∙ chosen-level a.f a.h (lt_z-read c.dot.type_inv
-    (c.dot.ensures ∙ dot-exact (record { first = c.requires.objective; second = c.requires.held.level }))
-    c.if-dot-gt0.true)
+    c.one_entry.ensures ∙ chosen-level a.f a.h (lt_z-read c.dot.type_inv c.dot.ensures c.if-dot-gt0.true)
 
 pub two_entries-requires : goal.two_entries-requires
 two_entries-requires c =
@@ -30,20 +27,12 @@ pub returns-then-det-gt0 : goal.returns-then-det-gt0
 returns-then-det-gt0 c =
     let a = c.args in
     c.two_entries.ensures
-    ∙ chosen-two a.f a.h (lt_z-read c.dot.type_inv
-    (c.dot.ensures ∙ dot-exact (record { first = c.requires.objective; second = c.requires.held.level }))
-    c.if-dot-gt0.false)
-    (lt_z-read c.det.type_inv
-    (c.det.ensures ∙ det-exact (record { first = c.requires.held.right; second = c.requires.held.left }))
-    c.if-det-gt0.true)
+    ∙ chosen-two a.f a.h (lt_z-read c.dot.type_inv c.dot.ensures c.if-dot-gt0.false)
+    (lt_z-read c.det.type_inv c.det.ensures c.if-det-gt0.true)
 
 pub returns : goal.returns
 returns c =
     let a = c.args in
     c.nothing.ensures
-    ∙ chosen_none a.f a.h (lt_z-read c.dot.type_inv
-    (c.dot.ensures ∙ dot-exact (record { first = c.requires.objective; second = c.requires.held.level }))
-    c.if-dot-gt0.false)
-    (lt_z-read c.det.type_inv
-    (c.det.ensures ∙ det-exact (record { first = c.requires.held.right; second = c.requires.held.left }))
-    c.if-det-gt0.false)
+    ∙ chosen_none a.f a.h (lt_z-read c.dot.type_inv c.dot.ensures c.if-dot-gt0.false)
+    (lt_z-read c.det.type_inv c.det.ensures c.if-det-gt0.false)

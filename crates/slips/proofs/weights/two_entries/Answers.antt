@@ -6,18 +6,14 @@ use lib.Signed.{lt_z}
 use Rattle.slip.proofs.Sizes.{unread}
 use Rattle.slips.specs.Weights.{weights_with}
 use Rattle.slips.proofs.Chosen.{two-rising, two-falling}
-use Rattle.exact.proofs.Exact.{det-exact}
 use Rattle.slips.proofs.weights.two_entries.Goals as goal
 
 pub returns-then-r-l : goal.returns-then-r-l
 returns-then-r-l c =
     let a = c.args in
-    let scale = unread c.det-scale.type_inv ∙
-    (c.det-scale.ensures ∙ det-exact (record { first = c.requires.right; second = c.requires.left })) in
-    let right = unread c.det-of_right.type_inv ∙
-    (c.det-of_right.ensures ∙ det-exact (record { first = c.requires.objective; second = c.requires.left })) in
-    let left = unread c.det-of_left.type_inv ∙
-    (c.det-of_left.ensures ∙ det-exact (record { first = c.requires.right; second = c.requires.objective })) in
+    let scale = unread c.det-scale.type_inv ∙ c.det-scale.ensures in
+    let right = unread c.det-of_right.type_inv ∙ c.det-of_right.ensures in
+    let left = unread c.det-of_left.type_inv ∙ c.det-of_left.ensures in
     let r = unread {z = a.r.code} c.struct_told-1.given.0.1 in
     let l = unread {z = a.l.code} c.struct_told-2-1.given.0.1 in
     let before : lt_z a.r.code a.l.code ≡ true = sym (λ i. lt_z (r i) (l i)) ∙ c.if-r-l.true in
@@ -27,12 +23,9 @@ returns-then-r-l c =
 pub returns-else-r-l : goal.returns-else-r-l
 returns-else-r-l c =
     let a = c.args in
-    let scale = unread c.det-scale.type_inv ∙
-    (c.det-scale.ensures ∙ det-exact (record { first = c.requires.right; second = c.requires.left })) in
-    let right = unread c.det-of_right.type_inv ∙
-    (c.det-of_right.ensures ∙ det-exact (record { first = c.requires.objective; second = c.requires.left })) in
-    let left = unread c.det-of_left.type_inv ∙
-    (c.det-of_left.ensures ∙ det-exact (record { first = c.requires.right; second = c.requires.objective })) in
+    let scale = unread c.det-scale.type_inv ∙ c.det-scale.ensures in
+    let right = unread c.det-of_right.type_inv ∙ c.det-of_right.ensures in
+    let left = unread c.det-of_left.type_inv ∙ c.det-of_left.ensures in
     let r = unread {z = a.r.code} c.struct_told-1.given.0.1 in
     let l = unread {z = a.l.code} c.struct_told-2-1.given.0.1 in
     let after : lt_z a.r.code a.l.code ≡ false = sym (λ i. lt_z (r i) (l i)) ∙ c.if-r-l.false in
