@@ -21,6 +21,7 @@ pub fn rule_at(book: &Book, index: u16) -> Rule
 
 // What the record at an index comes to. A record that is not there goes a way of its own, which the compiler leaves out of line: reading
 // a book goes through here once a rule.
+#[inline(always)]
 pub fn inspect(book: &Book, index: u16) -> Result<Sound, Cause>
     ensures { result ≡ decoded_of book.now.layout (record_at book.now.layout book.now.bytes index) }
 {

@@ -16,6 +16,7 @@ use tables::{note, noted};
 // A link of the chain judged, which record `at` holds, by the labels met on the n records passed before it. A record that was passed was
 // sound then, and its label is noted, so a link back to it is found by its label. The label of a sound rule is noted; else the table stays
 // as it is. A link of 0 ends the chain and is not for judging: it would be taken for one to the header.
+#[inline(always)]
 pub fn judge(
     book: &Book,
     labels: &mut [u64],

@@ -33,6 +33,7 @@ pub fn moved<'a>(r: Reader<'a>, at: u16) -> Reader<'a>
 }
 
 // What the record holds that a reader stands at.
+#[inline(always)]
 pub fn current<'a>(r: Reader<'a>) -> Result<Sound, Cause>
     ensures { result ≡ decoded_of r.entry.book.now.layout (record_at r.entry.book.now.layout r.entry.book.now.bytes r.entry.at) }
 {
@@ -40,6 +41,7 @@ pub fn current<'a>(r: Reader<'a>) -> Result<Sound, Cause>
 }
 
 // The record at an index, through a reader: for callers that hold none.
+#[inline(always)]
 pub fn visit(book: &Book, at: u16) -> Result<Sound, Cause>
     ensures { result ≡ decoded_of book.now.layout (record_at book.now.layout book.now.bytes at) }
 {

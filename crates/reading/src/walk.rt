@@ -10,7 +10,9 @@ use records::{Book, Heading};
 use rules::constraint;
 
 // The chain from the header's link on. A record that is turned back stops the walk there. Each turn goes to where the last rule's link
-// leads, so that this loop counts nothing and no `for` could go over it.
+// leads, so that this loop counts nothing and no `for` could go over it. It stands in `read`'s body once for each version, and so does
+// what judges a link, down to `decoding::inspect`: out of line they would look at the version anew for each record.
+#[inline(always)]
 pub fn walk(
     book: &Book,
     heading: Heading,
