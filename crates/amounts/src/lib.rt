@@ -28,7 +28,7 @@ pub fn amount(r: Constraint, v: Point) -> Amount
     ensures { result ≡ amount_of r v }
 {
     if range::rule_in_range(r) & point_in_range(v) {
-        fraction::lowest(exact::slack(Seen { r, v }), v.d)
+        fraction::lowest(exact::within::slack(Seen { r, v }), v.d)
     } else {
         Amount {
             numerator: 0,

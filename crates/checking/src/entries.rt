@@ -6,7 +6,8 @@ ghost use Rattle.lp.specs.Outcome.{every, keeps as keeps_of};
 ghost use Rattle.slip.specs.Facts.{rule_in};
 ghost use Rattle.slip.specs.Runs.{entry as entry_of, entries as entries_of, indices, Room, Finding, Checking, Rising};
 
-use exact::{keeps, lines, stays};
+use exact::lines;
+use exact::within::{keeps, stays};
 use lp::{Constraint, Point, Ray};
 
 fn entry(run: &[i64], k: usize) -> Constraint

@@ -13,7 +13,7 @@ use crate::named::{floor_x, floor_y, looked_up, sound, total};
 use crate::sums::{pair_in_range, ray_in_range, same, scaled};
 use answers::{Cause, Refusal};
 use exact::lines::{Gaining, Seen};
-use exact::{gains, keeps, tight};
+use exact::within::{gains, keeps, tight};
 use lp::{Constraint, Floors, Functional, Outcome, Point, Ray, Terms};
 use slip::named::Slots;
 use slip::{Slip, Verdict, Weights, within};

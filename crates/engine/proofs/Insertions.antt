@@ -21,6 +21,8 @@ use Rattle.boundary.proofs.Faced.{stays_at, cut_encloses}
 use Rattle.boundary.specs.declared.Arc.{Arc}
 use Rattle.engine.specs.declared.insert.Held.{Held}
 use Rattle.engine.specs.declared.insert.Held.TheVariants as state
+use Rattle.exact.specs.Wrapped.{wrapped_point}
+use Rattle.exact.proofs.Exact.{meet-exact}
 use Rattle.engine.specs.Row.{named, edge, edges, Named, following, is_between, front_row, ring_of, row_by}
 use Rattle.engine.specs.Rings.{When, Pair, Faces, Turns, Halving, Sought, Putting, Put, Cut, Standing, Inserting, Inserted}
 use Rattle.engine.proofs.Rows.{meet-small, ring-pair}
@@ -95,6 +97,10 @@ module _ {e : List ℤ} {run : List ℕ} {D : Constraint} {i : ℕ} {h : Constra
 
   pub stood : Standing e run a
   stood = given (Standing e run) held s.standing
+
+  -- where its line meets that of the size, worked out with what 64 bits leave: each law below says the same of such a point
+  pub met : {w : Point} → w ≡ wrapped_point (meet h D) → w ≡ meet h D
+  met em = em ∙ meet-exact (record { first = s.h-small; second = s.size_small })
 
   pub insert-seeking : {w : Point} → w ≡ meet h D → Halving e run D w a.lo a.n
   insert-seeking em =

@@ -25,7 +25,9 @@ use Rattle.lp.specs.Range.{SmallConstraint, SmallSystem}
 use Rattle.model.proofs.Bounds.{tighter-small, tightest-small, first_broken-small}
 use Rattle.engine.specs.Entries.{entry, entries}
 use Rattle.engine.specs.Held.{far, farthest, tightened, found_of}
+use Rattle.amounts.proofs.Sizes.{kept-distance}
 use Rattle.amounts.proofs.Tests.{is_true}
+use Rattle.amounts.specs.Sizes.{Distance}
 use Rattle.engine.specs.Sizes.{Entries, Room, SmallTriple, Along, Checking, Tightening}
 
 pub found-parts :
@@ -83,6 +85,15 @@ far-breaks m l e =
         not-below : n < 0 → ⊥
         not-below k = omega arith
     below {z = negsuc n} h = refl
+
+-- an entry that is not met along the line leaves what is held, whether the point keeps it or not
+pub not-met : (l : Constraint) (i : ℕ) (m : Constraint) (t : Met) → lt_z (pos 0) (det m l) ≡ false → tightened l i m t ≡ t
+not-met l i m t e = go (keeps m t.point)
+  where
+    go : (b : Bool) →
+        elim b [ true ↦ t | false ↦ elim (lt_z (pos 0) (det m l)) [ true ↦ met i m (meet m l) | false ↦ t ] ] ≡ t
+    go true = refl
+    go false = rw e
 
 -- what is held is what the model found, or the point at infinity where it found nothing
 abbrev pub Holds : Constraint → Met → Option Met → Type 0
@@ -191,6 +202,9 @@ pub unbroken_start : (l : List ℤ) (n : ℕ) (v : Point) → Unbroken l n v 0
 unbroken_start l n v = record { inside = omega arith; rest = rw sub-zero refl }
 
 module _ {l : List ℤ} {n : ℕ} {v : Point} (h : Checking l n v) {i : ℕ} (t : Unbroken l n v i) where
+  pub checking : {m : Constraint} → i < n → m ≡ entry l i → Distance m.a v.x m.b v.y m.c v.d
+  checking b e = kept-distance (subst SmallConstraint (sym e) (h.entries.small i b)) h.point
+
   at_entry :
       i < n →
       {s : Bool} →

@@ -17,12 +17,28 @@ use Rattle.lp.specs.Program.{constraint}
 use Rattle.lp.specs.Outcome.{meet}
 use Rattle.lp.specs.Range.{SmallConstraint, SmallFloors}
 use Rattle.boundary.specs.Size.{size, horizon}
+use Rattle.amounts.specs.Sizes.{Distance}
 use Rattle.engine.specs.Sizes.{Room, Entries, SmallTriple}
 use Rattle.engine.specs.Row.{named, edge}
 use Rattle.engine.specs.Rings.{At, Pair, Place, Ring}
 use Rattle.amounts.proofs.Sizes.{within-unread}
 
--- ---- a corner, an edge and the size
+-- ---- a constraint at a point, or at one at infinity
+
+pub at-point :
+    {r : Constraint} {v : Point} →
+    SmallConstraint r →
+    SmallTriple v →
+    Distance r.a v.x r.b v.y r.c v.d
+at-point h k =
+    record {
+      a_small = h.a_small;
+      x-small = k.x-small;
+      b-small = h.b-small;
+      y-small = k.y-small;
+      c-small = h.c-small;
+      d_small = k.d_small;
+    }
 
 -- the corner of two constraints within document 01's bounds is within its own
 pub meet-small : {p q : Constraint} → SmallConstraint p → SmallConstraint q → {v : Point} → v ≡ meet p q → SmallTriple v

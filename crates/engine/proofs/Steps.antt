@@ -1,12 +1,14 @@
 -- The parts of a step, as the code goes through them: each law takes what the calls on one way returned, and says that the whole is the
 -- model's.
-use Rattle.std.specs.Prelude.{Option, None, Result, Ok, Err}
+use Rattle.std.specs.Prelude.{Option, None, Some, Result, Ok, Err}
 use mathlib.Core.Path.{◌≡◌, refl, sym, ◌∙◌, ap, ap₂, subst}
 use mathlib.Core.List.{List, [], ◌∷◌}
 use mathlib.Core.Bool.{Bool, true, false, not, ◌&&◌}
-use Prim.Native.Nat.{ℕ, ◌+◌, ◌-◌}
+use Prim.Native.Nat.{ℕ, ◌+◌, ◌-◌, ◌^◌, ◌<◌}
 use lib.IntN.{ℤ, pos}
-use lib.Signed.{lt_z}
+use lib.Signed.{lt_z, mag}
+use Rattle.ints.proofs.Bits.{read}
+use Rattle.fraction.proofs.Quotients.{unread}
 use Rattle.lp.specs.declared.Constraint.{Constraint}
 use Rattle.lp.specs.declared.Functional.{Functional}
 use Rattle.lp.specs.declared.Tie.{Tie}
@@ -48,6 +50,26 @@ above-last f d = go (lt_z (pos 0) (along f d)) (lt_z (along f d) (pos 0))
     go false false = refl
 
 -- ---- the parts of what is within the bounds
+
+pub best-point : {b : Option Point} → SmallBest b → {v : Point} → b ≡ Some v → SmallPoint v
+best-point s e = subst SmallBest e s
+
+-- a point whose numbers were read one by one
+pub same_point :
+    (v : Point) →
+    mag v.x < 2 ^ 63 →
+    mag v.y < 2 ^ 63 →
+    mag v.d < 2 ^ 63 →
+    record { x = read v.x; y = read v.y; d = read v.d } ≡ v
+same_point v hx hy hd i = record { x = unread {z = v.x} hx i; y = unread {z = v.y} hy i; d = unread {z = v.d} hd i }
+
+-- whether the best pair keeps a constraint, from whether it breaks it
+kept_of : (k : Bool) (t : Bool) → t ≡ elim k [ true ↦ false | false ↦ true ] → k ≡ not t
+kept_of true t e = ap not (sym e)
+kept_of false t e = ap not (sym e)
+
+pub asked-keeps : (h : Constraint) {b : Option Point} {t : Bool} → t ≡ breaks h b → {v : Point} → b ≡ Some v → keeps h v ≡ not t
+asked-keeps h {b} {t} a {v} e = kept_of (keeps h v) t (a ∙ ap (breaks h) e)
 
 pub state_parts :
     {w : State} →

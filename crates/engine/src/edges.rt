@@ -8,7 +8,7 @@ ghost use Rattle.engine.specs.Rings.{At, Pair, Place};
 
 use crate::entries::entry;
 use exact::lines::{Corner, Seen};
-use exact::{keeps, keeps_at, reaches};
+use exact::within::{keeps, keeps_at, reaches};
 use lp::{Constraint, Point};
 
 // The edge at place k of the ring's run.

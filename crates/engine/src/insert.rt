@@ -9,7 +9,7 @@ use crate::seeking::seek;
 use crate::turning::turn_to;
 use boundary::Arc;
 use exact::lines::Crossing;
-use exact::meet;
+use exact::within::meet;
 use lp::Constraint;
 
 // What is held of the ring once a constraint has entered: nothing any more; the ring as it stood; or the ring with the constraint as its

@@ -8,9 +8,9 @@ ghost use Rattle.engine.specs.Sizes.{Moving, Improving, Breaking};
 
 use crate::order::{Order, upward};
 use crate::scan::tightest;
-use exact::cone::{Climbing, gaining};
+use exact::cone::Climbing;
 use exact::lines::{Line, Seen};
-use exact::{direction, facing, keeps};
+use exact::within::{direction, facing, gaining, keeps};
 use fraction::reduce;
 use lp::{Constraint, Point, Ray};
 

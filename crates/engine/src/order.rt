@@ -4,7 +4,7 @@ ghost use Rattle.lp.specs.Outcome.{above, tie_order, gain_order};
 ghost use Rattle.engine.specs.Sizes.{TieAlong, OrderAlong};
 
 use exact::lines::Gaining;
-use exact::{gains, loses};
+use exact::within::{gains, loses};
 use lp::{Functional, Ray, Tie};
 
 // The functionals that are compared: the objective, then the tie's.

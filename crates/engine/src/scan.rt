@@ -9,7 +9,7 @@ ghost use Rattle.engine.specs.Sizes.{Tightening, Along, Checking};
 
 use crate::entries::entry;
 use exact::lines::{Crossing, Line, Seen};
-use exact::{det, direction, keeps, meet};
+use exact::within::{det, direction, keeps, meet};
 use lp::{Constraint, Point};
 use model::Met;
 

@@ -7,7 +7,7 @@ ghost use Rattle.engine.specs.Rings.{Ordering, Seeking, Halving, Sought, When};
 use crate::edges::{edge, is_between};
 use boundary::Arc;
 use exact::lines::{Crossing, Seen};
-use exact::{keeps, meet};
+use exact::within::{keeps, meet};
 use lp::{Constraint, Point};
 
 // Whether x comes before the constraint, or with it, on the way round from the ring's first edge; v is where that meets the size, and early

@@ -11,7 +11,7 @@ ghost use Rattle.engine.specs.Start.{kept_or_restarted};
 use crate::order::tie_upward;
 use crate::scan::{first_broken, tightest};
 use exact::lines::{Crossing, Line};
-use exact::{det, direction, facing};
+use exact::within::{det, direction, facing};
 use fraction::reduce;
 use lp::{Certificate, Constraint, Point, Tie};
 use model::Met;

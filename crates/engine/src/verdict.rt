@@ -6,7 +6,8 @@ ghost use Rattle.engine.specs.Solving.{solution_of};
 ghost use Rattle.engine.specs.Sizes.{Gaining, Answering};
 
 use crate::Solution;
-use exact::cone::{Climbing, gaining};
+use exact::cone::Climbing;
+use exact::within::gaining;
 use fraction::reduce_ray;
 use lp::{Certificate, Functional, Outcome, Point, Ray};
 use model::{State, Walk};

@@ -19,9 +19,9 @@ use crate::order::Order;
 use crate::start::start;
 use crate::verdict::solution;
 use amounts::range::rule_in_range;
-use exact::cone::{Climbing, Narrowing, gaining, narrow};
-use exact::keeps;
+use exact::cone::{Climbing, Narrowing};
 use exact::lines::Seen;
+use exact::within::{gaining, keeps, narrow};
 use lp::{Constraint, Floors, Functional, Point, Ray, Tie};
 use model::{State, Walk};
 

@@ -1,17 +1,13 @@
 -- Every value that an exact computation makes on its way fits 64 bits, and what one function asks follows from what its caller has.
-use mathlib.Core.Path.{◌≡◌}
-use mathlib.Core.Bool.{Bool, true, false}
-use lib.IntN.{ℤ, pos, ◌+ℤ◌, ◌-ℤ◌, ◌*ℤ◌}
-use lib.Signed.{lt_z, le_z}
+use lib.IntN.{ℤ, ◌+ℤ◌, ◌-ℤ◌, ◌*ℤ◌}
 use mir.Syntax.{w64}
 use mir.Val.{SFits}
-use Rattle.ints.specs.Within.{Within}
 use Rattle.ints.proofs.Machine.{within-fits, within-add, within-sub, within-mul, weaken}
 use Rattle.lp.specs.declared.Constraint.{Constraint}
 use Rattle.lp.specs.declared.Functional.{Functional}
 use Rattle.lp.specs.declared.Point.{Point}
 use Rattle.lp.specs.declared.Ray.{Ray}
-use Rattle.lp.specs.Range.{SmallConstraint, SmallFunctional}
+use Rattle.lp.specs.Range.{SmallConstraint}
 use Rattle.lp.specs.Outcome.{meet}
 use Rattle.exact.specs.Sizes.{SmallPoint, Factors, Distance, Lines, Meeting, Risen, Gained, Earned}
 

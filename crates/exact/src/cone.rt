@@ -1,9 +1,9 @@
-// The rays along which no constraint is left: all between two, or none. A new constraint takes away one side of them.
+// The rays along which no constraint is left: all between two, or none. A new constraint takes away one side of them. Here the numbers are
+// any, and wrap; the two types are of numbers within document 01's bounds, of which `within` has the same functions.
 ghost use Rattle.std.specs.Prelude.{◌≡◌};
-ghost use Rattle.exact.specs.Cone.{narrow as narrow_of, gaining as gaining_of};
+ghost use Rattle.exact.specs.Wrapped.{wrapped_narrow, wrapped_gaining};
 ghost use Rattle.exact.specs.Sizes.{Narrowing, Gaining};
 
-use crate::lines::{Gaining, Line, Rising};
 use crate::{backward, direction, gains, stays};
 use lp::{Constraint, Functional, Ray};
 
@@ -24,33 +24,31 @@ pub struct Climbing {
 }
 
 // What a constraint leaves of the rays of a cone.
-pub fn narrow(x: Narrowing) -> Option<(Ray, Ray)>
-    ensures { result ≡ narrow_of x.h x.cone }
+pub fn narrow(h: Constraint, cone: Option<(Ray, Ray)>) -> Option<(Ray, Ray)>
+    ensures { result ≡ wrapped_narrow h cone }
 {
-    let Narrowing { h, cone } = x;
     let (lo, hi) = cone?;
-    if stays(Rising { r: h, d: lo }) {
-        if stays(Rising { r: h, d: hi }) {
+    if stays(h, lo) {
+        if stays(h, hi) {
             Some((lo, hi))
         } else {
-            Some((lo, direction(Line { h })))
+            Some((lo, direction(h)))
         }
-    } else if stays(Rising { r: h, d: hi }) {
-        Some((backward(Line { h }), hi))
+    } else if stays(h, hi) {
+        Some((backward(h), hi))
     } else {
         None
     }
 }
 
 // A ray of the cone along which the objective gains: the flatter of the two if it does.
-pub fn gaining(x: Climbing) -> Option<Ray>
-    ensures { result ≡ gaining_of x.f x.cone }
+pub fn gaining(f: Functional, cone: Option<(Ray, Ray)>) -> Option<Ray>
+    ensures { result ≡ wrapped_gaining f cone }
 {
-    let Climbing { f, cone } = x;
     let (lo, hi) = cone?;
-    if gains(Gaining { f, d: lo }) {
+    if gains(f, lo) {
         Some(lo)
-    } else if gains(Gaining { f, d: hi }) {
+    } else if gains(f, hi) {
         Some(hi)
     } else {
         None

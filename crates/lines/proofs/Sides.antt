@@ -8,7 +8,7 @@ use Rattle.lp.specs.Program.{slack}
 use Rattle.lp.specs.Outcome.{meet}
 use Rattle.lp.specs.Range.{SmallConstraint}
 use Rattle.amounts.specs.Tests.{rule_in_range}
-use Rattle.exact.specs.Sizes.{Distance}
+use Rattle.exact.specs.Sizes.{Distance, Lines}
 use Rattle.exact.proofs.Sizes.{at_corner}
 use Rattle.amounts.proofs.Tests.{both, rule-small, rule-passes}
 use Rattle.lines.specs.Sides.{side_of, Three}
@@ -32,6 +32,9 @@ module _ (m p q : Constraint) {r s t : Bool} (er : r ≡ rule_in_range m) (es : 
 
   pub side-out : (r && s && t) ≡ false → pos 0 ≡ side_of m p q
   side-out e = ap (λ b. cond b (slack m (meet p q)) (pos 0)) (tested e)
+
+pub lines_of : {m p q : Constraint} → Three m p q → Lines p q
+lines_of h = record { first = h.p-small; second = h.q-small }
 
 -- the corner of two of them, at a third
 pub distance_of :

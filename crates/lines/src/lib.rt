@@ -8,7 +8,7 @@ ghost use Rattle.lines.specs.Sides.{side_of};
 
 use amounts::range::rule_in_range;
 use exact::lines::{Crossing, Seen};
-use exact::{meet, slack};
+use exact::within::{meet, slack};
 use lp::Constraint;
 
 // Above 0 where the corner of p and q lies on the allowed side of m; with the size for m, where q's normal is left of p's.

@@ -10,7 +10,8 @@ use crate::Unanswered;
 use crate::picks::best;
 use crate::rays::rays;
 use cells::put_answer;
-use exact::cone::{Climbing, gaining};
+use exact::cone::Climbing;
+use exact::within::gaining;
 use lp::{Functional, Point, Ray};
 use objectives::objective;
 

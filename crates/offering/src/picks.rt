@@ -10,8 +10,8 @@ ghost use Rattle.offering.specs.Listed.{point_at, points_from, chosen_of, first_
 ghost use Rattle.offering.specs.Asked.{Tying, Weighing, Picking};
 
 use compare::less;
-use exact::earns;
 use exact::lines::Earning;
+use exact::within::earns;
 use lp::{Functional, Point};
 
 // The corner at a place of the list.

@@ -5,7 +5,8 @@ ghost use Rattle.engine.specs.Sizes.{Room};
 ghost use Rattle.batch_theory.specs.Rays.{rays_of};
 ghost use Rattle.offering.specs.Asked.{Ruled};
 
-use exact::cone::{Narrowing, narrow};
+use exact::cone::Narrowing;
+use exact::within::narrow;
 use lp::{Constraint, Ray};
 
 // The rule at an index.

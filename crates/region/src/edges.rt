@@ -6,8 +6,8 @@ ghost use Rattle.boundary.specs.Ring.{keeps_at, at_place};
 ghost use Rattle.region.specs.Row.{edge as edge_of};
 ghost use Rattle.region.specs.Asked.{At, Pair, Place};
 
-use exact::keeps_at;
 use exact::lines::Corner;
+use exact::within::keeps_at;
 use lp::Constraint;
 
 pub fn entry(run: &[i64], k: usize) -> Constraint

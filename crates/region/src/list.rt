@@ -6,7 +6,7 @@ ghost use Rattle.region.specs.Asked.{PointRoom, Noting, Noted, Listing, CornersP
 use crate::edges::edge;
 use boundary::Arc;
 use exact::lines::Crossing;
-use exact::meet;
+use exact::within::meet;
 use fraction::reduce;
 use lp::{Constraint, Point};
 

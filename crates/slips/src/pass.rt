@@ -6,7 +6,7 @@ ghost use Rattle.slips.specs.Pass.{normal_of, nothing_held, placed_of, turned_of
 ghost use Rattle.slips.specs.Runs.{side_at, entries, indices, Room, Placing, Turning, Flooring, Passing};
 
 use exact::lines::{Crossing, Seen};
-use exact::{det, dot, tight};
+use exact::within::{det, dot, tight};
 use lp::{Constraint, Floors, Functional, Point};
 
 // An entry, by its code and its rule.

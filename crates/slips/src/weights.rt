@@ -5,7 +5,7 @@ ghost use Rattle.slips.specs.Weights.{SmallCodes, Enclosing, Along, Weighing};
 
 use crate::pass::{Held, Side};
 use exact::lines::Crossing;
-use exact::{det, dot};
+use exact::within::{det, dot};
 use lp::{Certificate, Constraint};
 use slip::Weights;
 use witness::is_zero;

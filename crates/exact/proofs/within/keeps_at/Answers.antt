@@ -1,9 +1,9 @@
--- `exact::keeps_at` meets its contract: the corner of two lines is within the bounds of a point that is seen.
+-- `exact::within::keeps_at` meets its contract: the corner of two lines is within the bounds of a point that is seen.
 use mathlib.Core.Path.{sym, subst}
 use Rattle.lp.specs.declared.Point.{Point}
 use Rattle.exact.specs.Sizes.{Distance}
 use Rattle.exact.proofs.Sizes.{at_corner}
-use Rattle.exact.proofs.keeps_at.Goals as goal
+use Rattle.exact.proofs.within.keeps_at.Goals as goal
 
 pub invariant_of-keeps : goal.invariant_of-keeps
 invariant_of-keeps c =

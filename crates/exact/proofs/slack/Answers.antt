@@ -1,0 +1,7 @@
+-- `exact::slack` meets its contract.
+use Rattle.std.proofs.Common.{rules}
+use Rattle.std.proofs.lemmas.Int.{wraps}
+use Rattle.exact.proofs.slack.Goals as goal
+
+pub returns : goal.returns
+returns c = search (wraps, rules)
