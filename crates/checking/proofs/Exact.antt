@@ -1,5 +1,5 @@
--- What crate exact asks of its numbers follows from document 02's ranges: of a pair, of a direction, and of a rule of the chain. So what its
--- functions that wrap hand back is exact here too.
+-- What crate exact asks of its numbers follows from document 02's ranges: of a pair, of a direction, and of a rule of the chain. So what
+-- its functions that wrap hand back is exact here too.
 use mathlib.Core.Path.{◌≡◌}
 use lib.IntN.{pos}
 use lib.Signed.{le_z, lt_z}

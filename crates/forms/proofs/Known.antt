@@ -1,5 +1,5 @@
--- The flaws of texts: a text's, a product's or a size's. The operations on values make no other flaw, and hand on what they are given; so of
--- values that have none but these they hand back none but these.
+-- The flaws of texts: a text's, a product's or a size's. The operations on values make no other flaw, and hand on what they are given; so
+-- of values that have none but these they hand back none but these.
 use mathlib.Core.Bool.{Bool, true, false}
 use Prim.Native.Nat.{ℕ}
 use Rattle.std.specs.Prelude.{cond, leb, pos, Result, Ok, Err}
